@@ -7,7 +7,7 @@ use Rattle.bindtable.specs.declared.index.Entry.{Entry}
 use Rattle.bindtable.specs.Masks.{needs_of}
 use Rattle.bindtable.specs.Sound.{AreRising}
 
--- the bind of a number
+-- the bind with a number
 abbrev pub bind_of : ℕ → List Bind → Option Bind
 bind_of number binds = find (λ b. b.number == number) binds
 
@@ -16,7 +16,7 @@ abbrev pub behind : List Bind → List Entry → List Bind
 behind binds [] = []
 behind binds (e ∷ entries) = cons_option (bind_of e.number binds) (behind binds entries)
 
--- what an entry tells of its bind is so
+-- what an entry says of its bind is true
 abbrev pub Tells : Pairs → Option Bind → Type 0
 Tells needs (Some b) = needs ≡ needs_of b
 Tells needs None = Unit {0}

@@ -12,8 +12,8 @@ use Rattle.bindtable.specs.declared.bind.Bind.{Bind}
 use Rattle.bindtable.specs.declared.event.Event.{Event}
 use Rattle.bindtable.specs.Kinds.{is_kind, is_single, is_cron, has_flags}
 
--- an event: its kind, what keywords and wildcards are matched against, the minute that cron fields are, and the person's
--- three sets of flags
+-- an event: its kind, what keywords and wildcards are matched against, the minute that cron fields match, and the
+-- person's three sets of flags
 pub record Occurrence : Type 0 where
   pub kind : BindKind
   pub subject : List ℕ
@@ -22,7 +22,7 @@ pub record Occurrence : Type 0 where
   pub channel : ℕ
   pub bot : ℕ
 
--- what an `Event` tells
+-- an `Event`, as binds see it
 abbrev pub seen : Event → Occurrence
 seen event =
     record {
@@ -34,18 +34,18 @@ seen event =
       bot = event.bot;
     }
 
--- whether cron fields match the minute of an event, where it has one
+-- whether cron fields match the minute of an event, if it has one
 abbrev pub takes_minute : List ℕ → Option CivilMinute → Bool
 takes_minute mask None = false
 takes_minute mask (Some at) = mask_matches mask at
 
--- the same of fields that were read
+-- the same of parsed fields
 abbrev pub is_minute_in : Sets → Option CivilMinute → Bool
 is_minute_in sets None = false
 is_minute_in sets (Some at) = sets_match sets at
 
--- whether a bind's mask matches an event: that of a single kind is a keyword, that of cron has fields for the minute, and
--- any other has wildcards
+-- whether a bind's mask matches an event: a bind of a single kind has a keyword, a cron bind has fields for the
+-- minute, and any other bind has wildcards
 abbrev pub takes_event : Bind → Occurrence → Bool
 takes_event b event =
     if is_single b.kind then is_same b.mask event.subject
@@ -74,8 +74,8 @@ IsTaken true cron b event = IsSame b.mask event.subject
 IsTaken false true b event = takes_minute b.mask event.minute ≡ true
 IsTaken false false b event = IsMatch (bind_mask b.mask) event.subject
 
--- an event calls a bind where it is of the bind's kind, the bind's mask matches it, and the person meets the bind's
--- flag expression, unless flags don't count
+-- an event calls a bind if it has the bind's kind, the bind's mask matches it, and the person meets the bind's flag
+-- expression, unless flags don't matter
 pub record Calls (event : Occurrence) (b : Bind) : Type 0 where
   pub kind : event.kind ≡ b.kind
   pub mask : IsTaken (is_single b.kind) (is_cron b.kind) b event

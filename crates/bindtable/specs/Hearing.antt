@@ -6,7 +6,7 @@ use Rattle.bindtable.specs.declared.bind_kind.BindKind.{BindKind}
 use Rattle.bindtable.specs.declared.bind_kind.BindKind.TheVariants.{Raw, Msg, Msgm, Notc, Pub, Pubm, Join, Part, Sign, Kick, Nick, Mode, Topc}
 use Rattle.bindtable.specs.declared.bind_kind.BindKind.TheVariants.{Bot, Time, Cron}
 
--- whether a kind waits for messages: the others wait for texts of bots, and for minutes
+-- whether a kind waits for messages: the other kinds wait for texts of bots, and for minutes
 abbrev pub is_of_messages : BindKind → Bool
 is_of_messages Raw = true
 is_of_messages Msg = true
@@ -25,7 +25,7 @@ is_of_messages Bot = false
 is_of_messages Time = false
 is_of_messages Cron = false
 
--- whether one of these binds does
+-- whether one of these binds waits for messages
 abbrev pub hear_messages : List Bind → Bool
 hear_messages binds = list_any (λ b. is_of_messages b.kind) binds
 
@@ -48,6 +48,6 @@ is_of_minutes Bot = false
 is_of_minutes Time = true
 is_of_minutes Cron = true
 
--- whether one of these binds does
+-- whether one of these binds waits for minutes
 abbrev pub hear_minutes : List Bind → Bool
 hear_minutes binds = list_any (λ b. is_of_minutes b.kind) binds

@@ -1,4 +1,5 @@
--- The kinds of binds: their words, what each is, and what its proc is called for (Eggdrop's Tcl commands document, "bind").
+-- The kinds of binds: their words, their properties, and the calls that they make (Eggdrop's Tcl commands document,
+-- "bind").
 use Rattle.std.specs.Prelude.{ℕ, ◌==◌, Bool, true, false, List, [], ◌∷◌, Option, find, codes}
 use Rattle.std.specs.Str.{bytes_eq}
 use Rattle.procstore.specs.declared.kind.Kind.{Kind}
@@ -36,7 +37,7 @@ all_kinds = Raw ∷ Msg ∷ Msgm ∷ Notc ∷ Pub ∷ Pubm ∷ Join ∷ Part ∷
 abbrev pub kind_of : List ℕ → Option BindKind
 kind_of word = find (λ kind. bytes_eq (word_of kind) word) all_kinds
 
--- what its proc is called for
+-- the kind of call that a bind makes
 abbrev pub call_kind_of : BindKind → Kind
 call_kind_of Raw = raw_call
 call_kind_of Msg = msg_call
@@ -55,7 +56,7 @@ call_kind_of Bot = bot_call
 call_kind_of Time = time_call
 call_kind_of Cron = cron_call
 
--- whether a keyword has one bind at most, and its mask is that keyword, without wildcards
+-- whether a keyword has at most one bind, and the mask of the bind is that keyword, without wildcards
 abbrev pub is_single : BindKind → Bool
 is_single Raw = false
 is_single Msg = true
@@ -93,7 +94,7 @@ is_cron Bot = false
 is_cron Time = false
 is_cron Cron = true
 
--- whether flags count: a raw line and a minute have nobody's, and another bot isn't asked for any
+-- whether flags matter: a raw line and a minute are nobody's, and another bot needs no flags
 abbrev pub has_flags : BindKind → Bool
 has_flags Raw = false
 has_flags Msg = true
@@ -112,7 +113,7 @@ has_flags Bot = false
 has_flags Time = false
 has_flags Cron = false
 
--- the number of a kind, by which kinds are told apart and a table keeps them
+-- the number of a kind, by which a table keeps kinds and tells them apart
 abbrev pub place_of : BindKind → ℕ
 place_of Raw = 0
 place_of Msg = 1

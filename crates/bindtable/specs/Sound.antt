@@ -14,7 +14,7 @@ abbrev pub AreRising : ℕ → List Bind → ℕ → Type 0
 AreRising above [] last = above ≤ last
 AreRising above (b ∷ binds) last = (above < b.number) × AreRising b.number binds last
 
--- whether two binds can't both be held: they have one kind and mask, and one proc too unless the kind is single
+-- whether a table can't hold both binds: they have one kind and mask, and one proc too unless the kind is single
 abbrev pub is_rival : Bind → Bind → Bool
 is_rival a b = is_kind a.kind b.kind && (is_same a.mask b.mask && (is_single a.kind || bytes_eq a.proc b.proc))
 
@@ -22,7 +22,7 @@ abbrev pub AreApart : List Bind → Type 0
 AreApart [] = Unit {0}
 AreApart (b ∷ binds) = (list_any (is_rival b) binds ≡ false) × AreApart binds
 
--- whether a bind could be made
+-- whether `bind` could make a bind
 abbrev pub is_good : Bind → Bool
 is_good b = is_none (expression_fault b.flags) && not (is_bad_mask b.kind b.mask || is_bad_cron b.kind b.mask)
 

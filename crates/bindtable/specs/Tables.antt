@@ -1,4 +1,4 @@
--- The binds that are held, and what `bind` and `unbind` make of them.
+-- The binds of a table, and what `bind` and `unbind` do to them.
 use Rattle.std.specs.Prelude.{◌≡◌, ℕ, ◌+◌, ◌==◌, nat_lt, nat_le, Bool, not, ◌&&◌, ◌||◌, if◌then◌else◌}
 use Rattle.std.specs.Prelude.{List, [], ◌∷◌, ◌++◌, length, map, filter, find, count_by, Option, Some, None, is_some, Result, Ok, Err, codes}
 use Rattle.std.specs.List.{list_any}
@@ -24,24 +24,24 @@ pub record Table : Type 0 where
 abbrev pub no_binds : Table
 no_binds = record { binds = []; last = 0 }
 
--- what `bind` is asked for
+-- the arguments of `bind`
 pub record Asked : Type 0 where
   pub kind : BindKind
   pub flags : List ℕ
   pub mask : List ℕ
   pub proc : List ℕ
 
--- ---- which binds a call speaks of
+-- ---- which binds a call means
 
 -- the bind of this kind, of this mask by casemapping, and of this proc byte for byte
 abbrev pub is_such : BindKind → List ℕ → List ℕ → Bind → Bool
 is_such kind mask proc b = is_kind kind b.kind && (is_same mask b.mask && bytes_eq b.proc proc)
 
--- the bind that one of a single kind replaces: the one of its kind with an equal keyword
+-- the bind that a bind of a single kind replaces: the bind of its kind with an equal keyword
 abbrev pub is_replaced : BindKind → List ℕ → Bind → Bool
 is_replaced kind mask b = is_single kind && (is_kind kind b.kind && is_same mask b.mask)
 
--- what a bind leaves of those before it
+-- the binds before a new one, without the one that it replaces
 abbrev pub without_replaced : BindKind → List ℕ → List Bind → List Bind
 without_replaced kind mask binds = filter (λ b. not (is_replaced kind mask b)) binds
 
@@ -54,19 +54,19 @@ without_such kind mask proc binds = filter (λ b. not (is_such kind mask proc b)
 abbrev pub is_bad_mask : BindKind → List ℕ → Bool
 is_bad_mask kind mask = length mask == 0 || nat_lt MAX_MASK (length mask) || (is_single kind && list_any (λ byte. byte == 32) mask)
 
--- whether the kind goes by cron fields and the mask isn't such
+-- whether the kind takes cron fields and the mask is not cron fields
 abbrev pub is_bad_cron : BindKind → List ℕ → Bool
 is_bad_cron kind mask = is_cron kind && not (is_mask mask)
 
--- how many binds stay when one of this kind and mask comes
+-- how many binds remain beside a new one of this kind and mask
 abbrev pub count_left : BindKind → List ℕ → List Bind → ℕ
 count_left kind mask binds = count_by (λ b. not (is_replaced kind mask b)) binds
 
--- whether there is no number or no room for one more
+-- whether no number or no room is left for one more
 abbrev pub is_full : Table → BindKind → List ℕ → Bool
 is_full table kind mask = nat_le MAX_NUMBER table.last || nat_le MAX_BINDS (count_left kind mask table.binds)
 
--- why a bind whose flags parse is refused: a bad mask, bad cron fields, or no room for one that is new
+-- why a bind whose flags parse is refused: a bad mask, bad cron fields, or no room for a new bind
 unfoldable pub later_refusal : Table → BindKind → List ℕ → List ℕ → Option BindFault
 later_refusal table kind mask proc =
     if is_bad_mask kind mask then Some BadMask else
@@ -74,22 +74,22 @@ later_refusal table kind mask proc =
     (if list_any (is_such kind mask proc) table.binds then None else
     (if is_full table kind mask then Some Full else None)))
 
--- the first reason that stands against a bind
+-- the first reason to refuse a bind
 unfoldable pub refusal : Table → Asked → Option BindFault
 refusal table asked = if is_some (expression_fault asked.flags) then Some BadFlags else later_refusal table asked.kind asked.mask asked.proc
 
 -- ---- what `bind` leaves
 
--- the bind that is asked for, under a number
+-- the requested bind, under a number
 abbrev pub with_number : Asked → ℕ → Bind
 with_number asked number =
     record { number = number; kind = asked.kind; flags = asked.flags; mask = asked.mask; proc = asked.proc }
 
--- the same kind, mask and proc again: its flags are the new ones, and number, place and the mask's spelling stay
+-- the same kind, mask and proc again: the flags are the new ones; the number, the place and the mask's spelling stay
 abbrev pub with_flags : Asked → Bind → Bind
 with_flags asked b = if is_such asked.kind asked.mask asked.proc b then record b { flags = asked.flags } else b
 
--- any other bind stands last, under the next number, and the one that it replaces goes
+-- any other bind is appended, under the next number, and the bind that it replaces is removed
 abbrev pub with_new : Table → Asked → Table
 with_new table asked =
     record {
@@ -103,16 +103,16 @@ bound table asked =
     then record table { binds = map (with_flags asked) table.binds }
     else with_new table asked
 
--- the number of a bind that is there, or else this one
+-- the number of a bind if there is one, or else this number
 abbrev pub number_or : ℕ → Option Bind → ℕ
 number_or number (Some b) = b.number
 number_or number None = number
 
--- the number that the bind has then
+-- the number that the bind then has
 abbrev pub number_of : Table → Asked → ℕ
 number_of table asked = number_or (table.last + 1) (find (is_such asked.kind asked.mask asked.proc) table.binds)
 
--- ---- what the calls answer, and the table that they leave
+-- ---- what the calls return, and the table that they leave
 
 abbrev pub Binds : Table → Asked → Result ℕ (Failure BindFault) → Table → Type 0
 Binds old asked (Ok number) new = (refusal old asked ≡ None) × (number ≡ number_of old asked) × (new ≡ bound old asked)

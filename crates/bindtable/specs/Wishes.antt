@@ -1,4 +1,4 @@
--- A bind that is asked for, as the code hands it on.
+-- A requested bind, as the code passes it on.
 use Rattle.std.specs.Prelude.{◌≡◌, ℕ, ◌<◌, Bool, true, false, None, List, length, slice_index_or}
 use Rattle.wildmask.specs.Masks.{bind_fault}
 use Rattle.flagexpr.specs.Expression.{expression_of}
@@ -10,7 +10,7 @@ use Rattle.bindtable.specs.Tables.{Asked, is_bad_cron, is_such}
 abbrev pub asked_of : Wish → Asked
 asked_of wish = record { kind = wish.kind; flags = wish.flags.now; mask = wish.mask.now; proc = wish.proc.now }
 
--- its flags parse to its expression, and its mask is one of its kind
+-- its flags parse to its expression, and its mask is a mask of its kind
 pub record IsWish (wish : Wish) : Type 0 where
   pub parses : expression_fault wish.flags.now ≡ None
   pub expression : wish.expression ≡ expression_of wish.flags.now

@@ -1,4 +1,4 @@
--- The keywords of an index, and the entries that a subject may call.
+-- The keywords of an index, and the entries that a subject can call.
 use Rattle.std.specs.Prelude.{◌≡◌, ℕ, ◌≤◌, Bool, true, false, List, [], ◌∷◌, map, length, take, drop, position, Option, Some, None}
 use Rattle.std.specs.List.{list_any}
 use Rattle.std.specs.Str.{bytes_eq}
@@ -13,7 +13,7 @@ use Rattle.bindtable.specs.Kinds.{is_single}
 abbrev pub words_of : KindIndex → List (List ℕ)
 words_of index = map (λ key. key.items) index.words.keys
 
--- a word is none of these
+-- a word is none of these keywords
 abbrev pub HasNoWord : List ℕ → List (List ℕ) → Type 0
 HasNoWord word words = list_any (bytes_eq word) words ≡ false
 
@@ -36,7 +36,7 @@ abbrev pub IsEntryAt : Option ℕ → List Entry → List Entry → Type 0
 IsEntryAt (Some at) entries some = some ≡ take 1 (drop at entries)
 IsEntryAt None entries some = some ≡ []
 
--- the entries of the binds that may be called: all of a kind that goes by masks, and the one of a keyword
+-- the entries of the binds that an event may call: all binds of a kind with masks, or the one bind of a keyword
 abbrev pub AreOf : Bool → List ℕ → KindIndex → List Entry → Type 0
 AreOf true subject index some = IsEntryAt (place_of_word subject index) index.entries.items some
 AreOf false subject index some = some ≡ index.entries.items

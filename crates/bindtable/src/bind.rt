@@ -1,24 +1,24 @@
-// One bind, as it was given.
+// One bind, as it was made.
 use crate::bind_kind::BindKind;
 use bytetext::{NoMemory, Seq, Text, TryCopy};
 use std::alloc::Global;
 
-/// A bind: a proc, and the events that it is called for.
+/// A bind: a proc, and the events for which it is called.
 #[derive(Debug)]
 pub struct Bind {
-    /// From 1, rising in the order in which binds are made. A number is never used again.
+    /// The bind's number: from 1, rising in the order in which binds are made. A number is never used again.
     pub number: u32,
     /// The kind of event.
     pub kind: BindKind,
-    /// The flag expression that a person has to meet, as it was given last. Binds of raw, time, cron and bot ignore it.
+    /// The flag expression that a person must meet, as it was given last. Binds of raw, time, cron and bot ignore it.
     pub flags: Text,
-    /// The keyword of a msg, pub or bot bind, and otherwise the mask, as it was first given.
+    /// The keyword of a msg, pub or bot bind, or else the mask, as it was first given.
     pub mask: Text,
     /// The name of the proc.
     pub proc: Text,
 }
 
-// By hand, so that this is proved once, and not in each function in which one ends.
+// Written by hand, so that it is proved once and not in each function that drops one.
 impl Drop for Bind {
     fn drop(self) {
         let Bind {

@@ -4,8 +4,8 @@ ghost use Rattle.bindtable.specs.Kinds.{call_kind_of, kind_of, word_of};
 
 use procstore::Kind;
 
-/// The kind of event that a bind waits for, as the Eggdrop bind type of the same word (Eggdrop 1.9, Tcl commands, "Bind
-/// types"). A proc is called for each of these, and for a due timer, which no bind waits for.
+/// The kind of event that a bind waits for, as the Eggdrop bind type of the same word (Eggdrop 1.9, Tcl commands,
+/// "Bind types"). A proc is called for each of these, and for a due timer, for which no bind waits.
 #[derive(Clone, Copy, Debug, PartialEq, Eq)]
 pub enum BindKind {
     /// Any line of the server, by its command.
@@ -63,7 +63,7 @@ const ALL: [BindKind; 16] = [
 ];
 
 impl BindKind {
-    /// The word that scripts write.
+    /// Returns the word that scripts write.
     pub fn word(self) -> &'static [u8]
         ensures word { result.now ≡ word_of self }
         // No two kinds share a word.
@@ -89,14 +89,14 @@ impl BindKind {
         }
     }
 
-    /// The kind whose word this is, byte for byte, if there is one.
+    /// Returns the kind whose word is `word`, byte for byte, if there is one.
     pub fn of_word(word: &[u8]) -> Option<BindKind>
         ensures { result ≡ kind_of word.now }
     {
         ALL.iter().copied().find(|kind| kind.word() == word)
     }
 
-    /// What a proc that a bind of this kind names is called for.
+    /// Returns the kind of call that a bind of this kind makes.
     pub fn kind(self) -> Kind
         ensures { result ≡ call_kind_of self }
     {

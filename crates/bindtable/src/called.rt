@@ -12,7 +12,7 @@ use crate::index::Entry;
 use std::marker::Model;
 use wildmask::Signature;
 
-/// The binds that an event calls and that are still to come, oldest first.
+/// An iterator over the binds that an event calls, oldest first.
 #[derive(Drop)]
 pub struct Called<'t, 'e> {
     held: &'t [Held],
@@ -43,7 +43,7 @@ impl<'t, 'e> Called<'t, 'e> {
     ghost use Rattle.bindtable.specs.Calls.{called, seen};
     ghost use Rattle.bindtable.specs.Behind.{AreKnown, HaveRisen, behind};
 
-    // The binds behind these entries that an event calls.
+    // Creates the iterator over the binds behind `entries` that `event` calls.
     pub(crate) fn of(held: &'t [Held], entries: &'t [Entry], event: &Event<'e>) -> Called<'t, 'e>
         requires risen { HaveRisen held.now }
         requires known { AreKnown held.now entries.now }
@@ -64,7 +64,7 @@ impl<'t, 'e> Called<'t, 'e> {
         }
     }
 
-    /// The next bind that is called, if there is one left.
+    /// Returns the next bind that the event calls, if one is left.
     pub fn next(&mut self) -> Option<&'t Bind>
         ensures first { option_copied result ≡ slice_get self.old 0 }
         ensures rest { self.new ≡ drop 1 self.old }
@@ -82,7 +82,7 @@ impl<'t, 'e> Called<'t, 'e> {
     }
 }
 
-// The first bind behind entries that an event calls, and the place of its entry.
+// Returns the first bind behind `entries` that the event calls, and the place of its entry.
 fn first_called<'a>(
     held: &'a [Held],
     entries: &[Entry],
@@ -104,7 +104,8 @@ fn first_called<'a>(
     None
 }
 
-// The bind behind an entry, if the event calls it. A bind that needs what the subject lacks isn't looked at.
+// Returns the bind behind an entry, if the event calls it. If the subject lacks a pair of bytes that the bind needs,
+// the bind isn't looked at.
 fn if_called<'a>(
     held: &'a [Held],
     entry: &Entry,
@@ -127,7 +128,7 @@ fn if_called<'a>(
     }
 }
 
-// The bind of a number.
+// Returns the bind with this number.
 pub(crate) fn held_of(held: &[Held], number: u32) -> Option<&Held>
     requires { HaveRisen held.now }
     ensures { option_copied result ≡ bind_of number held.now }

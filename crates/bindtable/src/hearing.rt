@@ -5,7 +5,7 @@ ghost use Rattle.bindtable.specs.Hearing.{is_of_messages, hear_messages, is_of_m
 use crate::bind_kind::BindKind;
 use crate::held::Held;
 
-// Whether one of these waits for messages.
+// Whether one of these binds waits for messages.
 pub(crate) fn hear_messages(held: &[Held]) -> bool
     ensures { result ≡ hear_messages held.now }
 {
@@ -34,7 +34,7 @@ fn is_of_messages(kind: BindKind) -> bool
     }
 }
 
-// Whether one of these waits for minutes.
+// Whether one of these binds waits for minutes.
 pub(crate) fn hear_minutes(held: &[Held]) -> bool
     ensures { result ≡ hear_minutes held.now }
 {

@@ -1,4 +1,4 @@
-// A bind that is held, with what its flags and its mask say, so that no event reads their texts again.
+// A bind in the table, with its flags and mask parsed, so that no event parses them again.
 ghost use Rattle.std.specs.Prelude.{◌≡◌, ◌<◌, IfOk, IfErr, length};
 
 use crate::bind::Bind;
@@ -20,7 +20,7 @@ pub(crate) struct Held {
     matcher: Matcher,
 }
 
-// By hand, so that this is proved once, and not in each function in which one ends.
+// Written by hand, so that it is proved once and not in each function that drops one.
 impl Drop for Held {
     fn drop(self) {
         let Held {
@@ -52,7 +52,7 @@ impl Held {
     ghost use Rattle.bindtable.specs.Calls.{takes_event, takes_person, is_called, seen};
     ghost use Rattle.bindtable.specs.Masks.{entry_of, needs_of};
 
-    // A bind whose flags say this.
+    // Creates a held bind with these parsed flags.
     pub(crate) fn new(alloc: Global, bind: Bind, flags: FlagExpr) -> Result<Held, NoMemory>
         requires flags { flags ≡ expression_of bind.flags }
         requires mask { bind_fault bind.mask ≡ None }
@@ -67,7 +67,7 @@ impl Held {
         })
     }
 
-    // The bind.
+    // Returns the bind.
     pub(crate) fn bind(&self) -> &Bind
         ensures { result.now ≡ self.now }
     {
@@ -92,7 +92,7 @@ impl Held {
         self.bind.mask.as_bytes()
     }
 
-    // Whether it has this kind, mask and proc.
+    // Whether the bind has this kind, mask and proc.
     pub(crate) fn is_such(&self, kind: BindKind, mask: &[u8], proc: &[u8]) -> bool
         ensures { result ≡ is_such kind mask.now proc.now self.now }
     {
@@ -101,14 +101,14 @@ impl Held {
             && self.bind.proc.as_bytes() == proc
     }
 
-    // Whether a bind of this kind and mask replaces it.
+    // Whether a bind of this kind and mask replaces this one.
     pub(crate) fn is_replaced(&self, kind: BindKind, mask: &[u8]) -> bool
         ensures { result ≡ is_replaced kind mask.now self.now }
     {
         is_single(kind) && is_kind(kind, self.bind.kind) && same(self.bind.mask.as_bytes(), mask)
     }
 
-    // Gives it other flags.
+    // Gives the bind other flags.
     pub(crate) fn set_flags(&mut self, text: Text, flags: FlagExpr)
         requires { flags ≡ expression_of text }
         ensures { self.new ≡ record self.old { flags = text } }
@@ -117,7 +117,7 @@ impl Held {
         self.flags = flags;
     }
 
-    // What is known of it without looking at it.
+    // Returns what can be said of the bind without looking at it.
     pub(crate) fn entry(&self) -> Entry
         ensures { result ≡ entry_of self.now }
     {
@@ -127,7 +127,7 @@ impl Held {
         }
     }
 
-    // The pairs of bytes that a subject needs.
+    // Returns the pairs of bytes that a subject needs to match.
     fn needs(&self) -> Signature
         ensures { result ≡ needs_of self.now }
     {
@@ -137,7 +137,7 @@ impl Held {
         }
     }
 
-    // Whether an event calls it.
+    // Whether an event calls the bind.
     pub(crate) fn is_called(&self, event: &Event) -> bool
         ensures { result ≡ is_called (seen event.now) self.now }
     {
@@ -173,7 +173,7 @@ impl TryCopy for Held {
     }
 }
 
-// A copy of each bind, in order.
+// Returns a copy of each bind, in order.
 pub(crate) fn binds_of(alloc: Global, held: &[Held]) -> Result<Vec<Bind>, NoMemory>
     ensures binds { IfOk result (λ binds. binds.items ≡ held.now) }
     ensures memory { IfErr result (λ _. 0 < length held.now) }

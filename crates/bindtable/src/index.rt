@@ -1,4 +1,4 @@
-// The binds of one kind: what is known of each without looking at it, and for a single kind the keywords.
+// The binds of one kind: an entry for each, which saves looking at the bind, and the keywords of a single kind.
 ghost use Rattle.std.specs.Prelude.{◌≡◌, ◌<◌, ◌≤◌, ◌+◌, true, [], ◌∷◌, ◌++◌, OnOk};
 ghost use Rattle.std.specs.List.{remove};
 ghost use Rattle.std.specs.Vec.{vec_len, vec_capacity};
@@ -15,15 +15,15 @@ use rfccase::ShortFold;
 use std::alloc::Global;
 use wildmask::Signature;
 
-/// What is known of a bind without looking at it: where to look, and whether it is worth it.
+/// An entry says where a bind is, and which pairs of bytes a subject needs to match it.
 #[derive(Clone, Copy)]
 pub struct Entry {
     pub number: u32,
     pub needs: Signature,
 }
 
-/// The binds of one kind, oldest first. Those of a single kind have their keywords' lower cases in `words`, at the same
-/// places; other kinds have no words.
+/// The binds of one kind, oldest first. `words` holds the keywords of a single kind in lower case, at the same places;
+/// other kinds have no words.
 #[derive(Drop)]
 pub struct KindIndex {
     pub entries: Vec<Entry>,
@@ -31,7 +31,7 @@ pub struct KindIndex {
 }
 
 impl KindIndex {
-    // No binds. Takes no memory.
+    // Creates an empty index. Does not allocate.
     pub(crate) fn new(alloc: Global) -> KindIndex
         ensures entries { result.entries.items ≡ [] }
         ensures words { words_of result ≡ [] }
@@ -42,7 +42,7 @@ impl KindIndex {
         }
     }
 
-    // Makes room for one more bind.
+    // Reserves room for one more bind.
     pub(crate) fn reserve(&mut self) -> Result<(), NoMemory>
         ensures entries { self.new.entries.items ≡ self.old.entries.items }
         ensures words { self.new.words ≡ self.old.words }
@@ -52,7 +52,7 @@ impl KindIndex {
         Ok(())
     }
 
-    // Makes room for one more keyword.
+    // Reserves room for one more keyword.
     pub(crate) fn reserve_word(&mut self) -> Result<(), NoMemory>
         ensures entries { self.new.entries ≡ self.old.entries }
         ensures words { self.new.words.keys ≡ self.old.words.keys }
@@ -62,7 +62,7 @@ impl KindIndex {
         Ok(())
     }
 
-    // Puts a bind last, where there is room.
+    // Appends a bind for which there is room.
     pub(crate) fn push(&mut self, entry: Entry)
         requires { vec_len self.old.entries < vec_capacity self.old.entries }
         ensures entries { self.new.entries.items ≡ self.old.entries.items ++ entry ∷ [] }
@@ -71,7 +71,7 @@ impl KindIndex {
         self.entries.push_reserved(entry);
     }
 
-    // Puts a new keyword last, where there is room.
+    // Appends a new keyword for which there is room.
     pub(crate) fn push_word(&mut self, word: Vec<u8>)
         requires room { 0 < spare self.old.words }
         requires absent { HasNoWord word.items (words_of self.old) }
@@ -81,7 +81,7 @@ impl KindIndex {
         self.words.insert(word).unwrap();
     }
 
-    // Takes away the bind at a place, with its keyword if it has one.
+    // Removes the bind at a place, with its keyword if it has one.
     pub(crate) fn remove(&mut self, at: usize)
         requires { at < vec_len self.old.entries }
         ensures entries { self.new.entries.items ≡ remove self.old.entries.items at }
@@ -94,7 +94,8 @@ impl KindIndex {
         let _word = self.words.shift_remove_index(at);
     }
 
-    // The entries of the binds that may be called: all of a kind that goes by masks, and the one of a keyword.
+    // Returns the entries of the binds that an event may call: all binds of a kind with masks, or the one bind of a
+    // keyword.
     pub(crate) fn candidates(&self, kind: BindKind, subject: &[u8]) -> &[Entry]
         requires { is_single kind ≡ true → AreWords self.now }
         ensures { AreCandidates kind subject.now self.now result.now }
@@ -108,7 +109,7 @@ impl KindIndex {
         }
     }
 
-    // The place of a keyword.
+    // Returns the place of a keyword.
     fn place_of_word(&self, word: &[u8]) -> Option<usize>
         requires { AreWords self.now }
         ensures { result ≡ place_of_word word.now self.now }

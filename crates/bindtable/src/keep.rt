@@ -1,4 +1,4 @@
-// The binds and the index of one kind, changed together.
+// Changes the binds and the index of one kind together.
 ghost use Rattle.std.specs.Prelude.{◌≡◌, ◌<◌, ◌≤◌, true, false, not, [], ◌∷◌, ◌++◌, count_by, position};
 ghost use Rattle.std.specs.Prelude.{slice_index_or, find, OnOk, OnErr, IfOk};
 ghost use Rattle.std.specs.Option.{option_map};
@@ -20,7 +20,7 @@ use rfccase::fold_text;
 use std::alloc::Global;
 use std::array;
 
-// The place of the bind of this kind, mask and proc.
+// Returns the place of the bind of this kind, mask and proc.
 pub(crate) fn place_of_such(
     held: &[Held],
     kind: BindKind,
@@ -32,21 +32,21 @@ pub(crate) fn place_of_such(
     held.iter().position(|one| one.is_such(kind, mask, proc))
 }
 
-// The place of the bind that one of this kind and mask replaces.
+// Returns the place of the bind that a bind of this kind and mask replaces.
 fn place_of_replaced(held: &[Held], kind: BindKind, mask: &[u8]) -> Option<usize>
     ensures { result ≡ position (is_replaced kind mask.now) held.now }
 {
     held.iter().position(|one| one.is_replaced(kind, mask))
 }
 
-// How many binds are of this kind.
+// Counts the binds of this kind.
 fn count_of_kind(held: &[Held], kind: BindKind) -> usize
     ensures { result ≡ count_by (λ b. is_kind kind b.kind) held.now }
 {
     held.iter().filter(|one| is_kind(kind, one.kind())).count()
 }
 
-// Takes away the bind at a place, and gives its number. Takes no memory.
+// Removes the bind at a place, and returns its number. Does not allocate.
 pub(crate) fn take_out(
     held: &mut Vec<Held>,
     index: &mut KindIndex,
@@ -71,7 +71,7 @@ pub(crate) fn take_out(
     one.bind().number
 }
 
-// Takes away the bind that one of this kind and mask replaces, if there is one. Takes no memory.
+// Removes the bind that a bind of this kind and mask replaces, if there is one. Does not allocate.
 fn drop_replaced(held: &mut Vec<Held>, index: &mut KindIndex, kind: BindKind, mask: &[u8])
     requires apart { AreApart held.old.items }
     requires indexed { IsIndexOf kind held.old.items index.old }
@@ -88,7 +88,7 @@ fn drop_replaced(held: &mut Vec<Held>, index: &mut KindIndex, kind: BindKind, ma
     }
 }
 
-// Puts a bind last that goes by its mask, and so replaces none.
+// Appends a bind with a mask, which replaces none.
 fn add_mask(held: &mut Vec<Held>, index: &mut KindIndex, one: Held) -> Result<(), NoMemory>
     requires kind { is_single one.kind ≡ false }
     requires indexed { IsIndexOf one.kind held.old.items index.old }
@@ -103,7 +103,7 @@ fn add_mask(held: &mut Vec<Held>, index: &mut KindIndex, one: Held) -> Result<()
     Ok(())
 }
 
-// Puts a bind last that goes by its keyword, and takes away the one that it replaces.
+// Appends a bind with a keyword, and removes the bind that it replaces.
 fn add_word(
     held: &mut Vec<Held>,
     index: &mut KindIndex,
@@ -130,7 +130,7 @@ fn add_word(
     Ok(())
 }
 
-// Puts a bind last, and takes away the one that it replaces.
+// Appends a bind, and removes the bind that it replaces.
 pub(crate) fn put(
     held: &mut Vec<Held>,
     indexes: &mut [KindIndex; KINDS],
@@ -152,7 +152,7 @@ pub(crate) fn put(
     }
 }
 
-// Takes away the bind of this kind, mask and proc, and tells its number. Takes no memory.
+// Removes the bind of this kind, mask and proc, and returns its number. Does not allocate.
 pub(crate) fn take_such(
     held: &mut Vec<Held>,
     indexes: &mut [KindIndex; KINDS],
@@ -175,14 +175,14 @@ pub(crate) fn take_such(
     }
 }
 
-// Whether there is a bind of this kind, mask and proc.
+// Whether a bind has this kind, mask and proc.
 pub(crate) fn has_such(held: &[Held], kind: BindKind, mask: &[u8], proc: &[u8]) -> bool
     ensures { result ≡ list_any (is_such kind mask.now proc.now) held.now }
 {
     held.iter().any(|one| one.is_such(kind, mask, proc))
 }
 
-// How many binds stay when one of this kind and mask comes.
+// Counts the binds that a new bind of this kind and mask leaves.
 pub(crate) fn count_left(held: &[Held], kind: BindKind, mask: &[u8]) -> usize
     ensures { result ≡ count_left kind mask.now held.now }
 {
@@ -191,14 +191,14 @@ pub(crate) fn count_left(held: &[Held], kind: BindKind, mask: &[u8]) -> usize
         .count()
 }
 
-// The indexes of no binds.
+// Creates the indexes of an empty table.
 pub(crate) fn no_indexes(alloc: Global) -> [KindIndex; KINDS]
     ensures { AreIndexed [] result }
 {
     array::from_fn(|_| KindIndex::new(alloc))
 }
 
-// A copy of each bind, in order, with indexes of their own.
+// Copies each bind, in order, and builds the indexes of the copies.
 pub(crate) fn copy_of(
     alloc: Global,
     held: &[Held],

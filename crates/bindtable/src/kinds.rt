@@ -1,13 +1,13 @@
-// What a kind of bind is.
+// The properties of a kind of bind.
 ghost use Rattle.std.specs.Prelude.{◌≡◌, ◌<◌};
 ghost use Rattle.bindtable.specs.Kinds.{place_of, is_kind, is_single, is_cron, has_flags};
 
 use crate::bind_kind::BindKind;
 
-// How many kinds there are.
+// The number of kinds.
 pub(crate) const KINDS: usize = 16;
 
-// The number of a kind.
+// Returns the number of a kind.
 pub(crate) fn place_of(kind: BindKind) -> usize
     ensures place { result ≡ place_of kind }
     ensures within { result < KINDS }
@@ -32,14 +32,14 @@ pub(crate) fn place_of(kind: BindKind) -> usize
     }
 }
 
-// Whether two kinds are one.
+// Whether two kinds are equal.
 pub(crate) fn is_kind(a: BindKind, b: BindKind) -> bool
     ensures { result ≡ is_kind a b }
 {
     place_of(a) == place_of(b)
 }
 
-// Whether a keyword has one bind at most.
+// Whether a keyword has at most one bind.
 pub(crate) fn is_single(kind: BindKind) -> bool
     ensures { result ≡ is_single kind }
 {
@@ -61,7 +61,7 @@ pub(crate) fn is_single(kind: BindKind) -> bool
     }
 }
 
-// Whether its mask is cron fields.
+// Whether the mask of a bind is cron fields.
 pub(crate) fn is_cron(kind: BindKind) -> bool
     ensures { result ≡ is_cron kind }
 {
@@ -85,7 +85,7 @@ pub(crate) fn is_cron(kind: BindKind) -> bool
     }
 }
 
-// Whether the flags of a bind count.
+// Whether the flags of a bind matter.
 pub(crate) fn has_flags(kind: BindKind) -> bool
     ensures { result ≡ has_flags kind }
 {

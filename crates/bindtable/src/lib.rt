@@ -2,7 +2,7 @@
 //!
 //! A bind names a kind of event, a flag expression, a mask and a proc, as Eggdrop's command `bind` does (its Tcl
 //! commands document). An event calls the binds of its kind, oldest first, whose mask matches its subject and whose
-//! expression the person's flags meet. Flags are ignored by raw, bot, time and cron:
+//! expression the person's flags meet. Raw, bot, time and cron binds ignore flags:
 //!
 //! | kind | its mask | matched against |
 //! |---|---|---|
@@ -19,12 +19,12 @@
 //! | time | wildcards | `mm hh dd MM yyyy`, with the month from 00 |
 //! | cron | cron fields | the minute that begins |
 //!
-//! A keyword has one bind of its kind at most: a new one takes the old one's part and stands last. The same kind, mask
-//! and proc again changes the flags alone. That order is by age is our own choice.
+//! A keyword has at most one bind of its kind: a new bind replaces the old one and is appended. A second bind of the
+//! same kind, mask and proc only changes the flags. The order by age is our own choice.
 //!
 //! [`BindTable`] holds up to [`MAX_BINDS`] binds. [`bind`](BindTable::bind) and [`unbind`](BindTable::unbind) change
-//! it, [`called`](BindTable::called) goes through the binds that an [`Event`] calls without taking memory,
-//! [`find`](BindTable::find) gives their numbers, [`get`](BindTable::get) the bind of a number, and
+//! it, [`called`](BindTable::called) iterates over the binds that an [`Event`] calls without allocating,
+//! [`find`](BindTable::find) returns their numbers, [`get`](BindTable::get) the bind with a number, and
 //! [`list`](BindTable::list) all of them.
 //!
 //! ```text

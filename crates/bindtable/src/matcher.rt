@@ -1,4 +1,4 @@
-// What a bind's mask says, so that no event reads its text again.
+// A bind's mask in parsed form, so that no event parses its text again.
 ghost use Rattle.std.specs.Prelude.{◌≡◌, None, false, IfOk};
 ghost use Rattle.wildmask.specs.Masks.{bind_fault};
 ghost use Rattle.bindtable.specs.Calls.{is_minute_in};
@@ -12,7 +12,7 @@ use bytetext::{NoMemory, TryCopy};
 use std::alloc::Global;
 use wildmask::Mask;
 
-// What a mask is. A keyword's text stands in its bind.
+// A parsed mask. The text of a keyword is in its bind.
 #[derive(Drop)]
 pub(crate) enum Matcher {
     Keyword,
@@ -21,7 +21,7 @@ pub(crate) enum Matcher {
 }
 
 impl Matcher {
-    // What a mask of a kind says.
+    // Parses a mask of a kind.
     pub(crate) fn new(alloc: Global, kind: BindKind, text: &[u8]) -> Result<Matcher, NoMemory>
         requires mask { bind_fault text.now ≡ None }
         requires cron { is_bad_cron kind text.now ≡ false }
@@ -39,7 +39,7 @@ impl Matcher {
         }
     }
 
-    // The same again.
+    // Returns a copy.
     pub(crate) fn copy(&self, alloc: Global) -> Result<Matcher, NoMemory>
         ensures { IfOk result (λ matcher. matcher ≡ self.now) }
     {
@@ -51,7 +51,7 @@ impl Matcher {
     }
 }
 
-// Whether a minute, if there is one, is among those of cron fields.
+// Whether there is a minute and the cron fields match it.
 pub(crate) fn is_in(cron: &Cron, minute: &Option<CivilMinute>) -> bool
     ensures { result ≡ is_minute_in cron.now minute.now }
 {

@@ -8,14 +8,14 @@ use crate::kinds::{is_cron, is_single};
 use crate::limits::MAX_MASK;
 use bottimers::Cron;
 
-// Whether a mask is empty, too long, or more than one word though the kind goes by one.
+// Whether a mask is empty, too long, or more than one word though the kind takes one word.
 pub(crate) fn is_bad_mask(kind: BindKind, mask: &[u8]) -> bool
     ensures { result ≡ is_bad_mask kind mask.now }
 {
     mask.is_empty() || mask.len() > MAX_MASK || (is_single(kind) && mask.contains(&b' '))
 }
 
-// Whether the kind goes by cron fields and the mask isn't such.
+// Whether the kind takes cron fields and the mask is not cron fields.
 pub(crate) fn is_bad_cron(kind: BindKind, mask: &[u8]) -> bool
     ensures { result ≡ is_bad_cron kind mask.now }
 {

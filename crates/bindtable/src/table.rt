@@ -65,7 +65,7 @@ impl BindTable {
     ghost use Rattle.bindtable.specs.Hearing.{hear_messages, hear_minutes};
     ghost use Rattle.std.specs.Option.{option_copied};
 
-    /// The table without binds. Takes no memory.
+    /// Creates an empty table. Does not allocate.
     pub fn new(alloc: Global) -> BindTable
         ensures { result ≡ no_binds }
     {
@@ -76,25 +76,27 @@ impl BindTable {
         }
     }
 
-    /// What always holds of a table: its numbers rise from 1 and none is above the last one given; no two binds have one
-    /// kind, mask and proc, nor one keyword of a single kind; each could be made; and there are at most 500. There is nothing to run: who relies on it calls it for its clause.
+    /// States what always holds of a table: its numbers rise from 1 and none is above the last one given; no two binds
+    /// have the same kind, mask and proc, and no two of a single kind the same keyword; `bind` could make each of
+    /// them; and there are at most 500. The call does nothing: it exists for its clause.
     pub fn are_sound(&self)
         ensures { IsSound self.now }
     {
         let _ = &self.held;
     }
 
-    /// Makes a bind, and gives its number.
+    /// Makes the bind of `kind`, `flags`, `mask` and `proc`, and returns its number.
     ///
-    /// The same kind, mask by casemapping and proc byte for byte again gets the new flags, and keeps its number, its
-    /// place and its mask's first spelling. Any other bind stands last under the next number. One of a single kind, msg,
-    /// pub or bot, replaces the one of its kind with an equal keyword. Numbers rise from 1 and are never used again.
+    /// If a bind has the same `kind`, an equal `mask` by casemapping and the same `proc` byte for byte, it gets the
+    /// new `flags` and keeps its number, its place and the first spelling of its mask. Any other bind is appended
+    /// under the next number. A bind of a single kind, msg, pub or bot, replaces the bind of its kind with an equal
+    /// keyword. Numbers rise from 1 and are never used again.
     ///
     /// # Errors
-    /// In this order: `BadFlags` where the flags are no flag expression; `BadMask` where the mask is empty or has more
-    /// than 120 bytes, or holds a space though the kind is single; `BadCron` where the kind is cron and the mask isn't cron
-    /// fields; `Full`, for a bind that is new, where 500 others would stay beside it or the last number, 4,294,967,295, is
-    /// given; `NoMemory` where a growth is refused. None changes the table.
+    /// In this order: `BadFlags` if `flags` is not a flag expression; `BadMask` if `mask` is empty or has more than
+    /// 120 bytes, or has a space though the kind is single; `BadCron` if the kind is cron and `mask` is not cron
+    /// fields; `Full`, for a new bind, if 500 others would remain beside it or the last number, 4,294,967,295, is
+    /// used; `NoMemory` if an allocation fails. No error changes the table.
     pub fn bind(
         &mut self,
         alloc: Global,
@@ -126,7 +128,7 @@ impl BindTable {
         }
     }
 
-    // Makes a bind that isn't refused, and gives its number.
+    // Makes a bind that isn't refused, and returns its number.
     fn make(&mut self, alloc: Global, wish: &Wish) -> Result<u32, NoMemory>
         requires wish { IsWish wish.now }
         requires allowed { later_refusal self.old wish.now.kind wish.now.mask.now wish.now.proc.now ≡ None }
@@ -145,18 +147,18 @@ impl BindTable {
         }
     }
 
-    /// Takes away the bind of this kind, mask by casemapping and proc byte for byte, and gives its number. Takes no
-    /// memory.
+    /// Removes the bind of this `kind`, of this `mask` by casemapping and of this `proc` byte for byte, and returns
+    /// its number. Does not allocate.
     ///
     /// # Errors
-    /// `NoSuchBind` where there is none; the table is as before.
+    /// `NoSuchBind` if there is none; the table is unchanged.
     pub fn unbind(&mut self, kind: BindKind, mask: &[u8], proc: &[u8]) -> Result<u32, BindFault>
         ensures { Unbinds self.old kind mask.now proc.now result self.new }
     {
         take_such(&mut self.held, &mut self.indexes, kind, mask, proc).ok_or(BindFault::NoSuchBind)
     }
 
-    /// The binds that an event calls, oldest first. Takes no memory.
+    /// Returns an iterator over the binds that `event` calls, oldest first. Does not allocate.
     pub fn called<'t, 'e>(&'t self, event: &Event<'e>) -> Called<'t, 'e>
         ensures binds { result ≡ called (seen event.now) self.now.binds }
         ensures meaning { (b : Bind) → (is_called (seen event.now) b ≡ true) ↔ Calls (seen event.now) b }
@@ -166,25 +168,25 @@ impl BindTable {
         Called::of(&self.held, entries, event)
     }
 
-    /// Whether a bind of some kind waits for messages of the server; the others wait for texts of bots and for minutes.
-    /// Takes no memory.
+    /// Returns whether a bind waits for messages of the server. The other kinds wait for texts of bots and for
+    /// minutes. Does not allocate.
     pub fn hears_messages(&self) -> bool
         ensures { result ≡ hear_messages self.now.binds }
     {
         hear_messages(&self.held)
     }
 
-    /// Whether a `time` or `cron` bind waits for minutes. Takes no memory.
+    /// Returns whether a `time` or `cron` bind waits for minutes. Does not allocate.
     pub fn hears_minutes(&self) -> bool
         ensures { result ≡ hear_minutes self.now.binds }
     {
         hear_minutes(&self.held)
     }
 
-    /// The numbers of the binds that an event calls, oldest first.
+    /// Returns the numbers of the binds that `event` calls, oldest first.
     ///
     /// # Errors
-    /// `NoMemory` where room for the list is refused: never where no bind is called.
+    /// `NoMemory` if the list can't be allocated, never if the event calls no bind.
     pub fn find(&self, alloc: Global, event: &Event) -> Result<Seq<u32>, NoMemory>
         ensures numbers { IfOk result (λ numbers. numbers ≡ numbers_of (called (seen event.now) self.now.binds)) }
         ensures memory { IfErr result (λ _. 0 < length (called (seen event.now) self.now.binds)) }
@@ -197,7 +199,7 @@ impl BindTable {
         Ok(numbers)
     }
 
-    /// The bind of a number, if it is held.
+    /// Returns the bind with this `number`, if the table has it.
     pub fn get(&self, number: u32) -> Option<&Bind>
         ensures { option_copied result ≡ bind_of number self.now.binds }
     {
@@ -207,10 +209,10 @@ impl BindTable {
         }
     }
 
-    /// A copy of all binds, oldest first.
+    /// Returns a copy of all binds, oldest first.
     ///
     /// # Errors
-    /// `NoMemory` where room for the copies is refused: never where there is no bind.
+    /// `NoMemory` if the copies can't be allocated, never if there is no bind.
     pub fn list(&self, alloc: Global) -> Result<Binds, NoMemory>
         ensures binds { IfOk result (λ binds. binds ≡ self.now.binds) }
         ensures memory { IfErr result (λ _. 0 < length self.now.binds) }
@@ -218,7 +220,7 @@ impl BindTable {
         Ok(Seq::new(binds_of(alloc, &self.held)?))
     }
 
-    // Why a bind whose flags parse can't be made.
+    // Returns why a bind whose flags parse can't be made.
     #[tactic(auto, unfolding(crate::specs::Tables::later_refusal))]
     fn later_refusal(&self, kind: BindKind, mask: &[u8], proc: &[u8]) -> Option<BindFault>
         ensures { result ≡ later_refusal self.now kind mask.now proc.now }

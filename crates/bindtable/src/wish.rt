@@ -1,4 +1,4 @@
-// A bind that is asked for, and how it is made.
+// A requested bind, and how it is made.
 ghost use Rattle.std.specs.Prelude.{◌≡◌, ℕ, ◌++◌, ◌∷◌, [], map, IfOk, OnOk, OnErr};
 ghost use Rattle.bindtable.specs.Tables.{number_of, with_flags, with_number, without_replaced};
 ghost use Rattle.bindtable.specs.Sound.{AreApart};
@@ -15,7 +15,7 @@ use bytetext::{NoMemory, Text};
 use flagexpr::FlagExpr;
 use std::alloc::Global;
 
-// What a bind is to be, with what its flags say.
+// A requested bind, with its flags parsed.
 #[derive(Drop)]
 pub(crate) struct Wish<'a> {
     pub(crate) kind: BindKind,
@@ -25,7 +25,7 @@ pub(crate) struct Wish<'a> {
     pub(crate) expression: FlagExpr,
 }
 
-// Gives the bind at a place the flags that are asked for, and tells its number.
+// Gives the bind at a place the requested flags, and returns its number.
 pub(crate) fn renew(
     held: &mut Vec<Held>,
     alloc: Global,
@@ -46,7 +46,7 @@ pub(crate) fn renew(
     Ok(one.bind().number)
 }
 
-// Puts the bind that is asked for last, under a number, and takes away the one that it replaces.
+// Appends the requested bind under a number, and removes the bind that it replaces.
 pub(crate) fn add(
     held: &mut Vec<Held>,
     indexes: &mut [KindIndex; KINDS],
@@ -66,7 +66,7 @@ pub(crate) fn add(
     put(held, indexes, alloc, one)
 }
 
-// The bind that is asked for, under a number.
+// Creates the requested bind under a number.
 fn held_of(alloc: Global, wish: &Wish, number: u32) -> Result<Held, NoMemory>
     requires { IsWish wish.now }
     ensures { IfOk result (λ held. held ≡ with_number (asked_of wish.now) number) }

@@ -1,4 +1,4 @@
--- Occasions that were dispatched, against what they come to.
+-- Occasions that were dispatched, and the calls that their rule gives.
 use Rattle.std.specs.Prelude.{◌≡◌, ℕ, Bool, List, ◌++◌, Result, Ok, Err}
 use Rattle.userfile.specs.declared.user.User.{User}
 use Rattle.procstore.specs.declared.call.Call.{Call}
@@ -19,19 +19,19 @@ abbrev pub setting_of : (List ℕ → Call → Code) → List (List ℕ) → Lis
 setting_of code_of names users binds exclusive =
     record { code_of = code_of; names = names; users = users; binds = binds; exclusive = exclusive }
 
--- the same, of the scene that a bot hands in
+-- the same for the scene that a bot passes
 abbrev pub setting_in : {P B : Type 0} → Promised → Scene P B → Setting
 setting_in promised scene =
     setting_of (code_at promised scene.view.now.sight) scene.store.now scene.view.now.sight.records.users scene.binds.now.binds scene.exclusive
 
--- one occasion more was dispatched, and this follows it
+-- one more occasion was dispatched, and this follows it
 abbrev pub AddsOccasion : Promised → Seen → Setting → Made → Bool → Occasion → Next → Made → Type 0
 AddsOccasion promised seen setting old taken occasion next new =
     (before : List Telling) → IsMade promised seen old before
     → IsMade promised seen new (before ++ told setting taken occasion)
     × (next ≡ next_after (kind_for occasion) (told setting taken occasion))
 
--- all occasions were dispatched, or the first calls of them were made before memory ran out
+-- all occasions were dispatched, or memory ran out after the first calls of them
 abbrev pub IsDispatched : Promised → Seen → Setting → List Occasion → Result Made Made → Type 0
 IsDispatched promised seen setting occasions (Ok made) = IsMade promised seen made (told_of setting occasions)
 IsDispatched promised seen setting occasions (Err made) = IsFrontMade promised seen made (told_of setting occasions)

@@ -1,8 +1,8 @@
 -- The calls of occasions, one after another.
 --
--- Each event of a message, each minute and each text of a bot calls the binds of its kind, oldest first; a due timer calls
--- the proc that it names. Where a raw proc answers 1, nothing follows the raw event. With the setting `exclusive`, the first
--- word of a text calls nothing where a proc was called for the whole of that text.
+-- Each event of a message, each minute and each text of a bot calls the binds of its kind, oldest first; a due timer
+-- calls the proc that it names. If a raw proc answers 1, nothing follows the raw event. With the setting `exclusive`,
+-- the first word of a text calls nothing if a proc was called for the whole of that text.
 use Rattle.std.specs.Prelude.{ℕ, None, Bool, true, false, not, ◌&&◌, ◌||◌, if◌then◌else◌, List, [], ◌∷◌, ◌++◌, length, ◌==◌}
 use Rattle.std.specs.List.{list_any}
 use Rattle.userfile.specs.declared.user.User.{User}
@@ -22,7 +22,7 @@ use Rattle.botcalls.specs.Calls.{Entry, Telling, told_proc, told_all, calls_in}
 use Rattle.botcalls.specs.Heard.{Person, kind_of, is_personal, person_of, call_by}
 use Rattle.botcalls.specs.Occasions.{time_seen, cron_seen, said_seen, due_call, time_call, cron_call, said_call, kind_for}
 
--- what calls depend on, beside the occasions
+-- everything that calls depend on, other than the occasions
 pub record Setting : Type 0 where
   -- the code of each answer, by the promise
   pub code_of : List ℕ → Call → Code
@@ -46,7 +46,7 @@ occurrence_of event person =
       bot = person.flags.bot;
     }
 
--- the binds that an event by a person calls, oldest first, and what they come to
+-- the results of the binds that an event by a person calls, oldest first
 abbrev pub told_by_person : Setting → Event → Person → List Telling
 told_by_person setting event person =
     told_all setting.code_of setting.names (call_by person.handle event) (called (occurrence_of event person) setting.binds)
@@ -54,11 +54,11 @@ told_by_person setting event person =
 abbrev pub told_heard : Setting → Event → List Telling
 told_heard setting event = told_by_person setting event (person_of setting.users event)
 
--- the binds that see this, and what they come to with this call
+-- the results of the binds that this event calls, with this call
 abbrev pub told_seen : Setting → Occurrence → Call → List Telling
 told_seen setting seen call = told_all setting.code_of setting.names call (called seen setting.binds)
 
--- the proc of a timer with its text, for no bind
+-- the proc of a timer with its text, without a bind
 abbrev pub told_due : Setting → List ℕ → List ℕ → List Telling
 told_due setting proc text = told_proc setting.code_of setting.names (due_call text) 0 proc ∷ []
 
@@ -71,7 +71,7 @@ told_alone setting (Said from text) = told_seen setting (said_seen text) (said_c
 
 -- ---- one occasion after another
 
--- kinds that go by a text's first word, those that go by its whole, and raw ones
+-- kinds that depend on a text's first word, kinds that depend on its whole, and raw ones
 abbrev pub is_word : Kind → Bool
 is_word Msg = true
 is_word Pub = true
@@ -94,11 +94,12 @@ is_one One = true
 abbrev pub has_one : List Entry → Bool
 has_one calls = list_any (λ e. is_one e.code) calls
 
--- an occasion, where the whole of its text is taken or not: the occasion before it was for the whole text, and gave a call
+-- an occasion, given whether the whole of its text is taken: the occasion before it was for the whole text and made a
+-- call
 abbrev pub told : Setting → Bool → Occasion → List Telling
 told setting taken occasion = if setting.exclusive && (taken && is_word (kind_for occasion)) then [] else told_alone setting occasion
 
--- what follows an occasion that came to these calls
+-- what follows an occasion with these calls
 abbrev pub next_of : Kind → List Entry → Next
 next_of kind calls = if is_raw kind && has_one calls then Stop else Go (is_whole kind && not (length calls == 0))
 
@@ -110,13 +111,13 @@ told_from setting next [] = []
 told_from setting Stop (o ∷ os) = []
 told_from setting (Go taken) (o ∷ os) = told setting taken o ++ told_from setting (next_after (kind_for o) (told setting taken o)) os
 
--- what all occasions come to
+-- the results of all occasions
 abbrev pub told_of : Setting → List Occasion → List Telling
 told_of setting occasions = told_from setting (Go false) occasions
 
 -- ---- memory
 
--- whether calling the procs of an occasion takes memory: each does but an event by nobody that calls none
+-- whether calling the procs of an occasion allocates: all do but an event by nobody that calls none
 abbrev pub takes_memory : Setting → Occasion → Bool
 takes_memory setting (Heard event) = is_personal event.kind || not (length (told_heard setting event) == 0)
 takes_memory setting (Due proc text) = true
@@ -134,12 +135,12 @@ is_silencing Notc = true
 is_silencing Pubm = true
 is_silencing other = false
 
--- whether a line of these calls is logged
+-- whether a line with these calls is logged
 abbrev pub is_logged : List Entry → Bool
 is_logged calls = not (list_any (λ e. is_silencing e.call.kind && is_one e.code) calls)
 
 -- ---- what follows a line
 
--- whether a raw call has code 1, after which the line is not taken into the channel state
+-- whether a raw call has code 1, after which the line is not applied to the channel state
 abbrev pub has_raw_one : List Entry → Bool
 has_raw_one calls = list_any (λ e. is_raw e.call.kind && is_one e.code) calls

@@ -47,7 +47,7 @@ is_personal nick_event = true
 is_personal mode_event = true
 is_personal topc_event = true
 
--- a text of a list, and the empty one where there is none
+-- a text of a list, or the empty text if there is none
 abbrev pub text_at : List (List ℕ) → ℕ → List ℕ
 text_at texts place = unwrap_or (slice_get texts place) []
 
@@ -59,12 +59,12 @@ who_of arguments = text_at arguments 0 ++ 33 ∷ text_at arguments 1
 abbrev pub with_handle : List ℕ → List (List ℕ) → List (List ℕ)
 with_handle handle arguments = if nat_le 2 (length arguments) then insert arguments 2 handle else arguments
 
--- the flags of a handle where an event is on this channel, or on none
+-- the flags of a handle for an event on this channel, or on none
 abbrev pub flags_on : List User → List ℕ → Option (List ℕ) → PersonFlags
 flags_on users handle None = record (flags_of users handle []) { chan = 0 }
 flags_on users handle (Some channel) = flags_of users handle channel
 
--- whom an event is by, as far as the userfile knows; a raw event is by nobody
+-- the person behind an event, as far as the userfile knows; a raw event is by nobody
 pub record Person : Type 0 where
   pub handle : List ℕ
   pub flags : PersonFlags
@@ -82,7 +82,7 @@ person_if true users event = person_by users (handle_of users (who_of event.argu
 abbrev pub person_of : List User → Event → Person
 person_of users event = person_if (is_personal event.kind) users event
 
--- what procs are called with
+-- the arguments of a call
 abbrev pub arguments_if : Bool → List ℕ → List (List ℕ) → List (List ℕ)
 arguments_if false handle arguments = arguments
 arguments_if true handle arguments = with_handle handle arguments

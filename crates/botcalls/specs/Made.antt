@@ -1,4 +1,4 @@
--- Calls that were made, against those that are defined.
+-- The calls that were made, and the calls that the rule gives.
 use Rattle.std.specs.Prelude.{◌≡◌, List, [], ◌∷◌, ◌++◌, map}
 use Rattle.procstore.specs.Seen.{Seen}
 use Rattle.procstore.specs.Promises.{Promised, IsKept}
@@ -19,20 +19,20 @@ abbrev pub AllKept : Promised → Seen → List MadeCall → Type 0
 AllKept promised seen [] = Unit {0}
 AllKept promised seen (m ∷ ms) = IsKept promised m.proc m.call seen m.reply × AllKept promised seen ms
 
--- what was made is just this, and each reply keeps its promise
+-- exactly these calls were made, and each reply keeps its promise
 pub record IsMade (promised : Promised) (seen : Seen) (made : Made) (tellings : List Telling) : Type 0 where
   pub calls : map entry_of made.calls ≡ calls_in tellings
   pub unbound : made.unbound ≡ unbound_in tellings
   pub kept : AllKept promised seen made.calls
 
--- what was made is the first of this
+-- the first of these calls were made
 abbrev pub IsFrontMade : Promised → Seen → Made → List Telling → Type 0
 IsFrontMade promised seen made tellings = (front rest : List Telling) × (tellings ≡ front ++ rest) × IsMade promised seen made front
 
--- whatever was made before, now this was made too
+-- after what was made before, these calls were made too
 abbrev pub Adds : Promised → Seen → Made → List Telling → Made → Type 0
 Adds promised seen old part new = (before : List Telling) → IsMade promised seen old before → IsMade promised seen new (before ++ part)
 
--- or the first of it
+-- or the first of them were
 abbrev pub AddsFront : Promised → Seen → Made → List Telling → Made → Type 0
 AddsFront promised seen old part new = (before : List Telling) → IsMade promised seen old before → IsFrontMade promised seen new (before ++ part)

@@ -14,23 +14,23 @@ use Rattle.botcalls.specs.declared.occasion.Occasion.{Occasion}
 use Rattle.botcalls.specs.declared.occasion.Occasion.TheVariants.{Heard, Due, Time, Cron, Said}
 use Rattle.botcalls.specs.Heard.{kind_of}
 
--- ---- what binds see of those that are by nobody
+-- ---- what binds see of occasions that are by nobody
 
 abbrev pub by_nobody : BindKind → List ℕ → Option CivilMinute → Occurrence
 by_nobody kind subject minute = record { kind = kind; subject = subject; minute = minute; global = 0; channel = 0; bot = 0 }
 
--- a time bind goes by the time text, and a cron bind by the minute
+-- a time bind matches the time text, and a cron bind the minute
 abbrev pub time_seen : CivilMinute → Occurrence
 time_seen minute = by_nobody time_bind (time_line minute) None
 
 abbrev pub cron_seen : CivilMinute → Occurrence
 cron_seen minute = by_nobody cron_bind [] (Some minute)
 
--- a bot bind goes by the first word
+-- a bot bind matches the first word
 abbrev pub said_seen : List ℕ → Occurrence
 said_seen text = by_nobody bot_bind (first_word text) None
 
--- ---- what procs are called with
+-- ---- the calls of procs
 
 abbrev pub due_call : List ℕ → Call
 due_call text = record { kind = timer_call; args = text ∷ [] }
@@ -45,7 +45,7 @@ cron_call minute = record { kind = cron_kind; args = cron_words minute }
 abbrev pub bot_name : ℕ → List ℕ
 bot_name number = if number == 0 then codes "hub" else codes "leaf" ++ decimal number
 
--- who says it, the first word, and what stands behind it and the spaces after it
+-- the bot that says it, the first word, and what follows it and the spaces after it
 abbrev pub said_call : ℕ → List ℕ → Call
 said_call from text = record { kind = bot_kind; args = bot_name from ∷ first_word text ∷ after_word text ∷ [] }
 

@@ -1,4 +1,4 @@
-// Calling the procs that occasions call.
+// Calls the procs of occasions.
 ghost use Rattle.std.specs.Prelude.{◌≡◌, ◌&&◌, true, OnErr};
 ghost use Rattle.std.specs.List.{list_any};
 ghost use Rattle.bindtable.specs.Calls.{seen};
@@ -22,8 +22,8 @@ use procstore::{Call, CallFault, Kind, Promise, Run};
 use std::alloc::Global;
 use std::marker::Model;
 
-/// The calls that were made for some occasions, and the binds and timers that were left out since the store lacks their
-/// procs: one stands there once for each occasion that calls it. Contracts see the two lists, each in order.
+/// The calls that were made for a list of occasions, and the binds and timers that were left out because the store
+/// lacks their procs. A bind appears once for each occasion that calls it. Contracts see the two lists, each in order.
 #[derive(Drop)]
 pub struct Dispatch {
     calls: Vec<MadeCall>,
@@ -49,7 +49,7 @@ impl Dispatch {
     ghost use Rattle.botcalls.specs.Dispatching.{told, told_alone, told_heard, told_seen, told_due, takes_memory};
     ghost use Rattle.botcalls.specs.Dispatched.{setting_in, AddsOccasion};
 
-    /// No call, and no bind left out. Takes no memory.
+    /// Creates a dispatch without calls and without left-out binds. Does not allocate.
     pub fn new(alloc: Global) -> Dispatch
         ensures { result ≡ record { calls = []; unbound = [] } }
     {
@@ -59,7 +59,7 @@ impl Dispatch {
         }
     }
 
-    /// The calls and the binds, each in order. Takes no memory.
+    /// Returns the calls and the left-out binds, each in order. Does not allocate.
     pub fn into_parts(self) -> (MadeCalls, Vec<Unbound>)
         ensures calls { result.0 ≡ self.calls }
         ensures unbound { result.1.items ≡ self.unbound }
@@ -67,7 +67,7 @@ impl Dispatch {
         (Seq::new(self.calls), self.unbound)
     }
 
-    // Calls a proc for the bind of this number, or notes that the store lacks it.
+    // Calls a proc for the bind `number`, or records that the store lacks it.
     fn call_proc<P: Promise, B: Run>(
         &mut self,
         alloc: Global,
@@ -80,7 +80,7 @@ impl Dispatch {
             (told_proc (code_at P.promised scene.now.view.now.sight) scene.now.store.now call.now number name.now ∷ []) self.new) }
         ensures err { OnErr result (self.new ≡ self.old) }
     {
-        // Room for the call is made before it, so that each call that is made is told.
+        // Reserves room first, so that every call that is made is recorded.
         self.calls.reserve(1)?;
         let proc = name.copy(alloc)?;
         let call_copy = call.copy(alloc)?;
@@ -121,7 +121,7 @@ impl Dispatch {
         Ok(())
     }
 
-    // Calls the proc of a bind, and then those of the binds that follow it.
+    // Calls the proc of a bind, and then the procs of the binds that follow it.
     fn call_first<P: Promise, B: Run>(
         &mut self,
         alloc: Global,
@@ -145,7 +145,7 @@ impl Dispatch {
         }
     }
 
-    // Calls the procs of the binds that see this.
+    // Calls the procs of the binds that this event calls.
     fn call_seen<P: Promise, B: Run>(
         &mut self,
         alloc: Global,
@@ -348,7 +348,7 @@ impl Dispatch {
         }
     }
 
-    // Calls the procs of an occasion whose text may be taken already, and says what follows it.
+    // Calls the procs of an occasion whose text may be taken already, and returns what follows it.
     fn call_occasion<P: Promise, B: Run>(
         &mut self,
         alloc: Global,
@@ -372,14 +372,14 @@ impl Dispatch {
         }
     }
 
-    // How many calls have been made.
+    // Returns the number of calls so far.
     fn call_count(&self) -> usize
         ensures { result ≡ length self.now.calls }
     {
         self.calls.len()
     }
 
-    // The calls after so many.
+    // Returns the calls after the first `count`.
     fn calls_since(&self, count: usize) -> &[MadeCall]
         ensures { result.now ≡ drop count self.now.calls }
     {
@@ -390,16 +390,16 @@ impl Dispatch {
     }
 }
 
-/// Calls the procs that occasions call.
+/// Calls the procs of `occasions`, in order, as `scene` shows them.
 ///
-/// Each calls the binds of its kind whose mask and flags let it, oldest first; a due timer calls its proc with its text.
-/// Each proc sees the scene's view. Where a raw proc answers 1, nothing follows the raw event. Where the scene is exclusive,
-/// the first word of a text calls nothing once a proc was called for the whole of that text. A bind or timer whose proc is
-/// not in the store is left out and told.
+/// An occasion calls the binds of its kind whose mask and flags allow it, oldest first; a due timer calls its proc
+/// with its text. Each proc sees the scene's view. If a raw proc answers 1, nothing follows the raw event. If the
+/// scene is exclusive, the first word of a text calls nothing once a proc was called for the whole of that text. If
+/// the store lacks the proc of a bind or timer, the dispatch lists it as left out.
 ///
 /// # Errors
-/// An error has the calls that were made before memory ran out: they are the first of those that would be made. None comes
-/// where all occasions are events by nobody that no bind sees.
+/// Out of memory, the error has the calls that were made before: the first of all calls that were due. There is no
+/// error if all occasions are events by nobody that call no bind.
 pub fn call_procs<P: Promise, B: Run>(
     alloc: Global,
     scene: &Scene<'_, P, B>,
@@ -431,14 +431,14 @@ pub fn call_procs<P: Promise, B: Run>(
     Ok(made)
 }
 
-// Whether an occasion of this kind calls nothing, since a proc was called for the whole of its text.
+// Whether an occasion of this kind calls nothing because a proc was called for the whole of its text.
 fn is_silent(exclusive: bool, taken: bool, kind: Kind) -> bool
     ensures { result ≡ (exclusive && (taken && is_word kind)) }
 {
     exclusive && taken && is_word(kind)
 }
 
-// What binds see of an occasion that is by nobody.
+// Returns what binds see of an occasion that is by nobody.
 fn by_nobody<'a>(kind: BindKind, subject: &'a [u8], minute: Option<CivilMinute>) -> Occurrence<'a>
     ensures { seen result ≡ by_nobody kind subject.now minute }
 {

@@ -11,15 +11,15 @@ use procstore::Call;
 use std::alloc::Global;
 use userfile::PersonFlags;
 
-// Whom an event is by, as far as the userfile knows.
+// The person behind an event, as far as the userfile knows.
 #[derive(Clone, Copy)]
 pub(crate) struct Person<'a> {
-    // Empty where it is by nobody.
+    // Empty if the event is by nobody.
     pub(crate) handle: &'a [u8],
     pub(crate) flags: PersonFlags,
 }
 
-// The kind under which binds know an event.
+// Returns the kind under which binds know an event.
 pub(crate) fn kind_of(kind: EventKind) -> BindKind
     ensures { result ≡ kind_of kind }
 {
@@ -61,7 +61,7 @@ fn is_personal(kind: EventKind) -> bool
     }
 }
 
-// Whom an event is by.
+// Returns the person behind an event.
 pub(crate) fn person_of<'a>(
     alloc: Global,
     people: &mut People<'a>,
@@ -82,7 +82,7 @@ pub(crate) fn person_of<'a>(
     Ok(Person { handle, flags })
 }
 
-// By nobody.
+// Returns nobody.
 fn nobody<'a>() -> Person<'a>
     ensures handle { result.handle.now ≡ [] }
     ensures flags { result.flags ≡ record { global = 0; chan = 0; bot = 0 } }
@@ -95,7 +95,7 @@ fn nobody<'a>() -> Person<'a>
     Person { handle: b"", flags }
 }
 
-// A text of a list, and the empty one where there is none.
+// Returns a text of a list, or the empty text if there is none.
 fn text_at(texts: &[Text], place: usize) -> &[u8]
     ensures { result.now ≡ text_at texts.now place }
 {
@@ -105,7 +105,7 @@ fn text_at(texts: &[Text], place: usize) -> &[u8]
     }
 }
 
-// The person of these arguments, as hostmasks match one.
+// Returns the person in these arguments, as hostmasks match one.
 fn who_of(alloc: Global, arguments: &[Text]) -> Result<Text, NoMemory>
     ensures { IfOk result (λ who. who ≡ who_of arguments.now) }
 {
@@ -115,7 +115,7 @@ fn who_of(alloc: Global, arguments: &[Text]) -> Result<Text, NoMemory>
     Ok(Text::new(who))
 }
 
-// What procs are called with for an event by this handle.
+// Returns the call of procs for an event by this handle.
 pub(crate) fn call_by(alloc: Global, handle: &[u8], event: &Event) -> Result<Call, NoMemory>
     ensures { IfOk result (λ call. call ≡ call_by handle.now event.now) }
 {

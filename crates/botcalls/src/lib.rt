@@ -1,10 +1,10 @@
 //! Which procs a bot calls, with what, and in what order.
 //!
-//! What calls procs is an [`Occasion`]: an event of a message, a due timer, a minute that begins, a text of another bot.
-//! [`call_procs`] calls those that a list of occasions calls, one after another, and gives the calls that it made and the
-//! binds that it left out, as a [`Dispatch`]. What it may call is stated in `specs/Dispatching.antt`: each bind of the
-//! occasion's kind whose mask and flags let it, oldest first. What a proc is called with is in `specs/Occasions.antt` and,
-//! for messages, in `specs/Heard.antt`. All procs see what the [`Scene`] shows of their bot.
+//! An [`Occasion`] calls procs: an event of a message, a due timer, a minute that begins, or a text of another bot.
+//! [`call_procs`] calls the procs of a list of occasions, one after another. It returns a [`Dispatch`], the calls that
+//! it made and the binds that it left out. `specs/Dispatching.antt` defines what it calls: each bind of the occasion's
+//! kind whose mask and flags allow it, oldest first. `specs/Occasions.antt` and, for messages, `specs/Heard.antt`
+//! define the arguments of a proc. All procs see what the [`Scene`] shows of their bot.
 //!
 //! ```text
 //! let view = View::new(&userfile, &channels, Some(1_000_000_000));

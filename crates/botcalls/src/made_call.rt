@@ -3,20 +3,20 @@ use bytetext::{NoMemory, Seq, Text, TryCopy};
 use procstore::{Call, Reply};
 use std::alloc::Global;
 
-/// A call that was made, and what it answered.
+/// A call that was made, and its reply.
 #[derive(Debug)]
 pub struct MadeCall {
-    /// The number of the bind that it was made for; 0 where a timer was due.
+    /// The number of the bind; 0 for a due timer.
     pub bind: u32,
     /// The name of the proc.
     pub proc: Text,
-    /// What the proc was called with.
+    /// The kind and the arguments of the call.
     pub call: Call,
-    /// What it answered.
+    /// The proc's reply.
     pub reply: Reply,
 }
 
-// By hand, so that this is proved once, and not in each function in which one ends.
+// Written by hand, so that it is proved once and not in each function that drops one.
 impl Drop for MadeCall {
     fn drop(self) {
         let MadeCall {
@@ -45,16 +45,16 @@ impl TryCopy for MadeCall {
     }
 }
 
-/// A bind or a due timer that calls, whose proc is not in the store.
+/// A bind or a due timer that was left out because the store lacks its proc.
 #[derive(Debug)]
 pub struct Unbound {
-    /// The number of the bind; 0 where a timer was due.
+    /// The number of the bind; 0 for a due timer.
     pub bind: u32,
     /// The name of the proc.
     pub proc: Text,
 }
 
-// By hand, so that this is proved once, and not in each function in which one ends.
+// Written by hand, so that it is proved once and not in each function that drops one.
 impl Drop for Unbound {
     fn drop(self) {
         let Unbound { bind: _, proc: _ } = self;

@@ -15,12 +15,12 @@ pub(crate) enum Next {
     Stop,
     // The next occasion.
     Go {
-        // Whether a proc was called for the whole of a text, which its first word may follow.
+        // Whether a proc was called for the whole of a text. The text's first word may be the next occasion.
         taken: bool,
     },
 }
 
-// What follows an occasion of this kind and these calls.
+// Returns what follows an occasion of this kind and these calls.
 #[tactic(auto, using(crate::proofs::NextLemmas::has_one_entries, crate::proofs::NextLemmas::length_entries))]
 pub(crate) fn next_of(kind: Kind, calls: &[MadeCall]) -> Next
     ensures { result ≡ next_of kind (map entry_of calls.now) }
@@ -61,14 +61,14 @@ fn is_whole(kind: Kind) -> bool
     matches!(kind, Kind::Msgm | Kind::Pubm)
 }
 
-// Whether a kind goes by a text's first word.
+// Whether a kind depends on a text's first word.
 pub(crate) fn is_word(kind: Kind) -> bool
     ensures { result ≡ is_word kind }
 {
     matches!(kind, Kind::Msg | Kind::Pub)
 }
 
-/// Whether a raw call has code 1, after which a line is not taken into the channel state.
+/// Returns whether one of `calls` is a raw call with code 1. After it a line is not applied to the channel state.
 #[tactic(auto, using(crate::proofs::NextLemmas::has_raw_one_entries))]
 pub fn has_raw_one(calls: &[MadeCall]) -> bool
     ensures { result ≡ has_raw_one (map entry_of calls.now) }
@@ -84,7 +84,7 @@ fn any_raw_one(calls: &[MadeCall]) -> bool
         .any(|made| is_raw(made.call.kind) && is_one(made.reply.code))
 }
 
-/// Whether a line of these calls is logged: no call of a raw, msgm, notc or pubm bind answered 1.
+/// Returns whether a line with these `calls` is logged: no call of a raw, msgm, notc or pubm bind answered 1.
 #[tactic(auto, using(crate::proofs::NextLemmas::is_logged_entries))]
 pub fn is_logged(calls: &[MadeCall]) -> bool
     ensures { result ≡ is_logged (map entry_of calls.now) }

@@ -1,4 +1,4 @@
-// What calls procs.
+// The occasions on which procs are called.
 ghost use Rattle.std.specs.Prelude.{◌≡◌, IfOk};
 ghost use Rattle.botcalls.specs.Occasions.{due_call, time_call, cron_call, said_call};
 
@@ -10,7 +10,7 @@ use chanstate::Event;
 use procstore::{Call, Kind};
 use std::alloc::Global;
 
-/// What calls procs.
+/// An occasion on which procs are called.
 #[derive(Drop)]
 pub enum Occasion {
     /// An event of a message.
@@ -26,9 +26,9 @@ pub enum Occasion {
     Time(CivilMinute),
     /// A minute begins, for cron binds.
     Cron(CivilMinute),
-    /// A bot tells this one a text.
+    /// Another bot sends this bot a text.
     Said {
-        /// The number of the bot that tells it.
+        /// The number of the bot that sends it.
         from: u16,
         /// The text.
         text: Text,
@@ -39,7 +39,7 @@ impl Occasion {
     ghost use Rattle.std.specs.Prelude.{◌≡◌};
     ghost use Rattle.botcalls.specs.Occasions.{kind_for};
 
-    // What procs are called for.
+    // Returns the kind of the calls.
     pub(crate) fn kind(&self) -> Kind
         ensures { result ≡ kind_for self.now }
     {
@@ -53,7 +53,7 @@ impl Occasion {
     }
 }
 
-// What a due timer of this text calls its proc with.
+// Returns the call of a due timer's proc with this text.
 pub(crate) fn due_call(alloc: Global, text: &Text) -> Result<Call, NoMemory>
     ensures { IfOk result (λ call. call ≡ due_call text.now) }
 {
@@ -64,7 +64,7 @@ pub(crate) fn due_call(alloc: Global, text: &Text) -> Result<Call, NoMemory>
     })
 }
 
-// What time binds call their procs with.
+// Returns the call of the procs of time binds.
 pub(crate) fn time_call(alloc: Global, minute: &CivilMinute) -> Result<Call, NoMemory>
     ensures { IfOk result (λ call. call ≡ time_call minute.now) }
 {
@@ -74,7 +74,7 @@ pub(crate) fn time_call(alloc: Global, minute: &CivilMinute) -> Result<Call, NoM
     })
 }
 
-// What cron binds call their procs with.
+// Returns the call of the procs of cron binds.
 pub(crate) fn cron_call(alloc: Global, minute: &CivilMinute) -> Result<Call, NoMemory>
     ensures { IfOk result (λ call. call ≡ cron_call minute.now) }
 {
@@ -84,7 +84,7 @@ pub(crate) fn cron_call(alloc: Global, minute: &CivilMinute) -> Result<Call, NoM
     })
 }
 
-// What bot binds call their procs with.
+// Returns the call of the procs of bot binds.
 pub(crate) fn said_call(alloc: Global, from: u16, text: &[u8]) -> Result<Call, NoMemory>
     ensures { IfOk result (λ call. call ≡ said_call from text.now) }
 {

@@ -1,18 +1,20 @@
-// Who people are. The events of one line are by one person, who is looked up once for them all: pubm and pub of what is
-// said on a channel, a sign for each channel of one who quits.
+// Looks people up.
+//
+// The events of one line are all by one person, who is looked up once: pubm and pub of a channel message, or a sign
+// for each channel of a person who quits.
 use bytetext::Text;
 use flagexpr::Flags;
 use std::marker::Model;
 use userfile::{PersonFlags, Userfile};
 
-// The users of a scene, and the person who was looked up last among them. Contracts see the users.
+// The users of a scene, and the person who was looked up last. Contracts see the users.
 #[derive(Drop)]
 pub(crate) struct People<'a> {
     userfile: &'a Userfile,
     last: Option<Known<'a>>,
 }
 
-// A person, written as `nick!user@host`, and the handle.
+// A person, written as `nick!user@host`, and the person's handle.
 #[derive(Drop)]
 struct Known<'a> {
     who: Text,
@@ -37,7 +39,7 @@ impl<'a> People<'a> {
     ghost use Rattle.userfile.specs.Persons.{handle_of};
     ghost use Rattle.botcalls.specs.Heard.{flags_on};
 
-    // These users, of whom none was looked up yet. Takes no memory.
+    // Starts with these users and nobody looked up. Does not allocate.
     pub(crate) fn new(userfile: &'a Userfile) -> People<'a>
         ensures { result ≡ userfile.now.users }
     {
@@ -47,7 +49,7 @@ impl<'a> People<'a> {
         }
     }
 
-    // The handle of a person, written as `nick!user@host`.
+    // Returns the handle of a person, written as `nick!user@host`.
     pub(crate) fn handle_of(&mut self, who: Text) -> &'a [u8]
         ensures handle { result.now ≡ handle_of self.old who }
         ensures users { self.new ≡ self.old }
@@ -58,7 +60,7 @@ impl<'a> People<'a> {
         }
     }
 
-    // The handle of a person, if it is the one who was looked up last.
+    // Returns the handle of a person, if this person was looked up last.
     fn known(&self, who: &[u8]) -> Option<&'a [u8]>
         ensures { IfSome result (λ handle. handle.now ≡ handle_of self.now who.now) }
     {
@@ -78,7 +80,7 @@ impl<'a> People<'a> {
         handle
     }
 
-    // The flags of a handle where an event is on this channel, or on none.
+    // Returns the flags of a handle for an event on this channel, or on none.
     pub(crate) fn flags_on(&self, handle: &[u8], channel: Option<&[u8]>) -> PersonFlags
         ensures { result ≡ flags_on self.now handle.now (option_copied channel.entry) }
     {

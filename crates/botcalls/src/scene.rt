@@ -2,15 +2,15 @@
 use bindtable::BindTable;
 use procstore::{ProcStore, Promise, Run, View};
 
-/// What the calls for occasions depend on, beside the occasions.
+/// Everything that calls depend on, other than the occasions.
 #[derive(Drop)]
 pub struct Scene<'a, P: Promise, B: Run> {
     /// The procs.
     pub store: &'a ProcStore<P, B>,
     /// The binds.
     pub binds: &'a BindTable,
-    /// What the procs see of their bot. People have the flags of its userfile.
+    /// What the procs see of their bot. People have the flags that its userfile gives.
     pub view: &'a View<'a>,
-    /// Whether a text for which a `msgm` or `pubm` proc was called is no event for `msg` or `pub` binds.
+    /// Whether a text for which a `msgm` or `pubm` proc was called is not an event for `msg` or `pub` binds.
     pub exclusive: bool,
 }

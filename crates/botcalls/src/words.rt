@@ -7,7 +7,7 @@ use bytetext::{NoMemory, Text};
 use itoa::Buffer;
 use std::alloc::Global;
 
-// How long the first word is.
+// Returns the length of the first word.
 fn count_word(text: &[u8]) -> usize
     ensures value { result ≡ word_len text.now }
     ensures within { result ≤ length text.now }
@@ -19,7 +19,7 @@ fn count_word(text: &[u8]) -> usize
     count
 }
 
-// How many spaces stand in front.
+// Counts the spaces in front.
 fn count_spaces(text: &[u8]) -> usize
     ensures value { result ≡ spaces_len text.now }
     ensures within { result ≤ length text.now }
@@ -31,14 +31,14 @@ fn count_spaces(text: &[u8]) -> usize
     count
 }
 
-// The first word: empty where the text begins with a space.
+// Returns the first word, which is empty if the text begins with a space.
 pub(crate) fn first_word(text: &[u8]) -> &[u8]
     ensures { result.now ≡ first_word text.now }
 {
     &text[..count_word(text)]
 }
 
-// What follows the first word and the spaces after it.
+// Returns what follows the first word and the spaces after it.
 pub(crate) fn after_word(text: &[u8]) -> &[u8]
     ensures { result.now ≡ after_word text.now }
 {
@@ -46,14 +46,14 @@ pub(crate) fn after_word(text: &[u8]) -> &[u8]
     &rest[count_spaces(rest)..]
 }
 
-/// Whether a text begins with a word: it isn't empty, and begins with no space.
+/// Returns whether `text` begins with a word: it isn't empty and doesn't begin with a space.
 pub fn starts_with_word(text: &[u8]) -> bool
     ensures { result ≡ not (length (first_word text.now) == 0) }
 {
     !first_word(text).is_empty()
 }
 
-// The name of the bot of this number: bot 0 is the hub.
+// Returns the name of the bot `number`: bot 0 is the hub.
 pub(crate) fn bot_name(alloc: Global, number: u16) -> Result<Text, NoMemory>
     ensures { IfOk result (λ name. name ≡ bot_name number) }
 {

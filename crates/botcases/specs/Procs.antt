@@ -1,4 +1,4 @@
--- What the procs of a case answer.
+-- The codes that the procs of a case answer.
 use Rattle.std.specs.Prelude.{ℕ, List, codes, if◌then◌else◌}
 use Rattle.std.specs.Str.{bytes_eq}
 use Rattle.procstore.specs.declared.reply.Code.{Code}

@@ -1,4 +1,4 @@
-// What one bot may be told before it is made, and what its steps call.
+// Whether a configuration makes a bot, and what a bot's steps call.
 ghost use Rattle.std.specs.Prelude.{IfOk};
 ghost use Rattle.botcore.specs.Steps.{IsGoodEvent};
 
@@ -14,7 +14,8 @@ use ircline::read_line;
 use procstore::{Code, Kind, ProcStore};
 use std::alloc::Global;
 
-/// `config NICK LEAVES NUMBER ZONE CHANNEL..`: `ok`, or the code of why no bot can be made so.
+/// Answers `config NICK LEAVES NUMBER ZONE CHANNEL..`: `ok`, or the code of why no bot can be made so. `words` are
+/// those after `config`.
 pub fn config(alloc: Global, words: &[Text], out: &mut Sink) -> Result<(), CaseError> {
     let [nick, leaves, own, zone, channels @ ..] = words else {
         return Err(BAD_WORDS);
@@ -34,7 +35,7 @@ pub fn config(alloc: Global, words: &[Text], out: &mut Sink) -> Result<(), CaseE
     Ok(())
 }
 
-// A bot of this configuration, over two disks in memory.
+// Creates a bot of `config`, over two disks in memory.
 fn new_bot(alloc: Global, config: Config) -> Result<Bot<MemDisk>, BotError> {
     match Bot::create(alloc, config, MemDisk::new(alloc), MemDisk::new(alloc)) {
         Ok(bot) => Ok(bot),
@@ -60,11 +61,16 @@ fn config_of(
     })
 }
 
-/// `bot NUMBER EXCLUSIVE STEP..`: what each step of a bot named `egg` answers, 0 for the hub and 1 for its leaf, with ` ; `
-/// between. EXCLUSIVE is `all` or `exclusive`. A step is one word: `bind KIND FLAGS PROC MASK` answers the bind's number,
-/// `connect`, `line TEXT` and `clock MOMENT` each call as `BIND PROC KIND 'ARGUMENT'.. CODE`, each line that is sent as `out
-/// 'LINE'`, each fault, and `logged` or `not logged`; the code of a refusal where one stands against the step. `runs` answers
-/// how often the procs have run.
+/// Answers `bot NUMBER EXCLUSIVE STEP..`: what each step of a bot named `egg` answers, with ` ; ` between. `words` are
+/// those after `bot`.
+///
+/// The bot is the hub if NUMBER is 0, and its leaf if it is 1. EXCLUSIVE is `all` or `exclusive`. A step is one word:
+/// - `bind KIND FLAGS PROC MASK` answers the bind's number;
+/// - `connect`, `line TEXT` and `clock MOMENT` answer each call as `BIND PROC KIND 'ARGUMENT'.. CODE`, then each line
+///   that is sent as `out 'LINE'`, then each fault, and then `logged` or `not logged`;
+/// - `runs` answers how often the procs have run.
+///
+/// A step that is refused answers the refusal's code.
 pub fn bot(alloc: Global, words: &[Text], out: &mut Sink) -> Result<(), CaseError> {
     let [own, exclusive, steps @ ..] = words else {
         return Err(BAD_WORDS);
@@ -106,7 +112,7 @@ fn take_all(
     Ok(())
 }
 
-/// The bot `egg` of this number, for no channel.
+/// Creates the bot `egg` of this `number`, with no channels; `exclusive` is the word `all` or `exclusive`.
 pub fn bot_of(alloc: Global, number: u16, exclusive: &[u8]) -> Result<Bot<MemDisk>, CaseError> {
     let config = Config {
         number,

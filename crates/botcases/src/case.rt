@@ -1,10 +1,10 @@
-// What a case asks for.
+// Which module answers a case.
 use crate::{bots, drives, hubs, inboxes, lives, packets, scripts};
 use bytetext::Text;
 use caselines::{CaseError, NO_SUCH_CASE, Sink};
 use std::net::Net;
 
-/// Writes the answer to a case of these words.
+/// Writes the answer to the case of these `words` to `out`.
 pub fn answer<R: Net + AllocGlobal>(
     rt: &R,
     words: &[Text],

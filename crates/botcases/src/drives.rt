@@ -1,4 +1,4 @@
-// What a bot does with a stream of a server.
+// What a bot does with a server's stream.
 ghost use Rattle.std.specs.Prelude.{◌<◌, IfOk};
 ghost use Rattle.bytetext.specs.declared.moment.TheConstants.{MOMENTS_END};
 
@@ -15,9 +15,12 @@ use std::io;
 use std::io::{ErrorKind, Read, Write};
 use streams::Duplex;
 
-/// `drive MOMENT MOST AFTER ROOM STREAM`: how driving the bot `egg` ends that reads STREAM, at most MOST bytes a read, where
-/// its clock shows MOMENT; what it wrote, and how many reads it made. After the stream there is its `end`, `wait`, where a
-/// read would block, `fault`, or `again`, the same stream once more. The writer takes ROOM bytes and no more.
+/// Answers `drive MOMENT MOST AFTER ROOM STREAM`: how driving the bot `egg` ends, what it wrote, and how many reads it
+/// made. `words` are those after `drive`.
+///
+/// The bot reads STREAM, at most MOST bytes a read, and its clock shows MOMENT. AFTER says what follows the stream: its
+/// `end`; `wait`, a read that would block; `fault`; or `again`, the same stream once more. The writer takes ROOM bytes
+/// and no more.
 pub fn drive_case(alloc: Global, words: &[Text], out: &mut Sink) -> Result<(), CaseError> {
     let [moment, most, after, room, stream] = words else {
         return Err(BAD_WORDS);
@@ -42,7 +45,7 @@ pub fn drive_case(alloc: Global, words: &[Text], out: &mut Sink) -> Result<(), C
     Ok(())
 }
 
-// How driving a bot ends.
+// Drives a new bot, and returns the word for how that ends.
 fn driven(
     alloc: Global,
     moment: u64,
@@ -82,7 +85,7 @@ fn end_word(end: DriveEnd) -> Result<&'static [u8], CaseError> {
     }
 }
 
-// A moment that a clock may show.
+// Reads a moment that a clock may show.
 fn moment_of(word: &[u8]) -> Result<u64, CaseError>
     ensures { IfOk result (λ moment. moment < MOMENTS_END) }
 {
@@ -93,7 +96,7 @@ fn moment_of(word: &[u8]) -> Result<u64, CaseError>
     Ok(moment)
 }
 
-// What comes after a stream.
+// What follows a stream.
 #[derive(Clone, Copy)]
 enum After {
     End,
@@ -112,7 +115,7 @@ fn after_of(word: &[u8]) -> Result<After, CaseError> {
     }
 }
 
-// A reader of a stream.
+// A reader of a stream, with at most `most` bytes a read.
 #[derive(Drop)]
 struct Source<'a> {
     stream: &'a [u8],
@@ -138,7 +141,7 @@ impl Read for Source<'_> {
     }
 }
 
-// A writer that takes so many bytes and no more.
+// A writer that takes `room` bytes and no more.
 #[derive(Drop)]
 struct Target {
     room: usize,

@@ -14,7 +14,8 @@ use std::alloc::Global;
 use turns::{Heard, take_turn};
 use userfile::Change;
 
-/// `turn LEAVES STEP..`: what a new hub reports in each of its turns, with ` | ` between.
+/// Answers `turn LEAVES STEP..`: what a new hub reports in each of its turns, with ` | ` between. `words` are those
+/// after `turn`.
 pub fn turns(alloc: Global, words: &[Text], out: &mut Sink) -> Result<(), CaseError> {
     let [leaves, steps @ ..] = words else {
         return Err(BAD_WORDS);
@@ -48,7 +49,7 @@ struct Seat {
     inbox: Inbox,
 }
 
-// What the next turn is to hear, but for packets.
+// What the hub hears in its next turn, except packets.
 #[derive(Drop)]
 struct Coming {
     connected: bool,
@@ -73,7 +74,7 @@ impl Coming {
 }
 
 impl Seat {
-    // Makes a turn, and writes what its steps report.
+    // Takes a turn that hears `coming`, and writes what its steps report.
     fn take(&mut self, alloc: Global, coming: Coming, out: &mut Sink) -> Result<(), CaseError> {
         let store: Nobodies = ProcStore::new(alloc);
         let packets = self.inbox.take(alloc)?;
@@ -91,7 +92,7 @@ impl Seat {
     }
 }
 
-// A hub of so many leaves, over disks in memory.
+// Creates a hub of `leaves` leaves, over disks in memory.
 fn hub_of(alloc: Global, leaves: u16) -> Result<Bot<MemDisk>, CaseError> {
     let config = Config {
         number: 0,
@@ -110,7 +111,7 @@ fn hub_of(alloc: Global, leaves: u16) -> Result<Bot<MemDisk>, CaseError> {
     }
 }
 
-// Something is heard.
+// Adds what `step` says to what the hub hears next.
 fn hear(alloc: Global, seat: &mut Seat, coming: &mut Coming, step: &[u8]) -> Result<(), CaseError> {
     let (name, rest) = cut(step, b' ');
     match name {

@@ -10,7 +10,7 @@ use inbox::Inbox;
 use sharewire::Packet;
 use std::alloc::Global;
 
-/// `inbox STREAMS STEP..`: what each step answers, with ` | ` between.
+/// Answers `inbox STREAMS STEP..`: what each step answers, with ` | ` between. `words` are those after `inbox`.
 pub fn inbox(alloc: Global, words: &[Text], out: &mut Sink) -> Result<(), CaseError> {
     let [streams, steps @ ..] = words else {
         return Err(BAD_WORDS);
@@ -32,7 +32,7 @@ pub fn inbox(alloc: Global, words: &[Text], out: &mut Sink) -> Result<(), CaseEr
     Ok(())
 }
 
-/// Puts packets of a stream into an inbox.
+/// Puts the `packets` of `stream` into `inbox`. Returns a fault of the case if `inbox` has no such stream.
 pub fn put_into(inbox: &mut Inbox, stream: usize, packets: Vec<Packet>) -> Result<(), CaseError>
     requires { AllByRecursion HasGoodRecords packets.items }
 {
@@ -53,7 +53,7 @@ fn put(alloc: Global, inbox: &mut Inbox, words: &[u8]) -> Result<(), CaseError> 
     Ok(())
 }
 
-// The hello of a leaf, alone.
+// Makes the hello of `leaf`, alone in a list.
 fn hello(alloc: Global, leaf: u16) -> Result<Vec<Packet>, CaseError>
     ensures { IfOk result (λ packets. AllByRecursion HasGoodRecords packets.items) }
 {
@@ -75,7 +75,7 @@ fn forget(inbox: &mut Inbox, words: &[u8]) -> Result<(), CaseError> {
     Ok(())
 }
 
-// The steps that answer.
+// Makes a step that has an answer.
 fn ask(
     alloc: Global,
     inbox: &mut Inbox,
@@ -91,7 +91,7 @@ fn ask(
     Ok(())
 }
 
-// How many packets of one leaf there are after another.
+// Writes how many packets of one leaf follow one another.
 fn put_runs(packets: &[Packet], out: &mut Sink) {
     out.put(b"took");
     let mut last = None;

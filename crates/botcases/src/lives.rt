@@ -1,4 +1,4 @@
-// Live scripts of a botnet over sockets of this machine.
+// Live scripts of a botnet, over sockets of this machine.
 use crate::procs::store_of;
 use crate::scripts::{put_fault, put_lines, script_of};
 use bytetext::Text;
@@ -7,8 +7,8 @@ use liveloop::{LiveError, live};
 use std::net::Net;
 use streams::Duplex;
 
-/// `live LINE..`: what the live script of these lines prints, with ` ; ` between its lines; or the first faulty line, or
-/// what ended it early.
+/// Answers `live LINE..`: what the live script of these lines prints, with ` ; ` between its lines; or the first faulty
+/// line, or what ended the script early. `words` are those after `live`.
 pub fn live_case<R: Net + AllocGlobal>(
     rt: &R,
     words: &[Text],
@@ -23,7 +23,7 @@ pub fn live_case<R: Net + AllocGlobal>(
     Ok(())
 }
 
-// Why a live script ended early.
+// Writes why a live script ended early.
 fn tell(error: LiveError, out: &mut Sink) -> Result<(), CaseError> {
     match error {
         LiveError::Script(fault) => put_fault(fault.line, out),

@@ -10,7 +10,8 @@ use sharewire::Packet;
 use std::alloc::Global;
 use userfile::Change;
 
-/// `said LEAF PACKET..`: of each packet, whether it names this leaf as the one that says it.
+/// Answers `said LEAF PACKET..`: for each packet, whether it names this leaf as the one that says it. `words` are those
+/// after `said`.
 pub fn said(alloc: Global, words: &[Text], out: &mut Sink) -> Result<(), CaseError> {
     let [leaf, packets @ ..] = words else {
         return Err(BAD_WORDS);
@@ -28,7 +29,7 @@ pub fn said(alloc: Global, words: &[Text], out: &mut Sink) -> Result<(), CaseErr
     Ok(())
 }
 
-/// The packet that these words tell.
+/// Reads the packet that `words` spell.
 pub fn packet_of(alloc: Global, words: &[u8]) -> Result<Packet, CaseError>
     ensures { IfOk result HasGoodRecords }
 {
@@ -60,7 +61,7 @@ pub fn packet_of(alloc: Global, words: &[u8]) -> Result<Packet, CaseError>
     }
 }
 
-/// The change that adds a user.
+/// Returns the change that adds the user `handle`.
 pub fn added(alloc: Global, handle: &[u8]) -> Result<Change, CaseError> {
     Ok(Change::AddUser {
         handle: Text::from_slice(alloc, handle)?,

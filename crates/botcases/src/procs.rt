@@ -14,7 +14,7 @@ use std::cell::Cell;
 use std::rc::Rc;
 use userfile::Change;
 
-/// What the procs promise: `stop` answers 1 and the others 0. What they ask for is left open.
+/// What the procs promise: `stop` answers 1 and the others 0. The promise leaves open what they ask for.
 #[derive(Drop)]
 pub struct Ours;
 
@@ -25,20 +25,20 @@ impl Promise for Ours {
     ghost promised = { promised (λ name _ _. code_of name) (λ _ _ _ _. Unit {0}) };
 }
 
-/// What a body asks for, of the call's last argument.
+/// What a body asks for, given the call's last argument.
 #[derive(Clone, Copy)]
 enum Wish {
     /// Nothing.
     Nothing,
-    /// A user of that handle.
+    /// A user whose handle is that argument.
     User,
-    /// A line for the server that says it again where it was said.
+    /// A line for the server that says the argument again on the channel, or to the nick, that said it.
     Echo,
     /// Eight texts to leaf 1.
     Texts,
-    /// A line for the server that tells whoever spoke on a channel what the proc sees.
+    /// A line for the server that says what the proc sees to whoever spoke on a channel.
     Look,
-    /// A utimer of five seconds, by which `quiet` is called with it.
+    /// A utimer that calls `quiet` with the argument in five seconds.
     Later,
     /// The end of such a utimer.
     Never,
@@ -47,7 +47,7 @@ enum Wish {
 /// How often the bodies of a store have run.
 pub type Runs = Rc<Cell<u64>>;
 
-/// A proc's body: its code, what it asks for, and where its runs are counted.
+/// A proc's body: its code, what it asks for, and the counter of its runs.
 #[derive(Drop)]
 pub struct Built {
     alloc: Global,
@@ -73,7 +73,7 @@ impl Run for Built {
 }
 
 impl Built {
-    // What the body asks for.
+    // Returns what the body asks for.
     fn actions(&self, call: &Call, view: &View<'_>) -> Result<Actions, NoMemory> {
         let Some(last) = call.args.as_slice().last() else {
             return Ok(Actions::empty(self.alloc));
@@ -90,13 +90,13 @@ impl Built {
     }
 }
 
-// A user is asked for.
+// Asks for the user `handle`.
 fn asked(alloc: Global, handle: &Text) -> Result<Actions, NoMemory> {
     let handle = handle.copy(alloc)?;
     Actions::one(alloc, Action::Ask(Change::AddUser { handle }))
 }
 
-// What was said is said again where it was said.
+// Says `text` again, on the channel or to the nick that said it.
 fn echoed(alloc: Global, call: &Call, text: &Text) -> Result<Actions, NoMemory> {
     let Some(target) = target_of(call) else {
         return Ok(Actions::empty(alloc));
@@ -118,7 +118,7 @@ fn said(alloc: Global, target: &Text, text: &[u8]) -> Result<Actions, NoMemory> 
     Actions::one(alloc, Action::Put(wish))
 }
 
-// Leaf 1 is told eight times.
+// Sends leaf 1 a text, eight times.
 fn eight_texts(alloc: Global) -> Result<Actions, NoMemory> {
     let mut actions = Actions::empty(alloc);
     for _ in 0..8 {
@@ -131,7 +131,7 @@ fn eight_texts(alloc: Global) -> Result<Actions, NoMemory> {
     Ok(actions)
 }
 
-// Who spoke on a channel is told the own handle, `op` or `no op`, and the second of the clock.
+// Says on the channel the handle of whoever spoke, `op` or `no op`, and the clock's second.
 fn looked(alloc: Global, call: &Call, view: &View<'_>) -> Result<Actions, NoMemory> {
     let [nick, at, _, channel, ..] = call.args.as_slice() else {
         return Ok(Actions::empty(alloc));
@@ -159,7 +159,7 @@ fn op_word(is_op: bool) -> &'static [u8] {
     }
 }
 
-// `quiet` is called with this text five seconds on, once.
+// Has `quiet` called with `text` in five seconds, once.
 fn later(alloc: Global, text: &Text) -> Result<Actions, NoMemory> {
     let wish = TimerWish {
         interval: 5,
@@ -170,7 +170,7 @@ fn later(alloc: Global, text: &Text) -> Result<Actions, NoMemory> {
     Actions::one(alloc, Action::Utimer(wish))
 }
 
-// It is not.
+// Ends that utimer.
 fn never(alloc: Global, text: &Text) -> Result<Actions, NoMemory> {
     let name = TimerName {
         proc: Text::from_slice(alloc, b"quiet")?,
@@ -179,7 +179,7 @@ fn never(alloc: Global, text: &Text) -> Result<Actions, NoMemory> {
     Actions::one(alloc, Action::KillTimer(name))
 }
 
-// The channel on which something was said, or the nick that said it privately.
+// Returns the channel on which something was said, or the nick that said it privately.
 fn target_of(call: &Call) -> Option<&Text> {
     match call.kind {
         Kind::Pub | Kind::Pubm => call.args.as_slice().get(3),
@@ -188,18 +188,18 @@ fn target_of(call: &Call) -> Option<&Text> {
     }
 }
 
-/// No run so far.
+/// Creates a counter that stands at no run.
 pub fn no_runs(alloc: Global) -> Result<Runs, NoMemory> {
     Ok(Rc::new(alloc, Cell::new(0))?)
 }
 
-/// A store of the procs.
+/// Creates a store of the procs.
 pub fn store_of(alloc: Global) -> Result<ProcStore<Ours, Built>, NoMemory> {
     let runs = no_runs(alloc)?;
     counted_store(alloc, &runs)
 }
 
-/// A store of the procs, whose runs are counted here.
+/// Creates a store of the procs that counts their runs in `runs`.
 pub fn counted_store(alloc: Global, runs: &Runs) -> Result<ProcStore<Ours, Built>, NoMemory> {
     let mut store = ProcStore::new(alloc);
     add(alloc, &mut store, b"quiet", Code::Zero, Wish::Nothing, runs)?;
@@ -213,7 +213,7 @@ pub fn counted_store(alloc: Global, runs: &Runs) -> Result<ProcStore<Ours, Built
     Ok(store)
 }
 
-// Adds a proc. The names differ, so that only memory can be lacking.
+// Adds a proc. All names differ, so the only possible error is `NoMemory`.
 fn add(
     alloc: Global,
     store: &mut ProcStore<Ours, Built>,

@@ -1,4 +1,4 @@
-// What a turn tells.
+// What a turn reports.
 use botcore::{End, Note, Report};
 use caselines::{CaseError, Sink};
 use linkcalls::Outgoing;
@@ -6,7 +6,7 @@ use sharewire::Packet;
 use std::alloc::Global;
 use turns::{Told, TurnEnd};
 
-/// Writes the reports of a turn, with ` ; ` between.
+/// Writes the reports of the turn `told`, with ` ; ` between. Returns `NoMemory` if the turn ran out of memory.
 pub fn put_reports(alloc: Global, told: &Told, out: &mut Sink) -> Result<(), CaseError> {
     if told.end == TurnEnd::NoMemory {
         return Err(CaseError::NoMemory);
@@ -41,7 +41,7 @@ fn put_note(alloc: Global, note: &Option<Note>, out: &mut Sink) -> Result<(), Ca
     Ok(())
 }
 
-// A packet's addressee, its kind, and its numbers.
+// Writes a packet's addressee, its kind, and its numbers.
 fn put_packet(outgoing: &Outgoing, out: &mut Sink) {
     out.put(b" ");
     out.number(u64::from(outgoing.to));

@@ -8,7 +8,8 @@ use replay::transcript;
 use script::{Command, Script, ScriptError};
 use std::alloc::Global;
 
-/// `script LINE..`: the transcript of a script of these lines, with ` ; ` between its lines, or the first faulty line.
+/// Answers `script LINE..`: the transcript of the script of these `words`, with ` ; ` between its lines, or the first
+/// faulty line.
 pub fn script(alloc: Global, words: &[Text], out: &mut Sink) -> Result<(), CaseError> {
     let script = script_of(alloc, words)?;
     match transcript(alloc, store_of(alloc)?, &script) {
@@ -19,7 +20,8 @@ pub fn script(alloc: Global, words: &[Text], out: &mut Sink) -> Result<(), CaseE
     Ok(())
 }
 
-/// `commands LINE..`: how many leaves a script of these lines has, and its commands, or the first faulty line.
+/// Answers `commands LINE..`: how many leaves the script of these `words` has, and its commands, or the first faulty
+/// line.
 pub fn commands(alloc: Global, words: &[Text], out: &mut Sink) -> Result<(), CaseError> {
     let script = script_of(alloc, words)?;
     match Script::read(alloc, &script) {
@@ -30,7 +32,7 @@ pub fn commands(alloc: Global, words: &[Text], out: &mut Sink) -> Result<(), Cas
     Ok(())
 }
 
-/// `why LINE..`: why the first faulty line of a script of these lines is one, or `none`.
+/// Answers `why LINE..`: what is wrong with the first faulty line of the script of these `words`, or `none`.
 pub fn why(alloc: Global, words: &[Text], out: &mut Sink) -> Result<(), CaseError> {
     let script = script_of(alloc, words)?;
     match Script::read(alloc, &script) {
@@ -41,7 +43,7 @@ pub fn why(alloc: Global, words: &[Text], out: &mut Sink) -> Result<(), CaseErro
     Ok(())
 }
 
-/// The lines, with a line feed between.
+/// Joins `lines`, with a line feed between.
 pub fn script_of(alloc: Global, lines: &[Text]) -> Result<Vec<u8>, NoMemory> {
     let mut script = Vec::new(alloc);
     for (i, line) in lines.iter().enumerate() {
@@ -53,7 +55,7 @@ pub fn script_of(alloc: Global, lines: &[Text]) -> Result<Vec<u8>, NoMemory> {
     Ok(script)
 }
 
-/// The lines of a transcript, each of which ends with a line feed, or `none`.
+/// Writes the lines of the transcript `text`, each of which ends with a line feed, or `none` if it has no line.
 pub fn put_lines(text: &[u8], out: &mut Sink) {
     let [lines @ .., _] = text else {
         out.put(b"none");
@@ -65,7 +67,7 @@ pub fn put_lines(text: &[u8], out: &mut Sink) {
     }
 }
 
-/// The faulty line, as `line N`.
+/// Writes the faulty line as `line N`, where N is `line`.
 pub fn put_fault(line: u64, out: &mut Sink) {
     out.put(b"line ");
     out.number(line);

@@ -1,5 +1,7 @@
--- What the actions of calls do to a bot: all of them, in the order of the calls, whatever the codes were. One that is refused
--- leaves all as it was, and is told.
+-- What the actions of calls do to a bot.
+--
+-- All of them count, in the order of the calls, whatever the codes were. A refused action changes nothing, and is
+-- reported.
 use Rattle.std.specs.Prelude.{ℕ, ◌+◌, List, [], ◌∷◌, ◌++◌, length, map, Bool, true, false, Option, Some, None, unwrap_or, Result, Ok, Err}
 use Rattle.bottimers.specs.declared.fault.ClockFault.{ClockFault}
 use Rattle.bottimers.specs.declared.fault.ClockFault.TheVariants.{NoSuchTimer}
@@ -29,7 +31,7 @@ use Rattle.botcalls.specs.declared.made_call.MadeCall.{MadeCall}
 use Rattle.botcalls.specs.declared.made_call.Unbound.{Unbound}
 use Rattle.botcore.specs.Links.{fault_told, link_text}
 
--- what actions change: the link, the timers, the texts that are sent, and the queues of lines for the server; new timers are
+-- what actions change: the link, the timers, the texts to send, and the queues of lines for the server; new timers are
 -- made at the last second
 pub record Acting : Type 0 where
   pub link : BotEnd
@@ -38,7 +40,7 @@ pub record Acting : Type 0 where
   pub sent : List Outgoing
   pub queues : Sending
 
--- an action leaves this, and is refused or not
+-- what an action leaves, and whether it is refused
 pub record Acted : Type 0 where
   pub after : Acting
   pub fault : Option ActionFault
@@ -51,7 +53,7 @@ refused_to old fault = record { after = old; fault = Some fault }
 
 -- ---- one action
 
--- a change is asked for, and waits unless the link refuses it
+-- an ask for a change, which waits unless the link refuses it
 abbrev pub asked_if : Result Meaning Meant → Acting → End → Acted
 asked_if (Ok note) old after = done_to (record old { link = record old.link { end = after } })
 asked_if (Err why) old after = refused_to old (link_fault (fault_told why))
@@ -79,17 +81,17 @@ made_unless None old timer = done_to (record old { timers = with_timer old.timer
 abbrev pub timer_made : TimerKind → Acting → TimerWish → Acted
 timer_made kind old wish = made_unless (add_fault old.timers wish.interval old.last) old (timer_of old kind wish)
 
--- the oldest timer of a proc and text is taken away, if one is held
+-- the oldest timer of a proc and text is removed, if there is one
 abbrev pub killed_if : Bool → Acting → TimerName → Acted
 killed_if true old name = done_to (record old { timers = without_named old.timers name.proc name.text })
 killed_if false old name = refused_to old (clock_fault NoSuchTimer)
 
--- a text goes out after those that went out so far
+-- a text is sent after those that were sent so far
 abbrev pub sent_if : Result (List Outgoing) LinkFault → Acting → Acted
 sent_if (Ok packets) old = done_to (record old { sent = old.sent ++ packets })
 sent_if (Err fault) old = refused_to old (link_fault fault)
 
--- a line is put last in its queue, unless the queue refuses it
+-- a line is appended to its queue, unless the queue refuses it
 abbrev pub put_unless : Option QueueFault → Acting → PutWish → Acted
 put_unless (Some fault) old wish = refused_to old (queue_fault fault)
 put_unless None old wish = done_to (record old { queues = put_last old.queues wish.queue wish.line })

@@ -1,9 +1,9 @@
--- The lines that a bot puts by itself: as soon as it has connected, and where a message of the server wants an answer.
+-- The lines that a bot queues by itself: once it has connected, and when a server's message needs an answer.
 --
--- The rule tells them by the channels after the message. Here they are told by the channels before it, from which those
--- of a MODE are told by the channels after it. The others read nothing that their message changes: the JOIN of another
--- person changes neither which channels the bot is on, nor how it spells them, nor where it is op, nor its nick; and the
--- lines of other messages read nothing of the channels.
+-- The rule gives them by the channels after the message. Here they are given by the channels before it; for a MODE,
+-- the channels after it are computed from these. The other lines read nothing that their message changes. The JOIN of
+-- another person changes neither which channels the bot is on, nor how it spells them, nor where it is op, nor its
+-- nick. The lines of other messages read nothing of the channels.
 use Rattle.std.specs.Prelude.{ℕ, ◌==◌, nat_lt, Bool, true, false, not, ◌&&◌, List, [], ◌∷◌, length, map, slice_get}
 use Rattle.std.specs.Prelude.{if◌then◌else◌, codes, drop, Option, Some, None, unwrap_or}
 use Rattle.std.specs.List.{concat, filter_map, flat_map}
@@ -33,7 +33,7 @@ use Rattle.botcore.specs.declared.limits.TheConstants.{MAX_NICK}
 abbrev pub wish : Queue → List (List ℕ) → PutWish
 wish queue pieces = record { queue = queue; line = concat pieces }
 
--- what follows from a parameter, if it is there
+-- what follows from a parameter, if there is one
 abbrev pub if_there : Option (List ℕ) → (List ℕ → List PutWish) → List PutWish
 if_there None wishes = []
 if_there (Some text) wishes = wishes text
@@ -47,7 +47,7 @@ greeting config =
     wish Mode (codes "USER " ∷ config.nick ∷ codes " 0 * :" ∷ config.nick ∷ []) ∷
     []
 
--- ---- the server welcomes it, wants another nick, or wants to know whether it is there
+-- ---- the server welcomes the bot, needs another nick, or checks that the bot is still connected
 
 -- it joins a channel of its configuration
 abbrev pub join_wish : List ℕ → PutWish
@@ -57,7 +57,7 @@ join_wish channel = wish Server (codes "JOIN " ∷ channel ∷ [])
 abbrev pub longer_nick : List ℕ → List PutWish
 longer_nick nick = if nat_lt (length nick) MAX_NICK then wish Mode (codes "NICK " ∷ nick ∷ codes "_" ∷ []) ∷ [] else []
 
--- only a bot that isn't welcomed yet is without a nick
+-- only a bot that isn't welcomed yet lacks a nick
 abbrev pub other_nick : Bool → List (List ℕ) → List PutWish
 other_nick true params = []
 other_nick false params = if_there (slice_get params 1) longer_nick
@@ -83,13 +83,13 @@ abbrev pub guarded_if : ChanState → Option (List ℕ) → List (List ℕ)
 guarded_if s None = []
 guarded_if s (Some list) = guarded s list
 
--- the channels on which it looks at who has joined, if that is another person
+-- the channels on which it checks a person who has joined, if that is another person
 abbrev pub watched : Source → List (List ℕ) → ChanState → List (List ℕ)
 watched Nobody params s = []
 watched (a_server name) params s = []
 watched (Person nick user host) params s = if is_same nick s.nick then [] else guarded_if s (slice_get params 0)
 
--- what the banned are told
+-- the reason that a kick gives
 abbrev pub reason_of : Ban → List ℕ
 reason_of ban = if length ban.comment == 0 then codes "banned" else ban.comment
 
@@ -97,7 +97,7 @@ reason_of ban = if length ban.comment == 0 then codes "banned" else ban.comment
 abbrev pub ban_wish : List ℕ → Ban → PutWish
 ban_wish channel ban = wish Mode (codes "MODE " ∷ channel ∷ codes " +b " ∷ ban.mask ∷ [])
 
--- a ban that keeps the person off the channel is set there, and the person is kicked
+-- a ban that excludes the person from the channel is set there, and the person is kicked
 abbrev pub ban_wishes : List ℕ → List ℕ → Option Ban → List PutWish
 ban_wishes nick channel None = []
 ban_wishes nick channel (Some ban) =
@@ -114,7 +114,7 @@ barred bans now Nobody channel = []
 barred bans now (a_server name) channel = []
 barred bans now (Person nick user host) channel = kept_off bans now nick (hostmask nick (address_of user host)) channel
 
--- ---- a ban is taken off a channel
+-- ---- a ban is removed from a channel
 
 -- whether the bot itself sets modes; a server, or a message without a source, is somebody else
 abbrev pub is_own : Source → ChanState → Bool
@@ -122,7 +122,7 @@ is_own Nobody s = false
 is_own (a_server name) s = false
 is_own (Person nick user host) s = is_same nick s.nick
 
--- whether a single mode takes a ban off: -b
+-- whether a single mode removes a ban: -b
 abbrev pub is_unban : Single → Bool
 is_unban one = not one.on && (one.letter == 98)
 
@@ -130,7 +130,7 @@ abbrev pub set_if : List ℕ → Option Ban → List PutWish
 set_if channel None = []
 set_if channel (Some ban) = ban_wish channel ban ∷ []
 
--- what a single mode on a channel makes it put: the first sticky ban of a mask that is taken off is set again
+-- the line for a single mode on a channel: the first sticky ban of a mask that is removed is set again
 abbrev pub set_again : List Ban → ℕ → List ℕ → Single → List PutWish
 set_again bans now channel one = if is_unban one then set_if channel (sticky_ban bans channel one.argument now) else []
 
@@ -138,7 +138,7 @@ set_again bans now channel one = if is_unban one then set_if channel (sticky_ban
 abbrev pub modes_in : List (List ℕ) → ChanState → List Single
 modes_in params s = singles s.support true (text_at params 1) (drop 2 params)
 
--- the lines of a MODE that another sets, in the order of its modes, by the channels after it
+-- the lines of a MODE that somebody else sets, in the order of its modes, by the channels after it
 abbrev pub mode_wishes : List Ban → ℕ → Source → List (List ℕ) → ChanState → List PutWish
 mode_wishes bans now who params s =
     if is_own who s then []
@@ -147,7 +147,7 @@ mode_wishes bans now who params s =
 
 -- ---- any message
 
--- which message makes it put lines, by the command
+-- which message makes the bot queue lines, by the command
 abbrev pub is_command : List ℕ → List ℕ → Bool
 is_command word command = bytes_eq command word
 
@@ -164,7 +164,7 @@ cue_of command =
 abbrev pub is_welcome : Message → Bool
 is_welcome message = is_command (codes "001") message.command && not (length message.params == 0)
 
--- the channels of a message on which it looks at who has joined
+-- the channels of a message on which it checks a person who has joined
 abbrev pub watched_by : Cue → Message → ChanState → List (List ℕ)
 watched_by cue.Ping message s = []
 watched_by cue.Join message s = watched (source_of message.prefix) message.params s
@@ -176,8 +176,8 @@ watched_by cue.Other message s = []
 abbrev pub watched_in : Message → ChanState → List (List ℕ)
 watched_in message s = watched_by (cue_of message.command) message s
 
--- the lines of a message, for a bot of this configuration in these channels before it, with these bans, at the last second of its
--- clock (0 before the first reading), and welcomed or not
+-- the lines of a message, for a bot with this configuration, in these channels before it, with these bans, at the last
+-- second of its clock (0 before the first reading), and welcomed or not
 abbrev pub lines_by : Cue → Config → ChanState → List Ban → Option ℕ → Bool → Message → List PutWish
 lines_by cue.Ping config s bans last welcomed message =
     if_there (slice_get message.params 0) (λ text. pong_wish text ∷ [])

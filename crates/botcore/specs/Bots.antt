@@ -1,4 +1,4 @@
--- What a bot is to a contract.
+-- A bot as contracts see it.
 use Rattle.std.specs.Prelude.{ℕ, Bool, false, List, [], Option, None}
 use Rattle.bottimers.specs.Held.{Held}
 use Rattle.botjournal.specs.Ledger.{Device}
@@ -14,8 +14,8 @@ use Rattle.botcalls.specs.Dispatching.{Setting}
 use Rattle.botcalls.specs.Dispatched.{setting_of}
 use Rattle.botcore.specs.Links.{link_records}
 
--- who it is, its end of the link, its binds, oldest first, the channels that it is on, the last second of its clock, its
--- timers, its lines for the server, and whether the server has welcomed it since it last connected
+-- who it is, its end of the link, its binds, oldest first, the channels that it is on, the last second of its clock,
+-- its timers, its lines for the server, and whether the server has welcomed it since it last connected
 pub record Bot : Type 0 where
   pub config : Config
   pub link : BotEnd
@@ -29,7 +29,7 @@ pub record Bot : Type 0 where
 abbrev pub no_timers : Held
 no_timers = record { timers = []; last = None; spent = 0; room = 0 }
 
--- a bot as it begins over this end of the link: without binds, and with nothing that a restart would lose
+-- a bot as it begins over this end of the link: without binds, and without anything that a restart would lose
 abbrev pub begun : Config → BotEnd → Bot
 begun config link =
     record {
@@ -47,7 +47,7 @@ begun config link =
 abbrev pub new_bot : Config → Device → Bot
 new_bot config device = begun config (new_bot_end config.number config.leaves device)
 
--- what a restart leaves of a bot whose journal was opened again: its binds, and the end of the link that the journal has
+-- what a restart leaves of a bot whose journal was opened again: its binds, and the end of the link from the journal
 abbrev pub restarted : Bot → BotEnd → Bot
 restarted old link = record (begun old.config link) { binds = old.binds }
 

@@ -1,4 +1,4 @@
--- Which configurations a bot can be made of.
+-- The configurations with which a bot can be made.
 use Rattle.std.specs.Prelude.{◌≡◌, ℕ, ◌≤◌, ◌==◌, nat_lt, nat_le, Bool, true, not, ◌&&◌, List, length, slice_index, codes}
 use Rattle.std.specs.List.{list_all}
 use Rattle.rfccase.specs.Channels.{is_channel_name}
@@ -22,7 +22,7 @@ is_nick_byte b = nat_lt 32 b && (not (b == 33) && (not (b == 64) && (not (b == 4
 abbrev pub is_nick : List ℕ → Bool
 is_nick nick = nat_le 1 (length nick) && (nat_le (length nick) MAX_NICK && (not (slice_index nick 0 == 58) && list_all is_nick_byte nick))
 
--- a bot can be made of this
+-- a bot can be made with this configuration
 pub record IsGood (config : Config) : Type 0 where
   pub few : config.leaves ≤ MAX_LEAVES
   pub numbered : config.number ≤ config.leaves

@@ -1,4 +1,4 @@
--- What calls procs, as an event makes it happen at a bot.
+-- What calls procs when a bot handles an event.
 use Rattle.std.specs.Prelude.{ℕ, ◌%◌, ◌==◌, ℤ, List, [], ◌∷◌, ◌++◌, map, length, if◌then◌else◌}
 use Rattle.std.specs.Prelude.{Option, Some, None, Result, Ok, Err}
 use Rattle.ircline.specs.declared.line.Line.TheVariants.{Message as a_message}
@@ -21,10 +21,11 @@ pub data Happening : Type 0 where
   Heard : (event : MessageEvent) → Happening
   -- a timer of this proc and text is due
   Due : (proc text : List ℕ) → Happening
-  -- a minute begins, by its number from the start of 1970 on the bot's clock: once for time binds and once for cron binds
+  -- a minute begins, by its number from the start of 1970 on the bot's clock: once for time binds and once for cron
+  -- binds
   Time : (minute : ℤ) → Happening
   Cron : (minute : ℤ) → Happening
-  -- a bot tells this one a text
+  -- another bot sends this bot a text
   Said : (from : ℕ) → (text : List ℕ) → Happening
 
 -- ---- a text of another bot
@@ -33,7 +34,7 @@ pub record Saying : Type 0 where
   pub from : ℕ
   pub text : List ℕ
 
--- what the link takes for this bot, if it is a text
+-- the text that a packet brings to this bot, if it brings one
 abbrev pub saying_in : Meaning → Option Saying
 saying_in (text_note from text) = Some (record { from = from; text = text })
 saying_in other = None
@@ -52,16 +53,16 @@ said_if (Some saying) = said saying
 
 -- ---- the clock
 
--- A second that begins a minute is a time event and then a cron event of the minute that the clock shows then: one that
--- the zone's clock skips has none, and one that it shows twice has two of each.
+-- A second that begins a minute is a time event and then a cron event of the minute that the clock shows then. A
+-- minute that the zone's clock skips has none, and a minute that it shows twice has two of each.
 abbrev pub minute_of : TzText → ℕ → List Happening
 minute_of zone t = if t % 60 == 0 then Time (minute_at zone t) ∷ Cron (minute_at zone t) ∷ [] else []
 
--- what a second brings: the timers that are due, and its minute where it begins one
+-- what happens in a second: the timers that are due, and its minute if one begins
 abbrev pub second_of : TzText → ℕ → Held → List Happening
 second_of zone t timers = map (λ c. Due c.proc c.text) (calls_at t timers) ++ minute_of zone t
 
--- what seconds bring, one after another
+-- what happens in seconds, one after another
 abbrev pub seconds_of : TzText → Held → List ℕ → List Happening
 seconds_of zone timers [] = []
 seconds_of zone timers (t ∷ ts) = second_of zone t timers ++ seconds_of zone (passed t timers) ts

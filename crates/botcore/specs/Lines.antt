@@ -36,13 +36,13 @@ pub record Finish : Type 0 where
   pub faults : List Fault
   pub lines : List (List ℕ)
 
--- a text of another bot leaves no more than its calls do
+-- a text of another bot leaves what its calls leave, and nothing more
 abbrev pub finish_text : Bot → List MadeCall → Finish
 finish_text old calls = record { after = after_calls old calls; faults = []; lines = [] }
 
 -- ---- a message of the server
 
--- the channels after a message of these calls: it is taken in last, unless a raw proc has answered 1
+-- the channels after a message with these calls: it is applied last, unless a raw proc has answered 1
 abbrev pub channels_after : ChanState → List MadeCall → Message → ChanState
 channels_after channels calls message = if has_raw_one (map entry_of calls) then channels else after message channels
 
@@ -50,13 +50,13 @@ channels_after channels calls message = if has_raw_one (map entry_of calls) then
 abbrev pub welcomed_after : Bool → List MadeCall → Message → Bool
 welcomed_after welcomed calls message = if has_raw_one (map entry_of calls) then welcomed else welcomed || is_welcome message
 
--- the bot's own lines for a message of these calls: none where a raw proc has answered 1
+-- the bot's own lines for a message with these calls: none if a raw proc has answered 1
 abbrev pub own_lines : Bot → Message → List MadeCall → List PutWish
 own_lines old message calls =
     if has_raw_one (map entry_of calls) then []
     else automatic_lines old.config old.channels (link_records old.link).bans old.clock old.welcomed message
 
--- the bot after a message of these calls: its own lines are put after those of the calls
+-- the bot after a message with these calls: its own lines are queued after those of the calls
 abbrev pub after_line : Bot → Message → List MadeCall → Bot
 after_line old message calls = record (after_calls old calls) {
   channels = channels_after old.channels calls message;

@@ -27,13 +27,13 @@ link_version link = end_version link.end
 abbrev pub ask_count : BotEnd → ℕ
 ask_count link = length (end_asks link.end)
 
--- the link with these asks after those that wait
+-- the link with these asks after the waiting ones
 abbrev pub link_with_asks : BotEnd → List UserChange → BotEnd
 link_with_asks link asks = record link { end = with_asks link.end (end_asks link.end ++ asks) }
 
--- ---- what a rule tells and sends, as a bot reports it
+-- ---- the faults and packets of the rule, as a bot reports them
 
--- the fault of this meaning
+-- the fault with this meaning
 abbrev pub fault_told : Fault → LinkFault
 fault_told Down = fault.Down
 fault_told (BadChange of_change) = fault.BadChange of_change
@@ -45,7 +45,7 @@ fault_told JournalFault = fault.JournalFault
 fault_told BadBotText = fault.BadBotText
 fault_told DiskFault = fault.DiskFault
 
--- the packet of this meaning
+-- the packet with this meaning
 abbrev pub packet_told : Packet → WirePacket
 packet_told (Hello layout leaf version) = wire.Hello layout leaf version
 packet_told (Change number origin request change) = wire.Change number origin request change
@@ -60,7 +60,7 @@ outgoing_told sent = record { to = sent.to; packet = packet_told sent.packet }
 
 -- ---- a text to another bot
 
--- what goes out by its rule, unless the step has sent as many as it may
+-- what its rule sends, unless the step has sent as many texts as it may
 abbrev pub text_sent : Result Meaning Fault → List Sent → ℕ → Result (List Outgoing) LinkFault
 text_sent (Err why) sends sent = Err (fault_told why)
 text_sent (Ok note) sends sent = if nat_lt sent MAX_TEXTS then Ok (map outgoing_told sends) else Err fault.TextsFull
@@ -68,6 +68,6 @@ text_sent (Ok note) sends sent = if nat_lt sent MAX_TEXTS then Ok (map outgoing_
 abbrev pub text_of : Row End → ℕ → Result (List Outgoing) LinkFault
 text_of row sent = text_sent row.told row.sends sent
 
--- where so many were sent before it
+-- given the number of texts that the step has sent before
 abbrev pub link_text : BotEnd → ℕ → List ℕ → ℕ → Result (List Outgoing) LinkFault
 link_text link to text sent = text_of (told link to text) sent

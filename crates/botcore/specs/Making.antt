@@ -1,4 +1,4 @@
--- How a bot is made, found on its disks, and handed back.
+-- How a bot is made, opened from its disks, and taken apart.
 use Rattle.std.specs.Prelude.{◌≡◌, Result, Ok, Err}
 use Rattle.bytetext.specs.declared.failure.Failure.{Failure}
 use Rattle.bytetext.specs.declared.failure.Failure.TheVariants.{Refused, NoMemory}
@@ -16,13 +16,13 @@ use Rattle.botcore.specs.declared.making.Returned.{Returned}
 use Rattle.botcore.specs.Bots.{Bot, begun, new_bot}
 use Rattle.botcore.specs.Configs.{IsGood}
 
--- why none is made before the disks are looked at: the configuration breaks a rule, or memory ran out though it is good
+-- why no bot is made before the disks are read: the configuration breaks a rule, or memory ran out although it is good
 abbrev pub IsWhyNot : Config → Failure BotFault → Type 0
 IsWhyNot config (Refused BadConfig) = ¬ IsGood config
 IsWhyNot config (Refused (Journal fault)) = ⊥
 IsWhyNot config NoMemory = IsGood config
 
--- the same error, of a bot
+-- an error of a journal as an error of a bot
 abbrev pub of_journal : Failure JournalFault → Failure BotFault
 of_journal (Refused fault) = Refused (Journal fault)
 of_journal NoMemory = NoMemory
@@ -30,7 +30,8 @@ of_journal NoMemory = NoMemory
 module _ {D : Type 0} (state : D → State) (config : Config) (first second : D) where
   -- ---- making
 
-  -- why a bot isn't made: the configuration breaks a rule, and the disks are untouched; or it is good, and there is no journal
+  -- why a bot isn't made: the configuration breaks a rule, and the disks are untouched; or it is good, and there is no
+  -- journal
   abbrev pub NotMade : Failure BotFault → D → D → Type 0
   NotMade (Refused BadConfig) first' second' = (¬ IsGood config) × (first' ≡ first) × (second' ≡ second)
   NotMade (Refused (Journal fault)) first' second' =
@@ -42,13 +43,14 @@ module _ {D : Type 0} (state : D → State) (config : Config) (first second : D)
   Makes (Ok bot) = IsGood config × (bot ≡ new_bot config bot.link.device)
   Makes (Err returned) = NotMade returned.error returned.disks.first returned.disks.second
 
-  -- ---- finding
+  -- ---- opening
 
-  -- whatever a crash leaves on the disks means what those that were given mean, or that put anew in the present layout
+  -- whatever a crash leaves on the disks means what the given disks mean, or the same rewritten in the present layout
   abbrev pub StayTheSame : D → D → Type 0
   StayTheSame first' second' = MeanTheSame state config.number config.leaves first second first' second'
 
-  -- why no bot is found: the configuration breaks a rule, and the disks are untouched; or it is good, and they hold none
+  -- why no bot is found: the configuration breaks a rule, and the disks are untouched; or it is good, and they hold
+  -- none
   abbrev pub NotFound : Failure BotFault → D → D → Type 0
   NotFound (Refused BadConfig) first' second' = (¬ IsGood config) × (first' ≡ first) × (second' ≡ second)
   NotFound (Refused (Journal fault)) first' second' = IsGood config
@@ -60,17 +62,17 @@ module _ {D : Type 0} (state : D → State) (config : Config) (first second : D)
   IsOnDisks link = IsFound state config.number config.leaves first second link.end
       × (link ≡ record { number = config.number; leaves = config.leaves; end = link.end; device = link.device })
 
-  -- Finding a bot, by cases on the answer.
+  -- Opening a bot, by cases on the answer.
   abbrev pub Finds : Result Bot (Returned D) → Type 0
   Finds (Ok bot) = IsGood config × IsOnDisks bot.link × (bot ≡ begun config bot.link)
   Finds (Err returned) = NotFound returned.error returned.disks.first returned.disks.second
 
-  -- at each moment, from the given disks on to these, a crash leaves what the disks mean, or that put anew
+  -- at each moment, from the given disks on to these, a crash leaves what the disks mean, or the same rewritten
   abbrev pub LeavesFound : Device → Type 0
   LeavesFound now = AtEachMoment (device_on (state first) (state second)) now
       (IsLeft config.number config.leaves (meaning (state first).seen (state second).seen))
 
-  -- so it is at each moment of finding a bot
+  -- so it is at each moment of opening a bot
   abbrev pub FindsAtEachMoment : Result Bot (Returned D) → Type 0
   FindsAtEachMoment (Ok bot) = LeavesFound bot.link.device
   FindsAtEachMoment (Err returned) = LeavesFound (device_on (state returned.disks.first) (state returned.disks.second))

@@ -1,4 +1,4 @@
--- The channels that a bot is on, and those of one that has just connected.
+-- The channels that a bot is on, and those of a bot that has just connected.
 use Rattle.chanstate.specs.declared.state.ChanState.{ChanState}
 use Rattle.chanstate.specs.Views.{connected}
 use Rattle.std.specs.Prelude.{List, ℕ}

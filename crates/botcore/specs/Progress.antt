@@ -1,4 +1,4 @@
--- How far the actions of calls have come.
+-- How far the actions of calls were carried out.
 use Rattle.std.specs.Prelude.{◌≡◌, ℕ, List, [], ◌++◌, Option}
 use Rattle.outqueue.specs.Sending.{Sending, with_first}
 use Rattle.outqueue.specs.declared.queues.Counts.{Counts}
@@ -13,7 +13,7 @@ use Rattle.botcore.specs.Bots.{Bot}
 use Rattle.botcore.specs.Links.{link_with_asks}
 use Rattle.botcore.specs.Putting.{HasMoreLines}
 
--- what actions have changed beside the link, and what went wrong
+-- what actions have changed besides the link, and what went wrong
 pub record Progress : Type 0 where
   pub timers : Held
   pub last : Option ℕ
@@ -26,7 +26,7 @@ abbrev pub acting_at : BotEnd → Progress → Acting
 acting_at link doing =
     record { link = link; timers = doing.timers; last = doing.last; sent = doing.sent; queues = doing.queues }
 
--- one action left this, and its refusal is told after other faults
+-- one action left this, and its refusal is appended to the faults
 pub record Leaves (old : Progress) (acted : Acted) (link : BotEnd) (new : Progress) : Type 0 where
   pub acting : acting_at link new ≡ acted.after
   pub faults : new.faults ≡ old.faults ++ with_fault acted.fault []
@@ -36,16 +36,16 @@ pub record LeavesAll (before : BotEnd) (old : Progress) (actions : List Action) 
   pub acting : acting_at link new ≡ acted_all (acting_at before old) actions
   pub faults : new.faults ≡ old.faults ++ action_faults (acting_at before old) actions
 
--- a link as it was, but for asks after those that waited
+-- the link is unchanged, except for asks after those that waited
 abbrev pub HasMoreAsks : BotEnd → BotEnd → Type 0
 HasMoreAsks old new = (more : List Change) × (new ≡ link_with_asks old more)
 
--- a bot as it was, but for more asks and more lines, which can be taken back
+-- the bot is unchanged, except for more asks and more lines, which can be taken back
 pub record HasMore (old new : Bot) : Type 0 where
   pub asks : HasMoreAsks old.link new.link
   pub lines : HasMoreLines old.queues new.queues
   pub rest : new ≡ record old { link = new.link; queues = new.queues }
 
--- the bot with so many of its asks and lines, from the oldest on
+-- the bot with this many of its asks and lines, from the oldest on
 abbrev pub with_oldest : Bot → ℕ → Counts → Bot
 with_oldest bot asks lines = record bot { link = keeps_asks bot.link asks; queues = with_first bot.queues lines }

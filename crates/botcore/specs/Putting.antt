@@ -1,4 +1,4 @@
--- What becomes of lines that a bot puts into its queues of itself: each is put last, unless its queue refuses it.
+-- What becomes of lines that a bot queues by itself: each is put last, unless its queue refuses it.
 use Rattle.std.specs.Prelude.{◌≡◌, ℕ, List, [], ◌∷◌, ◌++◌, Option, Some, None}
 use Rattle.outqueue.specs.declared.fault.QueueFault.{QueueFault}
 use Rattle.outqueue.specs.Refusals.{refusal, put_last}
@@ -27,7 +27,7 @@ abbrev pub put_all : Sending → List PutWish → Sending
 put_all queues [] = queues
 put_all queues (wish ∷ wishes) = put_all (queued queues wish) wishes
 
--- those that are refused
+-- the lines that are refused
 abbrev pub put_faults : Sending → List PutWish → List Fault
 put_faults queues [] = []
 put_faults queues (wish ∷ wishes) =
@@ -35,11 +35,11 @@ put_faults queues (wish ∷ wishes) =
 
 -- ---- what can be taken back
 
--- these lines stand after those
+-- these lines follow those
 abbrev pub Continues : List (List ℕ) → List (List ℕ) → Type 0
 Continues old new = (more : List (List ℕ)) × (new ≡ old ++ more)
 
--- queues as they were, but for lines after those that waited; where there was no room there is none
+-- the queues are unchanged, except for lines after those that waited; if there was no room, there is none
 pub record HasMoreLines (old new : Sending) : Type 0 where
   pub mode : Continues old.mode new.mode
   pub server : Continues old.server new.server

@@ -1,4 +1,4 @@
--- Events that call nothing and bring nothing, and asks, for which room is kept: a bot takes no memory for them.
+-- Events that call nothing and bring nothing, and asks, for which room is kept: a bot does not allocate for them.
 use Rattle.std.specs.Prelude.{◌≡◌, ◌≢◌, ℕ, ◌%◌, ◌==◌, Bool, true, false, not, ◌&&◌, List, []}
 use Rattle.std.specs.List.{list_all, list_any}
 use Rattle.bottimers.specs.declared.timer.Timer.{Timer}
@@ -16,7 +16,7 @@ use Rattle.botcore.specs.Automatic.{automatic_lines, watched_in}
 use Rattle.botcore.specs.Bots.{Bot}
 use Rattle.botcore.specs.Links.{link_records}
 
--- a message that calls no proc, makes the bot put no line and look for no ban, and brings no text that has to be kept; what a bot
+-- a message that calls no proc, makes the bot queue no line and check no ban, and brings no text to keep; what a bot
 -- knows of its channels is made at the first message after it connected
 pub record BringsNothing (bot : Bot) (message : Message) : Type 0 where
   pub calls : hear_messages bot.binds.binds ≡ false
@@ -29,7 +29,7 @@ pub record BringsNothing (bot : Bot) (message : Message) : Type 0 where
 abbrev pub is_still : List Timer → ℕ → Bool
 is_still timers t = not (t % 60 == 0) && not (list_any (is_due t) timers)
 
--- a reading whose seconds are all so
+-- a reading whose seconds are all like that
 abbrev pub is_still_until : Bot → ℕ → Bool
 is_still_until bot now = list_all (is_still bot.timers.timers) (seconds_run bot.clock now)
 
@@ -38,7 +38,8 @@ pub record PassesQuietly (bot : Bot) (now : ℕ) : Type 0 where
   pub calls : is_still_until bot now ≡ true
   pub lines : sent bot.queues now ≡ []
 
--- an event that takes no memory for what it calls and brings, or an ask; of others the step's own rule says when they take none
+-- an event for whose calls and content the bot does not allocate, or an ask; for others the step's own rule says when
+-- it does not allocate
 abbrev pub NeedsNone : Bot → Event → Type 0
 NeedsNone bot (Line (a_message message)) = BringsNothing bot message
 NeedsNone bot (Line (a_bad_line fault)) = ⊥

@@ -1,4 +1,4 @@
--- What a step tells.
+-- The report of a step.
 use Rattle.std.specs.Prelude.{ℕ, List, [], true, map, Option, Some, None, Result, Ok, Err}
 use Rattle.bytetext.specs.declared.failure.Failure.{Failure}
 use Rattle.bytetext.specs.declared.failure.Failure.TheVariants.{Refused as refused_by, NoMemory as no_memory}
@@ -31,26 +31,26 @@ refused refusal = plain (Refused refusal) None
 abbrev pub out_of_memory : Report
 out_of_memory = plain NoMemory None
 
--- what a call of the link answers
+-- the answer of a call of the link
 abbrev pub answer_report : Result Answer (Failure LinkFault) → Report
 answer_report (Ok answer) = record (done (Some (link_note answer.note))) { packets = answer.packets }
 answer_report (Err (refused_by fault)) = refused (link_refusal fault)
 answer_report (Err no_memory) = out_of_memory
 
--- what making a bind answers
+-- the answer of `bind`
 abbrev pub bind_report : Result ℕ (Failure BindFault) → Report
 bind_report (Ok number) = done (Some (Bound number))
 bind_report (Err (refused_by fault)) = refused (bind_refusal fault)
 bind_report (Err no_memory) = out_of_memory
 
--- what taking a bind away answers
+-- the answer of `unbind`
 abbrev pub unbind_report : Result ℕ BindFault → Report
 unbind_report (Ok number) = done (Some (Unbound number))
 unbind_report (Err fault) = refused (bind_refusal fault)
 
 -- ---- what calls procs
 
--- this came of it: these calls were made, these texts go to bots and these lines to the server, and these faults are told
+-- what came of an event: its calls, its texts to bots, its lines to the server, and its faults
 abbrev pub told : Option Note → List MadeCall → List Outgoing → List (List ℕ) → List Fault → Report
 told note calls packets lines faults =
     record {

@@ -1,4 +1,4 @@
--- Seconds that timers were given and may be given.
+-- The seconds that timers were given, and those that they may be given next.
 use Rattle.std.specs.Prelude.{ℕ, ◌<◌, ◌≤◌, Option, Some, None, List, [], ◌∷◌}
 use Rattle.bytetext.specs.declared.moment.TheConstants.{MOMENTS_END}
 use Rattle.bottimers.specs.Held.{IsAbove}

@@ -1,4 +1,4 @@
--- Occasions are what happens, with each minute as a calendar and a clock show it.
+-- Occasions are happenings, with each minute as a calendar and a clock show it.
 use Rattle.std.specs.Prelude.{◌≡◌, List, [], ◌∷◌}
 use Rattle.bottimers.specs.Civil.{IsCalendarMinute}
 use Rattle.botcalls.specs.declared.occasion.Occasion.{Occasion}
@@ -8,7 +8,7 @@ use Rattle.botcore.specs.declared.report.End.TheVariants.{Done, Refused, NoMemor
 use Rattle.botcore.specs.Happenings.{Happening}
 use Rattle.botcore.specs.Happenings.Happening.{Heard as heard_event, Due as due_proc, Time as time_minute, Cron as cron_minute, Said as said_text}
 
--- the same, where a minute is the one of its number
+-- the occasion is the happening, with the minute of its number
 abbrev pub IsShown : Happening → Occasion → Type 0
 IsShown (heard_event event) (Heard e) = e ≡ event
 IsShown (due_proc proc text) (Due p t) = (p ≡ proc) × (t ≡ text)
@@ -23,13 +23,13 @@ AreOccasions [] [] = Unit {0}
 AreOccasions (h ∷ hs) (o ∷ os) = IsShown h o × AreOccasions hs os
 AreOccasions happenings occasions = ⊥
 
--- one for each of the first of what happens
+-- one occasion for each of the first happenings
 abbrev pub AreFirst : List Happening → List Occasion → Type 0
 AreFirst happenings [] = Unit {0}
 AreFirst [] (o ∷ os) = ⊥
 AreFirst (h ∷ hs) (o ∷ os) = IsShown h o × AreFirst hs os
 
--- all of what happens, or where memory ran out the first of it
+-- all happenings; or out of memory, the first of them
 abbrev pub AreTaken : End → List Happening → List Occasion → Type 0
 AreTaken Done happenings occasions = AreOccasions happenings occasions
 AreTaken (Refused why) happenings occasions = AreOccasions happenings occasions

@@ -53,12 +53,13 @@ use Rattle.botcore.specs.Reports.{done, refused, out_of_memory, answer_report}
 
 -- ---- events that call nothing
 
--- what an event gives, whatever it reports, unless memory runs out
+-- the result of an event, whatever it reports, unless memory runs out
 pub record Due : Type 0 where
   pub report : Report
   pub after : Bot
 
--- connected: on no channel, under the nick of the configuration, and of all lines for the server only the greeting waits
+-- connected: on no channel, under the nick of the configuration, and of all lines for the server only the greeting
+-- waits
 abbrev pub connect_due : Bot → Due
 connect_due old = record {
   report = record (done None) { faults = put_faults idle (greeting old.config) };
@@ -78,11 +79,11 @@ bind_due old asked (Some fault) = record { report = refused (bind_refusal fault)
 bind_due old asked None =
     record { report = done (Some (Bound (number_of old.binds asked))); after = record old { binds = bound old.binds asked } }
 
--- the bind that is to go, if it is held
+-- the bind to remove, if there is one
 abbrev pub bind_to_go : Table → OldBind → Option HeldBind
 bind_to_go table gone = find (is_such gone.kind gone.mask gone.proc) table.binds
 
--- a bind that is taken away, if it is held
+-- a bind is removed, if there is one
 abbrev pub unbind_due : Bot → OldBind → Option HeldBind → Due
 unbind_due old gone None = record { report = refused (bind_refusal NoSuchBind); after = old }
 unbind_due old gone (Some bind) = record {
@@ -90,7 +91,7 @@ unbind_due old gone (Some bind) = record {
   after = record old { binds = record old.binds { binds = without_such gone.kind gone.mask gone.proc old.binds.binds } };
 }
 
--- what is due is reported and done; out of memory, which needs a growth, leaves the bot as it was
+-- what is due is reported and done; out of memory, which requires an allocation, leaves the bot as it was
 abbrev pub Gives : End → Type 0 → Bot → Due → Report → Bot → Type 0
 Gives Done Grows old due report new = (report ≡ due.report) × (new ≡ due.after)
 Gives (Refused why) Grows old due report new = (report ≡ due.report) × (new ≡ due.after)
@@ -105,7 +106,7 @@ GivesUnbind old gone report new = Gives report.end ⊥ old (unbind_due old gone 
 
 -- ---- calls of the link
 
--- The link was called: its end of it met the rule, the answer is reported, and the bot is left with that end.
+-- The link was called: its end met the rule, the answer is reported, and the bot is left with that end.
 pub record GivesCall (Met : Result Answer (Failure LinkFault) → BotEnd → Type 0)
     (left : Result Answer (Failure LinkFault) → BotEnd → Bot) (told : Report) (new : Bot) : Type 0 where
   pub answer : Result Answer (Failure LinkFault)
@@ -113,7 +114,7 @@ pub record GivesCall (Met : Result Answer (Failure LinkFault) → BotEnd → Typ
   pub report : told ≡ answer_report answer
   pub after : new ≡ left answer new.link
 
--- nothing but the end of the link is another then
+-- then only the end of the link differs
 abbrev pub relinked : Bot → Result Answer (Failure LinkFault) → BotEnd → Bot
 relinked old answer link = record old { link = link }
 
@@ -123,7 +124,8 @@ GivesAsk old change report new = GivesCall (Asks old.link change) (relinked old)
 abbrev pub GivesRow : Bot → (How → Row LinkEnd) → Report → Bot → Type 0
 GivesRow old row report new = GivesCall (Calls old.link row) (relinked old) report new
 
--- A restart loses all but the binds and what the journal has; one that fails loses nothing, and its end of the link is down.
+-- A restart loses everything but the binds and the content of the journal. A failed restart loses nothing, and leaves
+-- its end of the link down.
 abbrev pub after_restart : Bot → Result Answer (Failure LinkFault) → BotEnd → Bot
 after_restart old (Ok answer) link = restarted old link
 after_restart old (Err why) link = record old { link = link }
@@ -133,8 +135,8 @@ GivesRestart old report new = GivesCall (CallsRestart old.link) (after_restart o
 
 -- ---- events that call procs
 
--- All these calls were made, each answered by its proc, which saw the bot `start`, and what they ask for was done, from that bot
--- on; `finish` makes what the event leaves of that.
+-- All these calls were made, each answered by its proc, which saw the bot `start`, and their actions were carried out,
+-- from that bot on; `finish` gives what the event then leaves.
 pub record IsCalled (promised : Promised) (told : List Telling)
     (start : Bot) (came : Option Note) (finish : List MadeCall → Finish) (report : Report) (new : Bot) : Type 0 where
   pub calls : map entry_of report.calls ≡ calls_in told
@@ -158,14 +160,15 @@ pub record IsCutShort (promised : Promised) (seen : Seen) (told : List Telling) 
   pub logged : report.logged ≡ is_logged (map entry_of report.calls)
   pub after : new ≡ old
 
--- what calls procs is never refused
+-- an event that calls procs is never refused
 abbrev pub TakesCalls : End → Promised → List Telling → Bot
     → Bot → Option Note → (List MadeCall → Finish) → Report → Bot → Type 0
 TakesCalls Done promised told old start came finish report new = IsCalled promised told start came finish report new
 TakesCalls (Refused why) promised told old start came finish report new = ⊥
 TakesCalls NoMemory promised told old start came finish report new = IsCutShort promised (bot_seen start) told old report new
 
--- a message: its events call procs, their actions are done, it is taken into the channel state, and the bot's own lines are put
+-- a message: its events call procs, their actions are carried out, it is applied to the channel state, and the bot's
+-- own lines are queued
 abbrev pub message_told : Promised → List (List ℕ) → Bot → Message → List Telling
 message_told promised names bot message = told_of (bot_setting promised names bot) (map Heard (events_of message bot.channels))
 
@@ -187,8 +190,8 @@ TakesText promised names old saying report new =
     TakesCalls report.end promised (told_of (bot_setting promised names old) (said_occasions saying)) old old
     (Some (text_note saying)) (finish_text old) report new
 
--- a packet is one call of the link, and its text, if it brings one to this bot, is told; what a text does doesn't depend on what
--- happened to the disks
+-- a packet is one call of the link, and the bot handles its text, if it brings one to this bot; what a text does
+-- doesn't depend on what happened to the disks
 abbrev pub TakesPacket : Option Saying → Promised → List (List ℕ)
     → Bot → Packet → Report → Bot → Type 0
 TakesPacket None promised names old packet report new = GivesRow old (took old.link packet) report new
@@ -203,12 +206,12 @@ abbrev pub is_stale : Option ℕ → ℕ → Bool
 is_stale None now = false
 is_stale (Some last) now = nat_le now last
 
--- the bot when all seconds of a reading have run: its clock is at the reading, where new timers are made
+-- the bot when all seconds of a reading have run: its clock is at the reading, at which new timers are made
 abbrev pub run_to : Bot → ℕ → Bot
 run_to old now = record old { clock = Some now; timers = passed_all old.timers (seconds_run old.clock now) }
 
--- the seconds of a reading call procs, then all actions are done, and then the lines that may go are sent; where memory runs
--- out, the first of all may be called
+-- the seconds of a reading call procs, then all actions are carried out, and then the lines that may go are sent; out
+-- of memory, only the first procs may be called
 abbrev pub TakesSeconds : Promised → List (List ℕ)
     → Bot → ℕ → Report → Bot → Type 0
 TakesSeconds promised names old now report new =
@@ -217,13 +220,13 @@ TakesSeconds promised names old now report new =
     × TakesCalls report.end promised (told_of (bot_setting promised names old) occasions) old (run_to old now)
     None (finish_reading (run_to old now) now) report new
 
--- one that is not above the last does nothing, and takes no memory
+-- a reading that is not above the last does nothing, and does not allocate
 abbrev pub TakesMoment : Bool → Promised → List (List ℕ)
     → Bot → ℕ → Report → Bot → Type 0
 TakesMoment true promised names old now report new = (report ≡ done None) × (new ≡ old)
 TakesMoment false promised names old now report new = TakesSeconds promised names old now report new
 
--- one that is no moment is refused
+-- a reading that is not a moment is refused
 abbrev pub TakesReading : Option ClockFault → Promised → List (List ℕ)
     → Bot → ℕ → Report → Bot → Type 0
 TakesReading (Some fault) promised names old now report new = (report ≡ refused (clock_refusal fault)) × (new ≡ old)
@@ -231,7 +234,7 @@ TakesReading None promised names old now report new = TakesMoment (is_stale old.
 
 -- ---- any event
 
--- a packet that comes has records of good shape
+-- a packet that arrives has well-formed records
 abbrev pub IsGoodEvent : Event → Type 0
 IsGoodEvent Connect = Unit {0}
 IsGoodEvent (Line line) = Unit {0}

@@ -1,4 +1,4 @@
-// What the actions of calls do.
+// Carries out the actions of calls.
 
 use crate::fault::{ActionFault, Fault};
 use crate::putting::put;
@@ -15,10 +15,10 @@ use std::marker::Model;
 use storage::Disk;
 use userfile::Change;
 
-// What actions have changed so far beside the link, and what went wrong.
+// What actions have changed so far besides the link, and what went wrong.
 #[derive(Drop)]
 pub(crate) struct Doing {
-    // The timers: new ones are made at the last second.
+    // The timers; new timers are made at the last second.
     pub(crate) timers: Timers,
     // The last second of the clock.
     pub(crate) last: Option<u64>,
@@ -54,7 +54,7 @@ impl Doing {
     ghost use Rattle.outqueue.specs.Refusals.{refusal};
     ghost use Rattle.botcore.specs.Progress.{HasMoreAsks, Leaves, LeavesAll, acting_at};
 
-    // Before the first action. Takes no memory.
+    // Creates the state before the first action. Does not allocate.
     pub(crate) fn new(
         alloc: Global,
         timers: Timers,
@@ -74,8 +74,8 @@ impl Doing {
         }
     }
 
-    // Does all that calls ask for, in their order, and tells what is refused. Out of memory some of it is done, and asks and
-    // lines that came of it can be taken back.
+    // Carries out the actions of all calls, in order, and records the refusals. Out of memory, some of them are
+    // carried out; the caller can take back the asks and lines that they added.
     pub(crate) fn act_for<D: Disk>(
         &mut self,
         alloc: Global,
@@ -92,7 +92,7 @@ impl Doing {
         Ok(())
     }
 
-    // Does these actions, in order.
+    // Carries out these actions, in order.
     fn act_all<D: Disk>(
         &mut self,
         alloc: Global,
@@ -109,7 +109,7 @@ impl Doing {
         Ok(())
     }
 
-    // Does an action, or tells why not.
+    // Carries out an action, or records why not.
     #[tactic(auto, using(crate::proofs::AskLemmas::HasMoreAsks_refl, crate::proofs::PutLemmas::HasMoreLines_same))]
     fn act<D: Disk>(
         &mut self,
@@ -131,7 +131,7 @@ impl Doing {
         }
     }
 
-    // Lets a change wait for a pump, or tells why not.
+    // Queues a change for a pump, or records why not.
     #[tactic(auto, using(crate::proofs::AskLemmas::HasMoreAsks_refl))]
     fn ask<D: Disk>(
         &mut self,
@@ -152,7 +152,7 @@ impl Doing {
         }
     }
 
-    // Makes a timer, or tells why not.
+    // Makes a timer, or records why not.
     fn make_timer(
         &mut self,
         alloc: Global,
@@ -175,7 +175,7 @@ impl Doing {
         }
     }
 
-    // Takes a timer away, or tells why not.
+    // Removes a timer, or records why not.
     fn kill_timer(&mut self, name: &TimerName) -> Result<(), NoMemory>
         ensures done { OnOk result ((link : BotEnd) → Leaves self.old (killed_if
             (holds_named self.old.timers name.now.proc name.now.text) (acting_at link self.old) name.now) link self.new) }
@@ -190,7 +190,7 @@ impl Doing {
         }
     }
 
-    // Lets a text go out, or tells why not.
+    // Sends a text, or records why not.
     fn send_text<D: Disk>(
         &mut self,
         alloc: Global,
@@ -208,7 +208,7 @@ impl Doing {
         }
     }
 
-    // Puts a line into its queue, or tells why not.
+    // Queues a line, or records why not.
     fn put(&mut self, alloc: Global, wish: &PutWish) -> Result<(), NoMemory>
         ensures done { OnOk result ((link : BotEnd) → Leaves self.old (put_unless
             (refusal self.old.queues wish.now.queue wish.now.line) (acting_at link self.old) wish.now) link self.new) }
@@ -221,7 +221,7 @@ impl Doing {
         }
     }
 
-    // Tells a refusal after the faults so far.
+    // Appends a refusal to the faults.
     fn tell(&mut self, fault: ActionFault) -> Result<(), NoMemory>
         ensures told { OnOk result (self.new ≡ record self.old { faults = self.old.faults ++ action_fault fault ∷ [] }) }
         ensures queues { self.new.queues ≡ self.old.queues }

@@ -1,4 +1,4 @@
-// The lines that a bot puts by itself.
+// The lines that a bot queues by itself.
 ghost use Rattle.std.specs.Prelude.{◌≡◌, ◌∷◌, [], map, slice_get, IfOk, IsOk};
 ghost use Rattle.ircline.specs.Printing.{wants_colon};
 ghost use Rattle.botcore.specs.Automatic.{greeting, is_welcome, if_there, join_wish, other_nick, pong_wish};
@@ -22,8 +22,8 @@ impl<D: Disk> Bot<D> {
     ghost use Rattle.botcore.specs.Automatic.{automatic_lines, watched_in};
     ghost use Rattle.botcore.specs.Links.{link_records};
 
-    // The lines that a message makes it put, told from its channels before the message. Where there are none, and nobody
-    // else joins a channel on which it is op, this takes no memory.
+    // Returns the lines that a bot queues for a message, by its channels before the message. It does not allocate if
+    // there are none and nobody else joins a channel on which the bot is op.
     pub(crate) fn automatic_lines(
         &self,
         alloc: Global,
@@ -70,14 +70,14 @@ impl<D: Disk> Bot<D> {
     }
 }
 
-// Whether the server has welcomed the bot.
+// Whether the server welcomes the bot with this message.
 pub(crate) fn is_welcome(message: &Message) -> bool
     ensures { result ≡ is_welcome message.now }
 {
     message.command.is_same(b"001") && !message.params.is_empty()
 }
 
-// The lines that a bot puts as soon as it has connected.
+// Returns the lines that a bot queues as soon as it has connected.
 pub(crate) fn greeting(alloc: Global, config: &Config) -> Result<Vec<PutWish>, NoMemory>
     ensures { IfOk result (λ wishes. wishes.items ≡ greeting config.now) }
 {
@@ -88,7 +88,7 @@ pub(crate) fn greeting(alloc: Global, config: &Config) -> Result<Vec<PutWish>, N
     Ok(wishes)
 }
 
-// What a PING makes it put.
+// Returns the answer to a PING.
 fn answer(alloc: Global, params: &[Text]) -> Result<Vec<PutWish>, NoMemory>
     ensures lines { IfOk result (λ wishes. wishes.items
         ≡ if_there (slice_get params.now 0) (λ text. pong_wish text ∷ [])) }
@@ -100,7 +100,7 @@ fn answer(alloc: Global, params: &[Text]) -> Result<Vec<PutWish>, NoMemory>
     }
 }
 
-// The PONG of this text, as a canonical line has it.
+// Returns the PONG with this text, as a canonical line.
 fn pong(alloc: Global, text: &[u8]) -> Result<PutWish, NoMemory>
     ensures { IfOk result (λ wish. wish ≡ pong_wish text.now) }
 {
@@ -111,7 +111,7 @@ fn pong(alloc: Global, text: &[u8]) -> Result<PutWish, NoMemory>
     }
 }
 
-// Whether a last parameter can't stand without a colon.
+// Whether a last parameter needs a colon.
 fn wants_colon(param: &[u8]) -> bool
     ensures { result ≡ wants_colon param.now }
 {
@@ -121,7 +121,7 @@ fn wants_colon(param: &[u8]) -> bool
     }
 }
 
-// What a welcome makes it put: it joins these channels.
+// Returns the lines for a welcome: the bot joins these channels.
 fn join_all(alloc: Global, params: &[Text], channels: &[Text]) -> Result<Vec<PutWish>, NoMemory>
     ensures lines { IfOk result (λ wishes. wishes.items
         ≡ if_there (slice_get params.now 0) (λ nick. map join_wish channels.now)) }
@@ -133,7 +133,7 @@ fn join_all(alloc: Global, params: &[Text], channels: &[Text]) -> Result<Vec<Put
     }
 }
 
-// The JOIN of each of these channels.
+// Returns the JOIN of each of these channels.
 fn joins_of(alloc: Global, channels: &[Text]) -> Result<Vec<PutWish>, NoMemory>
     ensures lines { IfOk result (λ wishes. wishes.items ≡ map join_wish channels.now) }
     ensures needs_none { channels.now ≡ [] → IsOk result }
@@ -145,7 +145,7 @@ fn joins_of(alloc: Global, channels: &[Text]) -> Result<Vec<PutWish>, NoMemory>
     Ok(wishes)
 }
 
-// What a nick that is in use makes it put.
+// Returns the line for a nick that is in use.
 fn other_nick(alloc: Global, welcomed: bool, params: &[Text]) -> Result<Vec<PutWish>, NoMemory>
     ensures lines { IfOk result (λ wishes. wishes.items ≡ other_nick welcomed params.now) }
     ensures needs_none { other_nick welcomed params.now ≡ [] → IsOk result }

@@ -1,4 +1,4 @@
-// What the lines mean that a bot puts by itself.
+// A law about the lines that a bot queues by itself.
 ghost use Rattle.std.specs.Prelude.{◌≡◌, ◌≢◌, ℕ, List, Option, Bool};
 ghost use Rattle.ircline.specs.declared.message.Message.{Message};
 ghost use Rattle.userfile.specs.declared.ban.Ban.{Ban};
@@ -8,8 +8,8 @@ ghost use Rattle.botcore.specs.declared.config.Config.{Config};
 ghost use Rattle.botcore.specs.declared.cue.Cue.TheVariants.{Mode};
 ghost use Rattle.botcore.specs.Automatic.{automatic_lines, cue_of};
 
-/// A law, and no more: but for a MODE, the lines that a message makes a bot put are told alike by its channels before the
-/// message and by those after it, by which the rule tells them.
+/// States a law and does nothing: unless a message is a MODE, a bot queues the same lines for it by the channels
+/// before the message and by the channels after it. The rule of these lines uses the channels after the message.
 pub fn laws_of_automatic_lines()
     ensures { (config : Config) (s : ChanState) (bans : List Ban) (last : Option ℕ) (welcomed : Bool)
         (message : Message) → cue_of message.command ≢ Mode

@@ -10,8 +10,8 @@ use std::marker::Model;
 use storage::Disk;
 use userfile::Userfile;
 
-/// A bot: its end of the sharing link over a journal on two disks, its binds, the channels that it is on, its clock, its timers, and its lines for the
-/// server.
+/// A bot: its end of the sharing link over a journal on two disks, its binds, the channels that it is on, its clock,
+/// its timers, and its lines for the server.
 pub struct Bot<D: Disk> {
     pub(crate) config: Config,
     pub(crate) link: BotLink<D>,
@@ -20,11 +20,11 @@ pub struct Bot<D: Disk> {
     pub(crate) clock: Clock,
     pub(crate) timers: Timers,
     pub(crate) queues: Queues,
-    // Whether a 001 was taken in since it last connected.
+    // Whether a 001 was taken in since the bot last connected.
     pub(crate) welcomed: bool,
 }
 
-// By hand, so that this is proved once, and not in each crate in which a bot ends.
+// Written by hand, so that it is proved once and not in each crate that drops a bot.
 impl<D: Disk> Drop for Bot<D> {
     fn drop(self) {
         let Bot {
@@ -61,8 +61,8 @@ impl<D: Disk> Model for Bot<D> {
     ghost use Rattle.outqueue.specs.Sending.{no_room};
     ghost use Rattle.chanstate.specs.Views.{connected};
 
-    // No timer has seen a second that the clock has not, no room is kept for lines to come, and what it goes back to when
-    // it leaves all channels is under its configuration's nick.
+    // The timers have seen no second that the clock has not, no room is reserved for further lines, and the state to
+    // which the bot returns when it leaves all channels has the nick of its configuration.
     ghost invariant = { λ b. IsReached b.timers.last b.clock × (b.queues.room ≡ no_room)
         × (b.channels.first ≡ connected b.config.nick) };
 }
@@ -73,66 +73,68 @@ impl<D: Disk> Bot<D> {
     ghost use Rattle.botlink.specs.Links.{MayLeave};
     ghost use Rattle.botcore.specs.Links.{ask_count, link_records, link_version};
 
-    /// What it was told before it was made.
+    /// Returns the configuration with which the bot was made.
     pub fn config(&self) -> &Config
         ensures { result.now ≡ self.now.config }
     {
         &self.config
     }
 
-    /// The version of its userfile: how many changes the hub has accepted, or the number of the last one that the leaf holds.
+    /// Returns the version of its userfile: for the hub, the number of changes that it has accepted; for a leaf, the
+    /// number of the last change that it holds.
     pub fn version(&self) -> u32
         ensures { result ≡ link_version self.now.link }
     {
         self.link.version()
     }
 
-    /// Its userfile at that version.
+    /// Returns its userfile at that version.
     pub fn userfile(&self) -> &Userfile
         ensures { result.now ≡ link_records self.now.link }
     {
         self.link.userfile()
     }
 
-    /// Whether a disk failed, or a restart did not end, since its journal was last opened. Until a restart its end of the link
-    /// takes nothing: no ask, no pump, no packet and no compaction. Lines, readings and binds go on.
+    /// Returns whether a disk failed or a restart did not end since the bot's journal was last opened. Until a restart
+    /// its end of the link then refuses every ask, pump, packet and compaction. Lines, readings and binds still work.
     pub fn is_down(&self) -> bool
         ensures { result ≡ end_is_down self.now.link.end }
     {
         self.link.is_down()
     }
 
-    /// How many asks wait for a pump.
+    /// Returns the number of asks that wait for a pump.
     pub fn ask_count(&self) -> usize
         ensures { result ≡ ask_count self.now.link }
     {
         self.link.ask_count()
     }
 
-    /// Whether a 001 of the server was taken in since the bot last connected.
+    /// Returns whether a 001 of the server was taken in since the bot last connected.
     pub fn is_welcomed(&self) -> bool
         ensures { result ≡ self.now.welcomed }
     {
         self.welcomed
     }
 
-    /// The nick that the server knows it by: before a 001 that of its configuration.
+    /// Returns the nick by which the server knows it: before a 001, the nick of its configuration.
     pub fn own_nick(&self) -> &[u8]
         ensures { result.now ≡ self.now.channels.nick }
     {
         self.channels.current().own_nick()
     }
 
-    /// Says what a crash leaves at this moment, between two steps. It does nothing.
+    /// States what a crash leaves at this moment, between two steps. It does nothing.
     pub fn know_disks(&self)
-        // What a restart finds, with the record in doubt or without it.
+        // What a restart finds: the journal with the record in doubt, or without it.
         ensures left { MayLeave self.now.link.device.first self.now.link.device.second self.now.link }
     {
         self.link.know_disks();
     }
 
-    /// The two disks, in the order in which they were given. Whatever a crash leaves on them is the bot's journal; one that
-    /// is opened with the same configuration is at the same version, but for what is in doubt since a disk failed.
+    /// Returns the two disks, in the order in which they were given. Whatever a crash leaves on them is the bot's
+    /// journal. A bot that is opened from it with the same configuration is at the same version, except for the record
+    /// that is in doubt since a disk failed.
     pub fn into_disks(self) -> Disks<D>
         ensures left { MayLeave (D.state result.first) (D.state result.second) self.link }
     {

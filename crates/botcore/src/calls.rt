@@ -1,4 +1,4 @@
-// What calls and their actions make of a bot.
+// What calls and their actions do to a bot.
 ghost use Rattle.std.specs.Prelude.{◌≡◌, [], map, IfOk, IsFalse, IsOk};
 ghost use Rattle.botcore.specs.declared.fault.Fault.TheVariants.{Unbound as unbound_fault};
 ghost use Rattle.botcore.specs.Acting.{actions_of};
@@ -17,23 +17,23 @@ use std::alloc::Global;
 use std::mem;
 use storage::Disk;
 
-// What actions leave, beside the link and the queues.
+// What actions leave, besides the link and the queues.
 #[derive(Drop)]
 pub(crate) struct Left {
     // The timers, if an action may have changed them.
     pub(crate) timers: Option<Timers>,
-    // The texts that are to go out.
+    // The texts to send.
     pub(crate) packets: Outgoings,
     // The binds and timers that were left out, and then the actions that were refused.
     pub(crate) faults: Faults,
 }
 
-// What is told of what an event makes a bot do.
+// What a report says about the actions of an event.
 #[derive(Drop)]
 pub(crate) struct Told {
-    // The texts that go to other bots.
+    // The texts to send to other bots.
     pub(crate) packets: Outgoings,
-    // The lines that go to the server.
+    // The lines to send to the server.
     pub(crate) lines: Texts,
     // What was left out or refused.
     pub(crate) faults: Faults,
@@ -49,8 +49,8 @@ impl<D: Disk> Bot<D> {
     ghost use Rattle.botcore.specs.Lines.{acting_of, acting_after};
     ghost use Rattle.botcore.specs.Progress.{HasMore};
 
-    // Calls the procs that occasions call, which see the bot at this second: all of them, or the first ones before memory ran
-    // out.
+    // Calls the procs of occasions, which see the bot at this second. Out of memory, only the first of them were
+    // called.
     pub(crate) fn call_procs<P: Promise, B: Run>(
         &self,
         alloc: Global,
@@ -71,8 +71,8 @@ impl<D: Disk> Bot<D> {
         call_procs(alloc, &scene, occasions)
     }
 
-    // Does what calls ask for at the link and the queues, and says what else is to be done. Where memory runs out, some
-    // asks and lines may have come.
+    // Carries out the actions of calls on the link and the queues, and returns what else they change. Out of memory,
+    // some asks and lines may have been added.
     pub(crate) fn act(
         &mut self,
         alloc: Global,
@@ -102,7 +102,7 @@ impl<D: Disk> Bot<D> {
         self.act_for(alloc, calls, faults)
     }
 
-    // Does what calls ask for, and tells what is refused after the faults so far.
+    // Carries out the actions of calls, and appends the refusals to the faults.
     fn act_for(
         &mut self,
         alloc: Global,
@@ -134,7 +134,7 @@ impl<D: Disk> Bot<D> {
         })
     }
 
-    // Takes the timers that actions left, if they may have changed them. Takes no memory.
+    // Stores the timers that actions left, if they may have changed them. Does not allocate.
     pub(crate) fn put_timers(&mut self, timers: Option<Timers>)
         requires { IfSome timers (λ timers. IsReached timers.last self.old.clock) }
         ensures { self.new ≡ record self.old { timers = unwrap_or timers self.old.timers } }
@@ -145,7 +145,7 @@ impl<D: Disk> Bot<D> {
     }
 }
 
-// The binds that were left out, as faults.
+// Returns the binds that were left out, as faults.
 fn left_out(alloc: Global, unbound: Vec<Unbound>) -> Result<Faults, NoMemory>
     ensures faults { IfOk result (λ faults. faults ≡ map (λ u. unbound_fault u) unbound.items) }
     ensures needs_none { unbound.items ≡ [] → IsOk result }
@@ -157,7 +157,7 @@ fn left_out(alloc: Global, unbound: Vec<Unbound>) -> Result<Faults, NoMemory>
     Ok(Seq::new(faults))
 }
 
-// Whether some call asks for something.
+// Whether a call has an action.
 fn asks_any(calls: &[MadeCall]) -> bool
     ensures silent { IsFalse result → actions_of calls.now ≡ [] }
     ensures none { calls.now ≡ [] → IsFalse result }

@@ -1,4 +1,4 @@
-// What a bot is told before it is made.
+// The configuration of a bot.
 ghost use Rattle.std.specs.Prelude.{◌≡◌, IfSome, IfNone, true};
 ghost use Rattle.std.specs.List.{list_all};
 ghost use Rattle.rfccase.specs.Channels.{is_channel_name};
@@ -13,24 +13,25 @@ use linkcalls::MAX_LEAVES;
 use rfccase::is_channel_name;
 use std::alloc::Global;
 
-/// What a bot is told before it is made.
+/// The configuration with which a bot is made.
 #[derive(Debug)]
 pub struct Config {
-    /// Its number among the bots: 0 is the hub, and the leaves are 1 to `leaves`.
+    /// The bot's number: 0 is the hub, and the leaves are 1 to `leaves`.
     pub number: u16,
-    /// How many leaves the hub has, at most 1,000.
+    /// The number of leaves of the hub, at most 1,000.
     pub leaves: u16,
-    /// The nick under which it connects: 1 to 30 bytes above 32, none of them one of `! @ , * ?`, the first no colon.
+    /// The nick under which the bot connects: 1 to 30 bytes above 32, none of them one of `! @ , * ?`, and the first
+    /// is no colon.
     pub nick: Text,
-    /// The channels that it joins, in order. Each is a channel name.
+    /// The channels that the bot joins, in order. Each is a channel name.
     pub channels: Texts,
-    /// Whether a text for which a `msgm` or `pubm` proc was called is no event for `msg` or `pub` binds.
+    /// Whether a text for which a `msgm` or `pubm` proc was called is not an event for `msg` or `pub` binds.
     pub exclusive: bool,
     /// How far its clock is ahead of UTC.
     pub zone: Zone,
 }
 
-// By hand, so that this is proved once, and not in each function in which one ends.
+// Written by hand, so that it is proved once and not in each function that drops one.
 impl Drop for Config {
     fn drop(self) {
         let Config {
@@ -45,7 +46,7 @@ impl Drop for Config {
 }
 
 impl Config {
-    /// Why no bot can be made so: `BadConfig` (G1) where a field is out of its range.
+    /// Returns why no bot can be made with this configuration: `BadConfig` (G1) if a field is out of its range.
     pub fn refusal(&self) -> Option<BotFault>
         ensures good { IfNone result (IsGood self.now) }
         ensures bad { IfSome result (λ _. ¬ IsGood self.now) }

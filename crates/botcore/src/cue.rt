@@ -1,11 +1,11 @@
-// Which messages make a bot put lines by itself.
+// Which messages make a bot queue lines by itself.
 ghost use Rattle.std.specs.Prelude.{◌≡◌};
 ghost use Rattle.botcore.specs.Automatic.{cue_of};
 
-/// A command, as far as a bot puts lines by itself for it (RFC 2812 sections 3.1 to 3.7 and 5).
+/// A command, by the lines that a bot queues for it (RFC 2812 sections 3.1 to 3.7 and 5).
 #[derive(Clone, Copy)]
 pub enum Cue {
-    /// The server wants to know whether the bot is there.
+    /// The server checks that the bot is still connected.
     Ping,
     /// Somebody joins channels.
     Join,
@@ -15,11 +15,11 @@ pub enum Cue {
     RplWelcome,
     /// 433: the nick is in use.
     ErrNicknameInUse,
-    /// Any other.
+    /// Any other command.
     Other,
 }
 
-// The cue that a command is.
+// Returns the cue of a command.
 pub(crate) fn cue_of(command: &[u8]) -> Cue
     ensures { result ≡ cue_of command.now }
 {

@@ -1,4 +1,4 @@
-// What a bot is told.
+// The events that a bot handles.
 use bindtable::BindKind;
 use bytetext::{NoMemory, Text, TryCopy};
 use ircline::Line;
@@ -6,28 +6,28 @@ use linkcalls::Packet;
 use std::alloc::Global;
 use userfile::Change;
 
-/// What a bot is told: one of these is one step of it.
+/// An event for a bot to handle. Each event is one step of the bot.
 #[derive(Drop)]
 pub enum Event {
-    /// It has connected to a server: it is on no channel, under the nick of its configuration.
+    /// The bot has connected to a server: it is on no channel, under the nick of its configuration.
     Connect,
-    /// A line of the server.
+    /// The server sent a line.
     Line(Line),
-    /// A change of the userfile is asked for, and waits for a pump.
+    /// Somebody asks for a change of the userfile, which waits for a pump.
     Ask(Change),
-    /// The next piece of the link's work is to be done.
+    /// The bot is to do the next piece of the link's work.
     Pump,
-    /// A packet comes over the link. The records of a part are of good shape, as those that are read are.
+    /// A packet arrives over the link. The records of a part are well-formed, as those of a decoded packet are.
     Receive(Packet),
     /// The clock reads this many seconds since 1970-01-01 00:00 UTC.
     Clock(u64),
-    /// A bind is to be made.
+    /// Makes a bind.
     Bind(NewBind),
-    /// A bind is to be taken away.
+    /// Removes a bind.
     Unbind(OldBind),
-    /// The journal is to have the state alone, in its next generation.
+    /// Compacts the journal: it then has the state alone, in its next generation.
     Compact,
-    /// The bot ends, its disks crash, and it begins again with what its journal has.
+    /// Restarts the bot: it ends, its disks crash, and it begins again with the state in its journal.
     Restart,
 }
 
@@ -48,19 +48,19 @@ impl TryCopy for Event {
     }
 }
 
-/// A bind that is asked for. See [`BindTable::bind`](bindtable::BindTable::bind) for what each field may be.
+/// A requested bind. See [`BindTable::bind`](bindtable::BindTable::bind) for the limits of each field.
 pub struct NewBind {
     /// The kind of event.
     pub kind: BindKind,
-    /// The flag expression that a person has to meet.
+    /// The flag expression that a person must meet.
     pub flags: Text,
-    /// The keyword of a msg or pub bind, and otherwise the mask.
+    /// The keyword of a msg, pub or bot bind, or else the mask.
     pub mask: Text,
     /// The name of the proc.
     pub proc: Text,
 }
 
-// By hand, so that this is proved once, and not in each function in which one ends.
+// Written by hand, so that it is proved once and not in each function that drops one.
 impl Drop for NewBind {
     fn drop(self) {
         let NewBind {
@@ -86,7 +86,7 @@ impl TryCopy for NewBind {
     }
 }
 
-/// The bind that is to go: the one of this kind, of this mask by casemapping and of this proc byte for byte.
+/// Names the bind to remove: the one of this kind, of this mask by casemapping and of this proc byte for byte.
 pub struct OldBind {
     /// The kind of event.
     pub kind: BindKind,
@@ -96,7 +96,7 @@ pub struct OldBind {
     pub proc: Text,
 }
 
-// By hand, so that this is proved once, and not in each function in which one ends.
+// Written by hand, so that it is proved once and not in each function that drops one.
 impl Drop for OldBind {
     fn drop(self) {
         let OldBind {

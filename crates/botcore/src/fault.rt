@@ -15,19 +15,19 @@ use outqueue::QueueFault;
 use std::alloc::Global;
 use thiserror::Error;
 
-/// Why a bot is not made, in the order in which it is tested.
+/// Why a bot is not made, in the order in which the causes are tested.
 #[derive(Clone, Copy, Debug, PartialEq, Eq, Error)]
 pub enum BotFault {
     /// G1: the configuration breaks one of the rules that [`Config`](crate::Config) states.
     #[error("mend the configuration: number, leaves, nick or a channel is out of its range")]
     BadConfig,
-    /// J1 where a disk failed, J2 where the disks hold no journal, or not this bot's.
+    /// J1 if a disk failed; J2 if the disks hold no journal, or not this bot's.
     #[error("{0}")]
     Journal(JournalFault),
 }
 
 impl BotFault {
-    /// The letter and number that transcripts print.
+    /// Returns the letter and number that transcripts print.
     pub fn code(self) -> &'static str
         ensures { result.now ≡ code_of self }
     {
@@ -38,10 +38,10 @@ impl BotFault {
     }
 }
 
-/// Why a bot was not made: a fault, or out of memory where there is none.
+/// Why a bot was not made: a fault, or out of memory if there is no fault.
 pub type BotError = Failure<BotFault>;
 
-// The same error, of a bot.
+// Turns an error of a journal into an error of a bot.
 pub(crate) fn of_journal(error: JournalError) -> BotError
     ensures { result ≡ of_journal error }
 {
@@ -57,7 +57,7 @@ pub enum Refusal {
     /// The link refuses an ask, a pump, a packet, a compaction or a restart.
     #[error("{0}")]
     Link(LinkFault),
-    /// The table of binds refuses to make a bind or to take one away.
+    /// The table of binds refuses to make or remove a bind.
     #[error("{0}")]
     Bind(BindFault),
     /// The clock refuses a reading.
@@ -66,7 +66,7 @@ pub enum Refusal {
 }
 
 impl Refusal {
-    /// The letter and number that transcripts print.
+    /// Returns the letter and number that transcripts print.
     pub fn code(self) -> &'static str
         ensures { result.now ≡ refusal_code self }
     {
@@ -84,7 +84,7 @@ pub enum ActionFault {
     /// The link refuses an ask or a text.
     #[error("{0}")]
     Link(LinkFault),
-    /// The timers refuse to make a timer or to take one away.
+    /// The timers refuse to make or remove a timer.
     #[error("{0}")]
     Clock(ClockFault),
     /// A queue refuses a line.
@@ -93,7 +93,7 @@ pub enum ActionFault {
 }
 
 impl ActionFault {
-    /// The letter and number that transcripts print.
+    /// Returns the letter and number that transcripts print.
     pub fn code(self) -> &'static str
         ensures { result.now ≡ action_code self }
     {
@@ -105,19 +105,20 @@ impl ActionFault {
     }
 }
 
-/// What went wrong in a step that is done all the same.
+/// What went wrong in a step that is done nevertheless.
 #[derive(Debug, Drop)]
 pub enum Fault {
-    /// A bind or a due timer was left out, since the store lacks its proc.
+    /// A bind or a due timer was left out because the store lacks its proc.
     Unbound(Unbound),
-    /// What a proc asked for was refused and left out.
+    /// An action of a proc was refused and left out.
     Action(ActionFault),
-    /// A line of the bot's own was refused by its queue and left out.
+    /// A line that the bot queued by itself was refused by its queue and left out.
     Line(QueueFault),
 }
 
 impl Fault {
-    /// The word that transcripts print: `Unbound`, or the letter and number of the refusal of an action or a line.
+    /// Returns the word that transcripts print: `Unbound`, or the letter and number of the refusal of an action or a
+    /// line.
     pub fn word(&self) -> &'static str
         ensures { result.now ≡ fault_word self.now }
     {
@@ -128,7 +129,7 @@ impl Fault {
         }
     }
 
-    /// The name of the proc that the store lacks; none of an action or a line.
+    /// Returns the name of the proc that the store lacks; none for an action or a line.
     pub fn proc(&self) -> Option<&[u8]>
         ensures { option_copied result ≡ fault_proc self.now }
     {

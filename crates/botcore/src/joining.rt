@@ -1,4 +1,4 @@
-// What a bot does about a person who joins a channel that a ban keeps this person off.
+// What a bot does when a person joins a channel from which a ban excludes this person.
 ghost use Rattle.std.specs.Prelude.{◌≡◌, ◌≢◌, ◌∷◌, ◌++◌, [], true, false, Some, filter, length, nat_lt};
 ghost use Rattle.std.specs.Prelude.{IfOk, OnOk, IsOk};
 ghost use Rattle.std.specs.List.{filter_map, flat_map};
@@ -20,7 +20,7 @@ use rfccase::{is_channel_name, same};
 use std::alloc::Global;
 use userfile::{Ban, Userfile};
 
-// A person who has joined, and by what it is judged whether a ban keeps this person off.
+// A person who has joined, and what decides whether a ban excludes this person.
 #[derive(Clone, Copy)]
 struct Newcomer<'a> {
     nick: &'a [u8],
@@ -30,8 +30,8 @@ struct Newcomer<'a> {
     second: u64,
 }
 
-// What the JOIN of these parameters makes a bot put at a second. Where nobody else joins a channel on which the bot is
-// op, this takes no memory.
+// Returns the lines that a bot queues at a second for the JOIN with these parameters. It does not allocate if nobody
+// else joins a channel on which the bot is op.
 pub(crate) fn on_join(
     alloc: Global,
     from: Source<'_>,
@@ -71,7 +71,7 @@ fn is_own(state: &ChanState, nick: &[u8]) -> bool
     same(nick, state.own_nick())
 }
 
-// A piece of a list as the bot spells it, if it names a channel on which the bot is op.
+// Returns a piece of a list as the bot spells it, if it names a channel on which the bot is op.
 fn guarded_piece<'a>(state: &'a ChanState, piece: &[u8]) -> Option<&'a [u8]>
     ensures { option_to_list (option_copied result)
         ≡ filter_map (guarded_as state.now) (filter is_channel_name (piece.now ∷ [])) }
@@ -83,7 +83,7 @@ fn guarded_piece<'a>(state: &'a ChanState, piece: &[u8]) -> Option<&'a [u8]>
     }
 }
 
-// Whether the bot is op on a channel of a list.
+// Whether the list names a channel on which the bot is op.
 fn guards_any(state: &ChanState, list: &[u8]) -> bool
     ensures some { result ≡ true → guarded state.now list.now ≢ [] }
     ensures none { result ≡ false → guarded state.now list.now ≡ [] }
@@ -100,7 +100,7 @@ fn is_guarded(state: &ChanState, piece: &[u8]) -> bool
     guarded_piece(state, piece).is_some()
 }
 
-// The person, as hostmasks match one.
+// Returns the person, as hostmasks match one.
 fn who_of(alloc: Global, person: Person<'_>) -> Result<Text, NoMemory>
     ensures { IfOk result (λ who. who
         ≡ hostmask person.entry.nick.now (address_of person.entry.user.now person.entry.host.now)) }
@@ -114,7 +114,7 @@ fn who_of(alloc: Global, person: Person<'_>) -> Result<Text, NoMemory>
 }
 
 impl Newcomer<'_> {
-    // What is done about the person on those channels of a list on which the bot is op.
+    // Returns the lines about the person for the channels of a list on which the bot is op.
     fn wishes_on(
         &self,
         alloc: Global,
@@ -132,7 +132,7 @@ impl Newcomer<'_> {
         Ok(wishes)
     }
 
-    // What is done on a channel, after other wishes.
+    // Appends the lines about the person for a channel.
     fn push_on(
         &self,
         wishes: &mut Vec<PutWish>,
@@ -153,7 +153,7 @@ impl Newcomer<'_> {
     }
 }
 
-// The lines that set a ban on a channel and kick the person of this nick.
+// Appends the lines that set a ban on a channel and kick the person with this nick.
 fn push_ban(
     wishes: &mut Vec<PutWish>,
     alloc: Global,
@@ -169,7 +169,7 @@ fn push_ban(
     Ok(())
 }
 
-// What the banned are told.
+// Returns the reason that the kick gives.
 fn reason_of(ban: &Ban) -> &[u8]
     ensures { result.now ≡ reason_of ban.now }
 {

@@ -1,18 +1,19 @@
-//! One bot: what it is told, which procs that calls, and what it makes of their answers.
+//! One bot: the events that it handles, the procs that they call, and what it does with the answers.
 //!
-//! A [`Config`] says who a bot is. [`Bot::create`] makes it over a journal on two disks, [`Bot::open`] finds it on its
-//! disks again, and [`Bot::step`] does one step: it takes an [`Event`] and gives a [`Report`]. A message of the server, a
-//! text of another bot and a reading of the clock call procs of the store that the caller lends; every other event calls
-//! none.
+//! A [`Config`] says who a bot is. [`Bot::create`] makes a bot over a new journal on two disks, [`Bot::open`] opens it
+//! from its disks again, and [`Bot::step`] makes one step: it takes an [`Event`] and returns a [`Report`]. A message
+//! of the server, a text of another bot and a reading of the clock call procs of the store that the caller lends. No
+//! other event calls procs.
 //!
-//! Procs see their bot as it was before the event: its userfile, its channels, and the second of its clock. Those that a
-//! reading calls see the second that it reads, from which the timers that they ask for count.
+//! Procs see their bot as it was before the event: its userfile, its channels, and the second of its clock. Procs that
+//! a reading calls see the second of that reading, from which their timers count.
 //!
-//! What a step may report and leave is stated whole in `specs/Steps.antt`. What happens is in `specs/Happenings.antt`, its
-//! calls are those of `botcalls`, each with a reply that keeps its proc's promise, and what their actions do
-//! is in `specs/Acting.antt`. Lines for the server wait in queues: those that procs put, and those that the bot puts by
-//! itself (`specs/Automatic.antt`). A reading of the clock reports the lines that may go. A step that runs out of memory
-//! leaves the bot as it was; a restart that does leaves its end of the link down.
+//! `specs/Steps.antt` states in full what a step may report and leave. `specs/Happenings.antt` defines what happens in
+//! an event. Its calls are those of `botcalls`, each with a reply that keeps its proc's promise, and
+//! `specs/Acting.antt` defines what their actions do. Lines for the server wait in queues: the lines that procs queue,
+//! and the lines that the bot queues by itself (`specs/Automatic.antt`). A reading of the clock reports the lines that
+//! may go. A step that runs out of memory leaves the bot as it was. A restart that runs out of memory leaves its end
+//! of the link down.
 //!
 //! ```text
 //! let mut bot = Bot::create(alloc, config, first, second)?;

@@ -1,4 +1,4 @@
-// What a line of the server and a text of another bot make of a bot.
+// What a line of the server and a text of another bot do to a bot.
 ghost use Rattle.std.specs.Prelude.{◌≡◌, map, IfOk};
 ghost use Rattle.chanstate.specs.Events.{events_of};
 ghost use Rattle.botcalls.specs.declared.occasion.Occasion.TheVariants.{Heard};
@@ -36,7 +36,7 @@ impl<D: Disk> Bot<D> {
     ghost use Rattle.botcore.specs.Quiet.{BringsNothing};
     ghost use Rattle.botcore.specs.Steps.{TakesMessage, TakesText, said_occasions as occasions_of_text};
 
-    // A message of the server: its procs are called, and then all that they ask for is done, or nothing is.
+    // Handles a message of the server: calls its procs, and then carries out all of their actions, or none.
     pub(crate) fn hear<P: Promise, B: Run>(
         &mut self,
         alloc: Global,
@@ -58,8 +58,8 @@ impl<D: Disk> Bot<D> {
         }
     }
 
-    // Calls the procs that a message calls: all of them, or the first ones before memory ran out. Where no bind waits for
-    // messages, its events are not made.
+    // Calls the procs of a message. Out of memory, only the first of them were called. If no bind waits for messages,
+    // the events of the message are not built.
     fn call_for_message<P: Promise, B: Run>(
         &self,
         alloc: Global,
@@ -80,7 +80,7 @@ impl<D: Disk> Bot<D> {
         }
     }
 
-    // Does what calls ask for, takes their message in and puts the bot's own lines: all of it, or nothing.
+    // Carries out the actions of calls, takes their message in and queues the bot's own lines: all of it, or nothing.
     fn settle_message(
         &mut self,
         alloc: Global,
@@ -107,7 +107,7 @@ impl<D: Disk> Bot<D> {
         }
     }
 
-    // The same, but where memory runs out some asks and lines may have come. The message is taken in last.
+    // Does the same, but out of memory some asks and lines may have been added. The message is taken in last.
     fn act_on_message(
         &mut self,
         alloc: Global,
@@ -141,7 +141,7 @@ impl<D: Disk> Bot<D> {
         })
     }
 
-    // The bot's own lines for a message of these calls.
+    // Returns the bot's own lines for a message with these calls.
     fn own_lines(
         &self,
         alloc: Global,
@@ -158,7 +158,7 @@ impl<D: Disk> Bot<D> {
         self.automatic_lines(alloc, self.welcomed, message)
     }
 
-    // Puts lines of the bot's own, and tells those that are refused after the faults so far.
+    // Queues lines of the bot's own, and appends the refusals to the faults.
     fn put_own(&mut self, wishes: Vec<PutWish>, faults: &mut Faults) -> Result<(), NoMemory>
         ensures queues { OnOk result (self.new ≡ record self.old { queues = put_all self.old.queues wishes.items }) }
         ensures faults { OnOk result (faults.new ≡ faults.old ++ put_faults self.old.queues wishes.items) }
@@ -172,7 +172,7 @@ impl<D: Disk> Bot<D> {
         }
     }
 
-    // Takes a message of these calls into the channel state, unless a raw proc has answered 1.
+    // Applies a message with these calls to the channel state, unless a raw proc has answered 1.
     fn take_in(
         &mut self,
         alloc: Global,
@@ -199,7 +199,7 @@ impl<D: Disk> Bot<D> {
         }
     }
 
-    // A text of another bot: its procs are called, and then all that they ask for is done, or nothing is.
+    // Handles a text of another bot: calls its procs, and then carries out all of their actions, or none.
     pub(crate) fn hear_text<P: Promise, B: Run>(
         &mut self,
         alloc: Global,
@@ -224,7 +224,7 @@ impl<D: Disk> Bot<D> {
         }
     }
 
-    // Does all that calls ask for, or nothing.
+    // Carries out all actions of calls, or none.
     fn settle(
         &mut self,
         alloc: Global,
@@ -255,7 +255,7 @@ impl<D: Disk> Bot<D> {
         }
     }
 
-    // Calls the procs that a text calls: all of them, or the first ones before memory ran out.
+    // Calls the procs of a text. Out of memory, only the first of them were called.
     fn call_for_text<P: Promise, B: Run>(
         &self,
         alloc: Global,
@@ -273,7 +273,7 @@ impl<D: Disk> Bot<D> {
     }
 }
 
-// The events of a message, as occasions.
+// Returns the events of a message, as occasions.
 fn heard_of(
     alloc: Global,
     message: &Message,
@@ -285,7 +285,7 @@ fn heard_of(
     Ok(events.into_iter().map(Occasion::Heard).collect(alloc)?)
 }
 
-// A text of a bot, if it begins with a word.
+// Returns the occasion of a bot's text, if the text begins with a word.
 fn said_of(alloc: Global, from: u16, text: &Text) -> Result<Vec<Occasion>, NoMemory>
     ensures { IfOk result (λ occasions. occasions.items ≡ said_occasions (record { from = from; text = text.now })) }
 {

@@ -1,4 +1,4 @@
-// How a bot is made, and opened on its disks.
+// How a bot is made, and opened from its disks.
 ghost use Rattle.std.specs.Prelude.{◌≡◌, IfOk, IfErr};
 ghost use Rattle.botcore.specs.Configs.{IsGood};
 ghost use Rattle.botcore.specs.Making.{IsWhyNot};
@@ -36,12 +36,12 @@ impl<D: Disk> Bot<D> {
     ghost use Rattle.botcore.specs.Making.{Makes, Finds, FindsAtEachMoment};
     ghost use Rattle.botcore.specs.Presence.{absent};
 
-    /// A bot at version 0, without binds, that is on no channel, with a new journal on these two disks. What the disks held
-    /// is lost.
+    /// Makes a bot with this `config` at version 0, without binds and on no channel, with a new journal on the disks
+    /// `first` and `second`. What the disks held is lost.
     ///
     /// # Errors
-    /// With the disks: `BadConfig` (G1) where the configuration breaks a rule; then `NoMemory`: in both cases nothing was
-    /// written. `Journal` with J1 where a disk failed: what the disks hold is then unknown.
+    /// The error returns the disks. `BadConfig` (G1) if `config` breaks a rule, then `NoMemory`: in both cases nothing
+    /// was written. `Journal` with J1 if a disk failed: the content of the disks is then unknown.
     pub fn create(alloc: Global, config: Config, first: D, second: D) -> Result<Bot<D>, Returned<D>>
         requires first_settled { IsSettled (D.state first) }
         requires second_settled { IsSettled (D.state second) }
@@ -65,23 +65,23 @@ impl<D: Disk> Bot<D> {
         }
     }
 
-    /// The bot whose journal these two disks hold: at the journal's version, without binds, on no channel. Where the journal
-    /// has an older layout, its state is written anew in the present one first, as a compaction does it; else nothing is
-    /// written.
+    /// Opens the bot whose journal is on the disks `first` and `second`, with this `config`: at the journal's version,
+    /// without binds and on no channel. If the journal has an older layout, the call first rewrites its state in the
+    /// present layout, as a compaction does. Otherwise it writes nothing.
     ///
     /// # Errors
-    /// With the disks, which mean what they meant, or that in the present layout: `BadConfig` (G1) where the configuration
-    /// breaks a rule; then `NoMemory`; `Journal` with J1 where a read failed, and with J2 where the disks hold no journal, or
-    /// another bot's. Then, of an older layout alone, `Journal` with J4 where the journal has no next generation, `NoMemory`,
-    /// or `Journal` with J1 where a disk failed while it was written.
+    /// The error returns the disks, which mean what they meant before, or the same in the present layout. `BadConfig`
+    /// (G1) if `config` breaks a rule; then `NoMemory`; `Journal` with J1 if a read failed, and with J2 if the disks
+    /// hold no journal, or another bot's. Then, only for an older layout, `Journal` with J4 if the journal has no next
+    /// generation, `NoMemory`, or `Journal` with J1 if a disk failed during the rewrite.
     pub fn open(alloc: Global, config: Config, first: D, second: D) -> Result<Bot<D>, Returned<D>>
         requires first_settled { IsSettled (D.state first) }
         requires second_settled { IsSettled (D.state second) }
         ensures found { Finds D.state config first second result }
-        // Nothing happened to disks of the present layout.
+        // Disks of the present layout are unchanged.
         ensures still { AreCurrent D.state first second
             → IfOk result (λ bot. AreStill (D.state first) (D.state second) bot.link.device) }
-        // At each moment of the call a crash leaves what the disks meant, or that in the present layout.
+        // At each moment of the call a crash leaves what the disks meant, or the same in the present layout.
         ensures any_moment { FindsAtEachMoment D.state config first second result }
     {
         let channels = match ready(alloc, &config) {
@@ -102,7 +102,7 @@ impl<D: Disk> Bot<D> {
         }
     }
 
-    // A bot as it begins over this end of the link. Takes no memory.
+    // Creates a bot as it begins over this end of the link. Does not allocate.
     fn over(alloc: Global, config: Config, channels: Presence, link: BotLink<D>) -> Bot<D>
         requires good { IsGood config }
         requires absent { channels ≡ absent config.nick }
@@ -122,7 +122,7 @@ impl<D: Disk> Bot<D> {
     }
 }
 
-// The channels of a bot of this configuration, if it is good.
+// Returns the channels of a bot with this configuration, if the configuration is good.
 fn ready(alloc: Global, config: &Config) -> Result<Presence, BotError>
     ensures good { IfOk result (λ _. IsGood config.now) }
     ensures absent { IfOk result (λ channels. channels ≡ absent config.now.nick) }

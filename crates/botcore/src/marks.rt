@@ -1,9 +1,9 @@
-// How far a bot's asks and lines had come, so that those that came since can be taken back.
+// Counts of a bot's asks and lines, by which those that came later can be taken back.
 use crate::bot::Bot;
 use outqueue::Counts;
 use storage::Disk;
 
-// How many asks and how many lines wait.
+// The number of asks and of lines that wait.
 #[derive(Clone, Copy)]
 pub(crate) struct Marks {
     // The asks.
@@ -18,7 +18,7 @@ impl<D: Disk> Bot<D> {
     ghost use Rattle.botcore.specs.Links.{ask_count};
     ghost use Rattle.botcore.specs.Progress.{with_oldest};
 
-    // How many asks and lines wait.
+    // Returns the number of asks and lines that wait.
     pub(crate) fn marks(&self) -> Marks
         ensures asks { result.asks ≡ ask_count self.now.link }
         ensures lines { result.lines ≡ counts_of self.now.queues }
@@ -30,7 +30,7 @@ impl<D: Disk> Bot<D> {
         }
     }
 
-    // Takes back the asks and lines that came since. Takes no memory.
+    // Takes back the asks and lines that came after `marks`. Does not allocate.
     pub(crate) fn take_back(&mut self, marks: Marks)
         ensures taken { self.new ≡ with_oldest self.old marks.asks marks.lines }
     {

@@ -1,4 +1,4 @@
-// The channels that a bot is on, and how it leaves them all without memory.
+// The channels that a bot is on, and how it leaves them all without allocating.
 
 use bytetext::{NoMemory, TryCopy};
 use chanstate::ChanState;
@@ -8,13 +8,13 @@ use std::marker::Model;
 
 // The channels that a bot is on.
 //
-// A bot whose journal was opened again is on no channel, and nothing may go wrong on the way there. So the state of a bot
-// that has just connected is made once and kept beside the current one.
+// A bot whose journal was opened again is on no channel, and getting there must not fail. So the state of a bot that
+// has just connected is created once and kept beside the current one.
 #[derive(Drop)]
 pub(crate) struct Presence {
-    // On no channel, under the nick of the configuration.
+    // The state on no channel, under the nick of the configuration.
     first: ChanState,
-    // What the lines since then have made of it, if there were any.
+    // The state after the lines since then, if there were any.
     since: Option<ChanState>,
 }
 
@@ -33,7 +33,7 @@ impl Presence {
     ghost use Rattle.chanstate.specs.Steps.{after};
     ghost use Rattle.botcore.specs.Presence.{absent};
 
-    // On no channel, under this nick.
+    // Creates the state on no channel, under this nick.
     pub(crate) fn new(alloc: Global, nick: &[u8]) -> Result<Presence, NoMemory>
         ensures { IfOk result (λ presence. presence ≡ absent nick.now) }
     {
@@ -41,7 +41,7 @@ impl Presence {
         Ok(Presence { first, since: None })
     }
 
-    // The channels now.
+    // Returns the current channels.
     pub(crate) fn current(&self) -> &ChanState
         ensures { result.now ≡ self.now.current }
     {
@@ -51,14 +51,14 @@ impl Presence {
         }
     }
 
-    // Leaves all channels. Takes no memory.
+    // Leaves all channels. Does not allocate.
     pub(crate) fn leave_all(&mut self)
         ensures { self.new ≡ record self.old { current = self.old.first } }
     {
         self.since = None;
     }
 
-    // Takes a message in. One that brings nothing to be kept takes no memory, once there are channels of their own.
+    // Applies a message. If `since` exists, a message with nothing to keep does not allocate.
     pub(crate) fn apply(&mut self, alloc: Global, message: &Message) -> Result<(), NoMemory>
         ensures ok { OnOk result (self.new ≡ record self.old { current = after message.now self.old.current }) }
         ensures err { OnErr result (self.new ≡ self.old) }

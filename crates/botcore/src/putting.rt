@@ -1,4 +1,4 @@
-// Lines that are put into queues.
+// Puts lines into queues.
 ghost use Rattle.std.specs.Prelude.{◌≡◌, ◌++◌, [], IfOk, OnOk};
 ghost use Rattle.outqueue.specs.Refusals.{refusal};
 ghost use Rattle.botcore.specs.Putting.{HasMoreLines, put_all, put_faults, queued, with_line_fault};
@@ -9,8 +9,8 @@ use bytetext::{Failure, NoMemory};
 use outqueue::{QueueFault, Queues};
 use procstore::PutWish;
 
-// Puts lines of the bot's own, in order, and tells those that are refused after the faults so far. Out of memory some of
-// them may stand in their queues.
+// Queues lines of the bot's own, in order, and appends the refusals to the faults. Out of memory, some of them may be
+// queued.
 pub(crate) fn put_all(
     queues: &mut Queues,
     faults: &mut Faults,
@@ -26,7 +26,7 @@ pub(crate) fn put_all(
     Ok(())
 }
 
-// Puts a line of the bot's own, or tells why not after the faults so far.
+// Queues a line of the bot's own, or appends the refusal to the faults.
 fn put_one(queues: &mut Queues, faults: &mut Faults, wish: PutWish) -> Result<(), NoMemory>
     ensures queues { OnOk result (queues.new ≡ queued queues.old wish) }
     ensures faults { OnOk result (faults.new ≡ faults.old ++ with_line_fault (refusal queues.old wish.queue wish.line) []) }
@@ -38,7 +38,7 @@ fn put_one(queues: &mut Queues, faults: &mut Faults, wish: PutWish) -> Result<()
     }
 }
 
-// Puts a line last in its queue, or says why the queue refuses it.
+// Appends a line to its queue, or returns why the queue refuses it.
 pub(crate) fn put(queues: &mut Queues, wish: PutWish) -> Result<Option<QueueFault>, NoMemory>
     ensures refusal { IfOk result (λ fault. fault ≡ refusal queues.old wish.queue wish.line) }
     ensures queues { OnOk result (queues.new ≡ queued queues.old wish) }

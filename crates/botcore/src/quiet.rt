@@ -1,4 +1,4 @@
-// Readings of the clock that call nothing, so that a bot takes no memory for them.
+// Readings of the clock that call nothing. A bot handles them without allocating.
 ghost use Rattle.std.specs.Prelude.{◌≡◌, ◌<◌, false, Some, IfSome};
 ghost use Rattle.std.specs.List.{list_all};
 ghost use Rattle.bytetext.specs.declared.moment.TheConstants.{MOMENTS_END as end_of_moments};
@@ -22,7 +22,7 @@ impl<D: Disk> Bot<D> {
     ghost use Rattle.botcore.specs.Quiet.{is_still_until};
     ghost use Rattle.botcore.specs.Steps.{is_stale, run_to};
 
-    // Whether no timer is due at the seconds of a reading, and none of them begins a minute. Takes no memory.
+    // Whether at the seconds of a reading no timer is due and no minute begins. Does not allocate.
     pub(crate) fn is_still_until(&self, now: u64) -> bool
         requires moment { now < end_of_moments }
         requires above { is_stale self.now.clock now ≡ false }
@@ -31,8 +31,8 @@ impl<D: Disk> Bot<D> {
         are_still_until(&self.timers, self.clock.last(), now)
     }
 
-    // Lets the seconds of a reading pass without their calls, and sends what may go: all of it, or nothing. Where no line
-    // goes it takes no memory.
+    // Lets the seconds of a reading pass without their calls, and sends the lines that may go: all of it, or nothing.
+    // It does not allocate if no line goes.
     pub(crate) fn pass_to(&mut self, alloc: Global, now: u64) -> Result<Texts, NoMemory>
         requires moment { now < end_of_moments }
         requires above { is_stale self.old.clock now ≡ false }
@@ -50,7 +50,7 @@ impl<D: Disk> Bot<D> {
         }
     }
 
-    // Lets the clock and the timers run to a reading. Takes no memory.
+    // Advances the clock and the timers to a reading. Does not allocate.
     fn run_on(&mut self, now: u64)
         requires moment { now < end_of_moments }
         requires above { is_stale self.old.clock now ≡ false }
@@ -61,7 +61,7 @@ impl<D: Disk> Bot<D> {
     }
 }
 
-// Whether no timer is due at the seconds of a reading, and none of them begins a minute.
+// Whether at the seconds of a reading no timer is due and no minute begins.
 fn are_still_until(timers: &Timers, last: Option<u64>, now: u64) -> bool
     requires moment { now < end_of_moments }
     requires above { is_stale last now ≡ false }
@@ -82,7 +82,7 @@ fn pass_until(timers: &mut Timers, last: Option<u64>, now: u64)
     pass_seconds(timers, first_second(last, now), now);
 }
 
-// The first of the seconds that a reading runs, or the one after it where it runs none.
+// Returns the first of the seconds that a reading runs, or the second after the reading if it runs none.
 #[tactic(auto, using(crate::proofs::StillLemmas::above_fresh))]
 fn first_second(last: Option<u64>, now: u64) -> u64
     requires moment { now < end_of_moments }
@@ -96,7 +96,7 @@ fn first_second(last: Option<u64>, now: u64) -> u64
     }
 }
 
-// Whether no timer is due at these seconds, and none of them begins a minute.
+// Whether at these seconds no timer is due and no minute begins.
 fn are_still(timers: &Timers, first: u64, last: u64) -> bool
     requires above { IsAbove timers.now.last first }
     requires moment { last < end_of_moments }
@@ -112,7 +112,7 @@ fn are_still(timers: &Timers, first: u64, last: u64) -> bool
     true
 }
 
-// Whether no timer is due at a second, and it begins no minute.
+// Whether at a second no timer is due and no minute begins.
 fn is_still(timers: &Timers, second: u64) -> bool
     requires { IsAbove timers.now.last second }
     ensures { result ≡ is_still timers.now.timers second }

@@ -1,4 +1,4 @@
-// What a reading of the clock makes of a bot.
+// What a reading of the clock does to a bot.
 ghost use Rattle.std.specs.Prelude.{◌≡◌, [], None, IfOk, OnErr};
 ghost use Rattle.botcore.specs.Reports.{told, cut_short};
 ghost use Rattle.botcore.specs.Steps.{is_stale};
@@ -16,7 +16,7 @@ use std::alloc::Global;
 use std::mem;
 use storage::Disk;
 
-// What the seconds of a reading bring, and the clock and the timers after them.
+// What happens in the seconds of a reading, and the clock and the timers after them.
 #[derive(Drop)]
 struct Ran {
     clock: Clock,
@@ -39,7 +39,8 @@ impl<D: Disk> Bot<D> {
     ghost use Rattle.botcore.specs.Shown.{AreOccasions};
     ghost use Rattle.botcore.specs.Steps.{TakesReading, TakesSeconds, is_stale, run_to};
 
-    /// Does the step of a reading of the clock: as [`Bot::step`] of [`Event::Clock`]. At most 64 packets are to be sent.
+    /// Makes the step of the reading `now` with the procs of `store`, as [`Bot::step`] does for [`Event::Clock`]. It
+    /// sends at most 64 packets.
     pub fn read_clock<P: Promise, B: Run>(
         &mut self,
         alloc: Global,
@@ -59,7 +60,7 @@ impl<D: Disk> Bot<D> {
         self.take_seconds(alloc, store, now)
     }
 
-    // A reading that is the first, or above the last.
+    // Handles a reading that is the first, or above the last.
     fn take_seconds<P: Promise, B: Run>(
         &mut self,
         alloc: Global,
@@ -90,7 +91,7 @@ impl<D: Disk> Bot<D> {
         }
     }
 
-    // Lets copies of the clock and the timers run to a reading.
+    // Advances copies of the clock and the timers to a reading.
     fn run(&self, alloc: Global, now: u64) -> Result<Ran, NoMemory>
         requires moment { now < end_of_moments }
         requires above { is_stale self.now.clock now ≡ false }
@@ -114,7 +115,8 @@ impl<D: Disk> Bot<D> {
         })
     }
 
-    // Takes this clock and these timers, does all that calls ask for and sends what may go: all of it, or nothing.
+    // Stores this clock and these timers, carries out all actions of calls and sends the lines that may go: all of it,
+    // or nothing.
     fn settle_at(
         &mut self,
         alloc: Global,
@@ -147,7 +149,7 @@ impl<D: Disk> Bot<D> {
         }
     }
 
-    // Does all that calls ask for and sends what may go, or nothing.
+    // Carries out all actions of calls and sends the lines that may go, or does nothing.
     fn settle_reading(
         &mut self,
         alloc: Global,
@@ -173,7 +175,7 @@ impl<D: Disk> Bot<D> {
         }
     }
 
-    // The same, but where memory runs out some asks and lines may have come. Lines are sent last.
+    // Does the same, but out of memory some asks and lines may have been added. Lines are sent last.
     fn act_on_reading(
         &mut self,
         alloc: Global,
@@ -203,7 +205,7 @@ impl<D: Disk> Bot<D> {
         })
     }
 
-    // Sends what may go. Where no line goes it takes no memory.
+    // Sends the lines that may go. It does not allocate if no line goes.
     pub(crate) fn send(&mut self, alloc: Global, now: u64) -> Result<Texts, NoMemory>
         requires { now < end_of_moments }
         ensures lines { IfOk result (λ lines. lines ≡ sent self.old.queues now) }
@@ -214,7 +216,7 @@ impl<D: Disk> Bot<D> {
         self.queues.drain(alloc, now)
     }
 
-    // Takes this clock and these timers, and hands out those before. Takes no memory.
+    // Stores this clock and these timers, and returns the previous ones. Does not allocate.
     fn set_clock(&mut self, clock: Clock, timers: Timers) -> (Clock, Timers)
         requires { IsReached timers.last clock }
         ensures new { self.new ≡ record self.old { clock = clock; timers = timers } }
@@ -228,7 +230,7 @@ impl<D: Disk> Bot<D> {
     }
 }
 
-// What a reading reports that calls nothing. Takes no memory.
+// Returns the report of a reading that calls nothing. Does not allocate.
 fn quiet_report(alloc: Global, lines: Result<Texts, NoMemory>) -> Report
     ensures done { IfOk lines (λ lines. result ≡ told None [] [] lines []) }
     ensures lacks { OnErr lines (result ≡ cut_short []) }

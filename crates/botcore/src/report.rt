@@ -1,4 +1,4 @@
-// What a step tells.
+// The report of a step.
 ghost use Rattle.std.specs.Prelude.{◌≡◌, IfOk};
 ghost use Rattle.botcore.specs.Reports.{told, cut_short};
 ghost use Rattle.botcore.specs.Reports.{plain, done, refused, out_of_memory};
@@ -14,24 +14,24 @@ use std::alloc::Global;
 /// How a step ends.
 #[derive(Clone, Copy, Debug, PartialEq, Eq)]
 pub enum End {
-    /// What the event asks for is done.
+    /// The event is handled.
     Done,
-    /// A rule stands against it.
+    /// A rule forbids it.
     Refused(Refusal),
-    /// A growth was refused, and the bot is as it was; its end of the link is down where it was to restart.
+    /// An allocation failed, and the bot is as it was. If it was to restart, its end of the link is down.
     NoMemory,
 }
 
-/// What came of a step that is done. A connect, a message of the server and a reading of the clock have none.
+/// What came of a step that is done. A connect, a message of the server and a reading of the clock have no note.
 #[derive(Debug, Drop)]
 pub enum Note {
-    /// What came of a call of the link.
+    /// The result of a call of the link.
     Link(linkcalls::Note),
     /// The bind has this number.
     Bound(u32),
-    /// The bind of this number is gone.
+    /// The bind with this number is removed.
     Unbound(u32),
-    /// The line is no message, and nothing is done for it.
+    /// The line is not a message, and the bot does nothing for it.
     Bad(ircline::Fault),
 }
 
@@ -49,28 +49,27 @@ impl TryCopy for Note {
 /// Faults in order.
 pub type Faults = Seq<Fault>;
 
-/// What a step tells.
+/// The report of a step.
 pub struct Report {
     /// How it ended.
     pub end: End,
-    /// What came of it.
+    /// What came of the step.
     pub note: Option<Note>,
-    /// The calls that were made, in order. Out of memory they are the first of those that would be made.
+    /// The calls that were made, in order. Out of memory, they are the first of those that were due.
     pub calls: MadeCalls,
     /// The packets to send, in order.
     pub packets: Outgoings,
     /// The lines to send to the server, in order, each without its CR LF.
     pub lines: Texts,
-    /// The binds and timers that were left out since the store lacks their procs, in the order in which they would be
-    /// called; then the actions that were refused, in the order of the calls; then the lines of the bot's own that were
-    /// refused.
+    /// What was left out or refused: the binds and timers whose procs the store lacks, in the order in which they
+    /// would be called; then the refused actions, in the order of the calls; then the refused lines of the bot's own.
     pub faults: Faults,
-    /// Whether the line is logged: false where a raw, `msgm`, `pubm` or `notc` proc has answered 1, and true for any
+    /// Whether the line is logged: false if a raw, `msgm`, `pubm` or `notc` proc has answered 1, and true for any
     /// other event.
     pub logged: bool,
 }
 
-// By hand, so that this is proved once, and not in each function in which one ends.
+// Written by hand, so that it is proved once and not in each function that drops one.
 impl Drop for Report {
     fn drop(self) {
         let Report {
@@ -86,7 +85,7 @@ impl Drop for Report {
 }
 
 impl Report {
-    // An end and a note, and nothing else. Takes no memory.
+    // Creates a report of an end and a note alone. Does not allocate.
     fn plain(alloc: Global, end: End, note: Option<Note>) -> Report
         ensures { result ≡ plain end note }
     {
@@ -101,28 +100,28 @@ impl Report {
         }
     }
 
-    // What the event asks for is done. Takes no memory.
+    // Creates the report of an event that is handled. Does not allocate.
     pub(crate) fn done(alloc: Global, note: Option<Note>) -> Report
         ensures { result ≡ done note }
     {
         Report::plain(alloc, End::Done, note)
     }
 
-    // A rule stands against it. Takes no memory.
+    // Creates the report of an event that a rule forbids. Does not allocate.
     pub(crate) fn refused(alloc: Global, refusal: Refusal) -> Report
         ensures { result ≡ refused refusal }
     {
         Report::plain(alloc, End::Refused(refusal), None)
     }
 
-    // A growth was refused. Takes no memory.
+    // Creates the report of a failed allocation. Does not allocate.
     pub(crate) fn out_of_memory(alloc: Global) -> Report
         ensures { result ≡ out_of_memory }
     {
         Report::plain(alloc, End::NoMemory, None)
     }
 
-    // What a call of the link answers. Takes no memory.
+    // Turns the answer of a call of the link into a report. Does not allocate.
     pub(crate) fn of_answer(alloc: Global, answer: Result<Answer, LinkError>) -> Report
         ensures { result ≡ answer_report answer }
     {
@@ -141,7 +140,7 @@ impl Report {
         }
     }
 
-    // What making a bind answers. Takes no memory.
+    // Turns the answer of `bind` into a report. Does not allocate.
     pub(crate) fn of_bind(alloc: Global, answer: Result<u32, BindError>) -> Report
         ensures { result ≡ bind_report answer }
     {
@@ -152,7 +151,7 @@ impl Report {
         }
     }
 
-    // What taking a bind away answers. Takes no memory.
+    // Turns the answer of `unbind` into a report. Does not allocate.
     pub(crate) fn of_unbind(alloc: Global, answer: Result<u32, BindFault>) -> Report
         ensures { result ≡ unbind_report answer }
     {
@@ -162,7 +161,7 @@ impl Report {
         }
     }
 
-    // These calls were made, and this came of them. Takes no memory.
+    // Creates the report of these calls and of what came of them. Does not allocate.
     pub(crate) fn told(
         note: Option<Note>,
         calls: MadeCalls,
@@ -184,7 +183,7 @@ impl Report {
         }
     }
 
-    // These calls were made before memory ran out. Takes no memory.
+    // Creates the report of the calls that were made before memory ran out. Does not allocate.
     pub(crate) fn cut_short(alloc: Global, calls: MadeCalls) -> Report
         ensures { result ≡ cut_short calls }
     {
@@ -202,7 +201,8 @@ impl Report {
 }
 
 impl Report {
-    /// What it tells of the step beside its end: the note, the calls, the packets, the lines and the faults. Takes no memory.
+    /// Returns what the report says besides its end: the note, the calls, the packets, the lines and the faults. Does
+    /// not allocate.
     pub fn into_parts(self) -> (Option<Note>, MadeCalls, Outgoings, Texts, Faults)
         ensures note { result.0 ≡ self.note }
         ensures calls { result.1 ≡ self.calls }

@@ -1,4 +1,4 @@
-// What the seconds of a reading bring.
+// What happens in the seconds of a reading.
 ghost use Rattle.std.specs.Prelude.{◌≡◌, ◌<◌, map, IfOk, OnOk};
 ghost use Rattle.bytetext.specs.declared.moment.TheConstants.{MOMENTS_END};
 ghost use Rattle.bottimers.specs.Held.{IsAbove, calls_at, passed};
@@ -13,7 +13,7 @@ use bottimers::{Timers, Zone, civil};
 use bytetext::NoMemory;
 use std::alloc::Global;
 
-// Lets the timers run through these seconds, and answers what they bring.
+// Advances the timers through these seconds, and returns what happens in them.
 pub(crate) fn run_seconds(
     alloc: Global,
     timers: &mut Timers,
@@ -34,7 +34,7 @@ pub(crate) fn run_seconds(
     Ok(occasions)
 }
 
-// Lets the timers run through a second, and answers what it brings.
+// Advances the timers through a second, and returns what happens in it.
 fn run_second(
     alloc: Global,
     timers: &mut Timers,
@@ -52,7 +52,7 @@ fn run_second(
     Ok(occasions)
 }
 
-// The timers that are due at a second.
+// Returns the timers that are due at a second.
 fn due_of(alloc: Global, timers: &mut Timers, second: u64) -> Result<Vec<Occasion>, NoMemory>
     requires above { IsAbove timers.old.last second }
     ensures occasions { IfOk result (λ occasions. occasions.items ≡ map (λ c. Due c.proc c.text) (calls_at second timers.old)) }
@@ -70,7 +70,7 @@ fn due_of(alloc: Global, timers: &mut Timers, second: u64) -> Result<Vec<Occasio
     )
 }
 
-// The minute that a second begins, if it begins one.
+// Returns the minute that begins at a second, if one does.
 fn minute_of(alloc: Global, zone: &Zone, second: u64) -> Result<Vec<Occasion>, NoMemory>
     requires moment { second < MOMENTS_END }
     ensures { IfOk result (λ occasions. AreOccasions (minute_of zone.now second) occasions.items) }

@@ -28,30 +28,35 @@ impl<D: Disk> Bot<D> {
     ghost use Rattle.botcore.specs.Steps.{TakesStep, TakesText, IsGoodEvent};
     ghost use Rattle.botcore.specs.Steps.{Gives, GivesAsk, GivesRow, GivesRestart, GivesBind, GivesUnbind, connect_due, asked_of};
 
-    /// Does one step: the bot is told this event, and reports what came of it.
+    /// Makes one step: handles `event` with the procs of `store` and reports what came of it.
     ///
-    /// A message of the server calls the procs of the binds that its events call; a text of another bot those of its
-    /// first word; a reading of the clock, second by second, those of due timers, each with its timer's text, and of the
-    /// minutes that begin. All of them see the bot's userfile and channels as they were before the event, and the second of
-    /// its clock, which at a reading is the one that is read. When all have answered, their actions are done in the order of
-    /// the calls; one that is refused is left out and told. Then a message is taken into the channel state and the bot's own
-    /// lines for it are put into their queues, unless a raw proc has answered 1. New timers are made at the last second that
-    /// the clock has seen. A reading that is the first, or above the last, ends with the lines that may go then. Each other
-    /// event is one call of the link or of the table of binds, or a connect, and calls nothing.
+    /// A message of the server calls the procs of the binds that its events call. A text of another bot calls the
+    /// procs of its first word. A reading of the clock calls, second by second, the procs of due timers, each with its
+    /// timer's text, and the procs of the minutes that begin. All of them see the bot's userfile and channels as they
+    /// were before the event, and the second of its clock, which at a reading is the second of that reading. When all
+    /// procs have answered, the bot carries out their actions in the order of the calls. A refused action is left out
+    /// and reported. Then, unless a raw proc has answered 1, the bot applies a message to the channel state and queues
+    /// its own lines for it. New timers are made at the last second that the clock has seen. A reading that is the
+    /// first, or above the last, ends with the lines that may go then. Every other event is one call of the link or of
+    /// the table of binds, or a connect, and calls no procs.
     ///
-    /// A restart crashes the disks and opens the journal again. It loses the asks that wait, the channels, the clock, the
-    /// timers and the lines for the server, and the next timer has the id 1; the binds stay, and their numbers go on. Where
-    /// it is refused or memory runs out, the bot's end of the link is down, and all else stays. It is down as well after a
-    /// disk failed while the journal was written (S5). While it is down, asks, pumps, packets and compactions are refused
-    /// (S2), and so is what procs ask for and tell other bots; all else goes on.
+    /// A restart crashes the disks and opens the journal again. It loses the waiting asks, the channels, the clock,
+    /// the timers and the lines for the server, and the next timer has the id 1. The binds stay, and their numbers
+    /// continue. If the restart is refused or memory runs out, the bot's end of the link is down, and everything else
+    /// stays. The link is also down after a disk failed while the journal was written (S5). While it is down, the bot
+    /// refuses asks, pumps, packets and compactions (S2), and also the asks of procs and their texts to other bots.
+    /// Everything else still works.
     ///
-    /// The report ends `NoMemory` where a growth was refused: then the bot is as it was, but for a restart, and the calls
-    /// that were made are the first of those that would be made. A line that is no message, an ask, a reading that is
-    /// refused or not above the last, a bind that is taken away, and each call of the link that takes no memory never end
-    /// so. Nor does a message, once one was taken in since the bot connected, where no bind waits for messages, nobody has
-    /// joined a channel on which the bot is op, the bot puts no line, and the channels get no new text or member; nor a
-    /// reading of seconds at which no timer is due and none of which begins a minute, where no line may go. At most 1,001
-    /// packets are to be sent.
+    /// The report ends with `NoMemory` if an allocation failed. The bot is then as it was, except after a restart, and
+    /// the calls that were made are the first of those that were due. These events never end with `NoMemory`:
+    ///
+    /// - a line that is not a message, an ask, an unbind, a reading that is refused or not above the last, and each
+    ///   call of the link that does not allocate;
+    /// - a message, once the bot has taken one in since it connected, if no bind waits for messages, nobody has joined
+    ///   a channel on which the bot is op, the bot queues no line, and the channels get no new text or member;
+    /// - a reading, if at its seconds no timer is due and no minute begins, and no line may go.
+    ///
+    /// A step sends at most 1,001 packets.
     pub fn step<P: Promise, B: Run>(
         &mut self,
         alloc: Global,
@@ -62,7 +67,7 @@ impl<D: Disk> Bot<D> {
         ensures takes { TakesStep P.promised store.now self.old event result self.new }
         ensures few { length result.packets ≤ MAX_LEAVES + 1 }
         ensures good_records { AreGood result.packets }
-        // An ask takes no memory, nor does an event that calls nothing and brings nothing to be kept.
+        // An ask does not allocate, nor does an event that calls nothing and brings nothing to keep.
         ensures needs_none { NeedsNone self.old event → result.end ≢ End.NoMemory }
     {
         match event {
@@ -94,7 +99,8 @@ impl<D: Disk> Bot<D> {
         }
     }
 
-    // On no channel, not welcomed yet, and with the greeting alone waiting. Answers which of its lines were refused.
+    // Puts the bot on no channel, not welcomed yet, and with the greeting alone queued. Returns the refusals of its
+    // lines.
     fn begin_anew(&mut self, alloc: Global) -> Result<Faults, NoMemory>
         ensures faults { IfOk result (λ faults. faults ≡ (connect_due self.old).report.faults) }
         ensures ok { OnOk result (self.new ≡ (connect_due self.old).after) }
@@ -110,7 +116,8 @@ impl<D: Disk> Bot<D> {
         Ok(faults)
     }
 
-    /// Does the step of a line that stays the caller's: as [`Bot::step`] of [`Event::Line`]. At most 64 packets are to be sent.
+    /// Makes the step of `line`, which stays the caller's, with the procs of `store`, as [`Bot::step`] does for
+    /// [`Event::Line`]. It sends at most 64 packets.
     pub fn take_line<P: Promise, B: Run>(
         &mut self,
         alloc: Global,
@@ -128,7 +135,7 @@ impl<D: Disk> Bot<D> {
         }
     }
 
-    // A change is asked for. Takes no memory.
+    // Queues a change. Does not allocate.
     #[tactic(auto, using(crate::proofs::AskLemmas::answer_ends))]
     fn ask(&mut self, alloc: Global, change: Change) -> Report
         ensures takes { GivesAsk self.old change result self.new }
@@ -140,7 +147,7 @@ impl<D: Disk> Bot<D> {
         Report::of_answer(alloc, answer)
     }
 
-    // The next piece of the link's work.
+    // Does the next piece of the link's work.
     fn pump(&mut self, alloc: Global) -> Report
         ensures takes { GivesRow self.old (did self.old.link pumps) result self.new }
         ensures few { length result.packets ≤ MAX_LEAVES + 1 }
@@ -150,7 +157,7 @@ impl<D: Disk> Bot<D> {
         Report::of_answer(alloc, answer)
     }
 
-    // The journal is to have the state alone.
+    // Compacts the journal to the state alone.
     fn compact(&mut self, alloc: Global) -> Report
         ensures takes { GivesRow self.old (did self.old.link compacts) result self.new }
         ensures few { length result.packets ≤ MAX_LEAVES + 1 }
@@ -160,7 +167,7 @@ impl<D: Disk> Bot<D> {
         Report::of_answer(alloc, answer)
     }
 
-    // The journal is opened again, and then the bot begins anew.
+    // Opens the journal again, and then the bot begins again.
     fn restart(&mut self, alloc: Global) -> Report
         ensures takes { GivesRestart self.old result self.new }
         ensures few { length result.packets ≤ MAX_LEAVES + 1 }
@@ -175,7 +182,7 @@ impl<D: Disk> Bot<D> {
         }
     }
 
-    // Loses all but its binds and its end of the link. Takes no memory.
+    // Drops everything but the binds and the end of the link. Does not allocate.
     fn lose(&mut self, alloc: Global)
         ensures { self.new ≡ restarted self.old self.old.link }
     {
@@ -186,7 +193,7 @@ impl<D: Disk> Bot<D> {
         self.welcomed = false;
     }
 
-    // A packet comes.
+    // Handles a packet.
     fn receive<P: Promise, B: Run>(
         &mut self,
         alloc: Global,
@@ -204,7 +211,7 @@ impl<D: Disk> Bot<D> {
         }
     }
 
-    // What the link answers to a packet, which may bring a text to this bot.
+    // Handles the link's answer to a packet, which may bring a text to this bot.
     fn take_answer<P: Promise, B: Run>(
         &mut self,
         alloc: Global,
@@ -225,7 +232,7 @@ impl<D: Disk> Bot<D> {
         }
     }
 
-    // A bind is to be made.
+    // Makes a bind.
     fn bind(&mut self, alloc: Global, asked: &NewBind) -> Report
         ensures takes { GivesBind self.old (asked_of asked.now) result self.new }
         ensures few { result.packets ≡ [] }
@@ -240,7 +247,7 @@ impl<D: Disk> Bot<D> {
         Report::of_bind(alloc, answer)
     }
 
-    // A bind is to be taken away. Takes no memory.
+    // Removes a bind. Does not allocate.
     fn unbind(&mut self, alloc: Global, gone: &OldBind) -> Report
         ensures takes { GivesUnbind self.old gone.now result self.new }
         ensures few { result.packets ≡ [] }

@@ -1,4 +1,4 @@
-// What a bot does about a sticky ban that another takes off a channel.
+// What a bot does when somebody else removes a sticky ban from a channel.
 ghost use Rattle.std.specs.Prelude.{◌≡◌, ◌++◌, [], true, IfOk, OnOk, IsOk};
 ghost use Rattle.std.specs.List.{flat_map};
 ghost use Rattle.std.specs.Option.{option_to_list};
@@ -19,7 +19,7 @@ use rfccase::same;
 use std::alloc::Global;
 use userfile::Userfile;
 
-// A mode string with its arguments, as the server's modes have them.
+// A mode string with its arguments, and the modes that the server supports.
 #[derive(Clone, Copy)]
 struct Modes<'a> {
     support: &'a Support,
@@ -27,7 +27,7 @@ struct Modes<'a> {
     arguments: &'a [Text],
 }
 
-// A channel, and by what it is judged which bans come back to it.
+// A channel, and what decides which bans the bot sets on it again.
 #[derive(Clone, Copy)]
 struct Place<'a> {
     channel: &'a [u8],
@@ -35,8 +35,8 @@ struct Place<'a> {
     second: u64,
 }
 
-// What the MODE of these parameters makes a bot put at a second, told from its channels before the MODE. Where it puts
-// nothing this takes no memory.
+// Returns the lines that a bot queues at a second for the MODE with these parameters, by its channels before the MODE.
+// It does not allocate if it queues none.
 pub(crate) fn on_mode(
     alloc: Global,
     from: Source<'_>,
@@ -99,7 +99,7 @@ impl Modes<'_> {
         }
     }
 
-    // Whether a member of this nick is op after these modes, who is it before them or not.
+    // Whether a member with this nick is op after these modes, given whether it was op before them.
     fn leave_mark(&self, nick: &[u8], was: bool) -> bool
         ensures { result ≡ op_left self.now.support.now nick.now
             (singles self.now.support.now true self.now.letters.now self.now.arguments.now) was }
@@ -115,7 +115,7 @@ impl Modes<'_> {
         op
     }
 
-    // The lines that set the sticky bans again that these modes take off a channel.
+    // Returns the lines that set the sticky bans again that these modes remove from a channel.
     fn bring_back(&self, alloc: Global, place: Place<'_>) -> Result<Vec<PutWish>, NoMemory>
         ensures lines { IfOk result (λ wishes. wishes.items ≡ flat_map
             (set_again place.entry.userfile.now.bans place.entry.second place.entry.channel.now)
@@ -149,7 +149,7 @@ fn op_at(support: &Support, nick: &[u8], was: bool, on: bool, byte: u8, argument
 }
 
 impl Place<'_> {
-    // Pushes the line that sets a ban again, if a byte of a mode string takes a sticky one off.
+    // Appends the line that sets a ban again, if a byte of a mode string removes a sticky ban.
     fn push_back(
         &self,
         wishes: &mut Vec<PutWish>,

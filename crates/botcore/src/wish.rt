@@ -1,4 +1,4 @@
-// A line that a bot puts by itself.
+// A line that a bot queues by itself.
 ghost use Rattle.std.specs.Prelude.{◌≡◌, ◌∷◌, [], map, IfOk};
 ghost use Rattle.botcore.specs.Automatic.{wish, ban_wish};
 
@@ -8,7 +8,7 @@ use procstore::PutWish;
 use std::alloc::Global;
 use userfile::Ban;
 
-// A line of these pieces, for this queue.
+// Creates a line of these pieces, for this queue.
 pub(crate) fn wish(alloc: Global, queue: Queue, pieces: &[&[u8]]) -> Result<PutWish, NoMemory>
     ensures { IfOk result (λ w. w ≡ wish queue (map (λ piece. piece.now) pieces.now)) }
 {
@@ -22,7 +22,7 @@ pub(crate) fn wish(alloc: Global, queue: Queue, pieces: &[&[u8]]) -> Result<PutW
     })
 }
 
-// The line that sets a ban on a channel.
+// Creates the line that sets a ban on a channel.
 pub(crate) fn ban_wish(alloc: Global, channel: &[u8], ban: &Ban) -> Result<PutWish, NoMemory>
     ensures { IfOk result (λ w. w ≡ ban_wish channel.now ban.now) }
 {
@@ -30,7 +30,7 @@ pub(crate) fn ban_wish(alloc: Global, channel: &[u8], ban: &Ban) -> Result<PutWi
     wish(alloc, Queue::Mode, &pieces)
 }
 
-// This one alone.
+// Creates a list of this line alone.
 pub(crate) fn alone(alloc: Global, wish: PutWish) -> Result<Vec<PutWish>, NoMemory>
     ensures { IfOk result (λ wishes. wishes.items ≡ wish ∷ []) }
 {

@@ -1,4 +1,4 @@
--- Driving a bot: what comes from a server is taken in line by line, then the clock is read, and what the bot says is written.
+-- Driving a bot: it handles what a server has sent line by line, then reads the clock, and writes what it says.
 use Rattle.std.specs.Prelude.{◌≡◌, ◌≢◌, ◌≤◌, ◌⊎◌, ℕ, ◌==◌, Bool, true, false, ◌&&◌, if◌then◌else◌, is_none, List, [], ◌∷◌, ◌++◌, length, map, take}
 use Rattle.std.specs.List.{flat_map}
 use Rattle.streams.specs.declared.stream.Given.TheVariants.{Bytes, End, Stall, Fault}
@@ -26,7 +26,7 @@ use Rattle.botcore.specs.Steps.{TakesStep}
 abbrev pub text_of : List (List ℕ) → List ℕ
 text_of lines = flat_map (λ line. line ++ 13 ∷ 10 ∷ []) lines
 
--- what came of a step, if anything did
+-- the outcome of a step, if it has anything to report
 abbrev pub is_silent : Outcome → Bool
 is_silent outcome = is_none outcome.note && (length outcome.calls == 0 && length outcome.faults == 0)
 
@@ -36,7 +36,7 @@ unless_silent outcome = if is_silent outcome then [] else outcome ∷ []
 abbrev pub outcome_of : Report → Outcome
 outcome_of report = record { note = report.note; calls = report.calls; faults = report.faults }
 
--- a bot, what its steps so far have to send, packets over the link and text to the server, and what came of them
+-- a bot, the output of its steps so far, packets for the link and text for the server, and their outcomes
 pub record Course : Type 0 where
   pub bot : Bot
   pub packets : List Outgoing
@@ -47,8 +47,8 @@ pub record Course : Type 0 where
 abbrev pub course_at : Bot → Course
 course_at bot = record { bot = bot; packets = []; text = []; outcomes = [] }
 
--- The bot makes a step of this event, which does not run out of memory. Its packets, its lines and what came of it go after
--- those before.
+-- The bot makes a step of this event, which does not run out of memory. Its packets, its lines and its outcome are
+-- appended.
 pub record MakesStep (promised : Promised) (names : List (List ℕ))
     (old : Course) (event : Event) (new : Course) : Type 0 where
   pub report : Report
@@ -65,7 +65,7 @@ Makes promised names old [] new = new ≡ old
 Makes promised names old (event ∷ events) new =
     (mid : Course) × MakesStep promised names old event mid × Makes promised names mid events new
 
--- it makes a step of each of the first of them
+-- it makes a step of each of the first events
 pub record MakesFirst (promised : Promised) (names : List (List ℕ))
     (old : Course) (events : List Event) (new : Course) : Type 0 where
   pub first : List Event
@@ -79,20 +79,20 @@ pub record MakesFirst (promised : Promised) (names : List (List ℕ))
 abbrev pub line_events : List ReadLine → List Event
 line_events lines = map (λ line. Line line) lines
 
--- These bytes end these lines, where they go on a stream of which this much is held, and then this much is held.
+-- These bytes complete these lines when this much of a line is held before them, and then this much is held.
 pub record Ends (held bytes : List ℕ) (lines : List ReadLine) (after : List ℕ) : Type 0 where
   pub goes_on : (stream : List ℕ) → held ≡ held_of stream → lines_of (stream ++ bytes) ≡ lines_of stream ++ lines
   pub holds : (stream : List ℕ) → held ≡ held_of stream → after ≡ held_of (stream ++ bytes)
 
--- These bytes were taken in, where this much of a line was held: each line that they end was stepped, and then this much is
--- held.
+-- These bytes were handled when this much of a line was held before them: each line that they complete was a step, and
+-- then this much is held.
 pub record Hears (promised : Promised) (names : List (List ℕ))
     (old : Course) (held bytes : List ℕ) (new : Course) (after : List ℕ) : Type 0 where
   pub lines : List ReadLine
   pub ends : Ends held bytes lines after
   pub makes : Makes promised names old (line_events lines) new
 
--- memory ran out: of the lines that a front of the bytes ends the first were stepped
+-- memory ran out: of the lines that a prefix of the bytes completes, the first were steps
 pub record HearsFirst (promised : Promised) (names : List (List ℕ))
     (old : Course) (held bytes : List ℕ) (new : Course) : Type 0 where
   pub front : List ℕ
@@ -105,16 +105,16 @@ pub record HearsFirst (promised : Promised) (names : List (List ℕ))
 
 -- ---- what is read
 
--- There was no more to read: the stream was at its end or would have to wait, or it was asked 1,000 times.
+-- There was no more to read: the stream was at its end or would block, or it was read 1,000 times.
 abbrev pub ReadsEnough : Source → List ℕ → Source → Type 0
 ReadsEnough old bytes new =
     ReadsUntil End 1000 old bytes new ⊎ (ReadsUntil Stall 1000 old bytes new ⊎ Reads 1000 old bytes new)
 
--- that, or some of it, by at most 1,000 answers
+-- that, or some of it, by at most 1,000 reads
 abbrev pub ReadsSome : Source → List ℕ → Source → Type 0
 ReadsSome old bytes new = ReadsEnough old bytes new ⊎ ((count : ℕ) × (count ≤ 1000) × Reads count old bytes new)
 
--- The stream gave a piece, which is taken in, and there may be more; or it has none now.
+-- The stream gave a piece, which the bot handled, and there may be more; or the stream has none now.
 abbrev pub HearsPiece : Promised → List (List ℕ)
     → Course → List ℕ → Source → Bool → Course → List ℕ → Source → Type 0
 HearsPiece promised names old held before true new after left =
@@ -122,7 +122,7 @@ HearsPiece promised names old held before true new after left =
 HearsPiece promised names old held before false new after left =
     (buffer : List ℕ) × (Gives before End buffer left ⊎ Gives before Stall buffer left) × (new ≡ old) × (after ≡ held)
 
--- the stream failed, or memory ran out as its piece was taken in
+-- the stream failed, or memory ran out while the bot handled its piece
 abbrev pub HearsNoPiece : DriveEnd → Promised → List (List ℕ)
     → Course → List ℕ → Source → Course → List ℕ → Source → Type 0
 HearsNoPiece Done promised names old held before new after left = ⊥
@@ -132,7 +132,7 @@ HearsNoPiece Write promised names old held before new after left = ⊥
 HearsNoPiece NoMemory promised names old held before new after left =
     (n : ℕ) × (buffer : List ℕ) × Gives before (Bytes n) buffer left × HearsFirst promised names old held (take n buffer) new
 
--- All that there is now is read and taken in, or enough of it.
+-- The bot has read and handled all that has arrived, or enough of it.
 pub record HearsAll (promised : Promised)
     (names : List (List ℕ)) (old : Course) (held : List ℕ) (before : Source)
     (new : Course) (after : List ℕ) (left : Source) : Type 0 where
@@ -156,7 +156,7 @@ HearsSome NoMemory promised names old held before new after left =
 abbrev pub all_events : List ReadLine → ℕ → List Event
 all_events lines now = line_events lines ++ Clock now ∷ []
 
--- All that there is now is read, or enough of it; each line that it ends is stepped, and then the reading.
+-- All that has arrived is read, or enough of it; each line that it completes is a step, and then the reading is one.
 pub record TakesAll (promised : Promised)
     (names : List (List ℕ)) (now : ℕ) (old : Course) (held : List ℕ) (before : Source)
     (new : Course) (after : List ℕ) (left : Source) : Type 0 where
@@ -166,7 +166,7 @@ pub record TakesAll (promised : Promised)
   pub ends : Ends held bytes lines after
   pub makes : Makes promised names old (all_events lines now) new
 
--- memory ran out: of all steps the first are made
+-- memory ran out: only the first of all steps are made
 pub record TakesFirst (promised : Promised)
     (names : List (List ℕ)) (now : ℕ) (old : Course) (held : List ℕ) (before : Source)
     (new : Course) (left : Source) : Type 0 where
@@ -190,14 +190,14 @@ TakesSome NoMemory promised names now old held before new after left =
 
 -- ---- a whole drive
 
--- A bot and the connection that it is driven over: what its reader of lines holds, and both sides of the stream.
+-- A bot and the connection over which it is driven: what its reader of lines holds, and both sides of the stream.
 pub record Connection : Type 0 where
   pub bot : Bot
   pub held : List ℕ
   pub source : Source
   pub sink : Sink
 
--- all lines that were read and the reading are stepped, and what the bot says is written as `Writes` says
+-- all lines that were read and the reading are steps, and what the bot says is written as `Writes` says
 pub record DrivesAll (Writes : Sink → List ℕ → Sink → Type 0)
     (promised : Promised) (names : List (List ℕ)) (now : ℕ)
     (old : Connection) (packets : List Outgoing) (outcomes : List Outcome) (new : Connection) : Type 0 where
@@ -210,7 +210,7 @@ pub record DrivesAll (Writes : Sink → List ℕ → Sink → Type 0)
       (record { bot = new.bot; packets = packets; text = text; outcomes = outcomes })
   pub writes : Writes old.sink text new.sink
 
--- the stream failed as it was asked: all lines that were read are stepped, and nothing is written
+-- a read of the stream failed: all lines that were read are steps, and nothing is written
 pub record DrivesLines (promised : Promised) (names : List (List ℕ))
     (old : Connection) (packets : List Outgoing) (outcomes : List Outcome) (new : Connection) : Type 0 where
   pub bytes : List ℕ
@@ -222,7 +222,7 @@ pub record DrivesLines (promised : Promised) (names : List (List ℕ))
       (record { bot = new.bot; packets = packets; text = text; outcomes = outcomes })
   pub writes : new.sink ≡ old.sink
 
--- memory ran out: of all steps the first are made, and nothing is written
+-- memory ran out: only the first of all steps are made, and nothing is written
 pub record DrivesFirst (promised : Promised) (names : List (List ℕ))
     (now : ℕ) (old : Connection) (packets : List Outgoing) (outcomes : List Outcome) (new : Connection) : Type 0 where
   pub bytes : List ℕ
@@ -236,7 +236,7 @@ pub record DrivesFirst (promised : Promised) (names : List (List ℕ))
       (record { bot = new.bot; packets = packets; text = text; outcomes = outcomes })
   pub writes : new.sink ≡ old.sink
 
--- what a drive that ends so has done, what it tells to be sent over the link, and what came of its steps
+-- what a drive with this end has done, what it sends over the link, and the outcomes of its steps
 abbrev pub DrivesTo : DriveEnd → Promised → List (List ℕ)
     → ℕ → Connection → List Outgoing → List Outcome → Connection → Type 0
 DrivesTo Done promised names now old packets outcomes new = DrivesAll WritesOut promised names now old packets outcomes new

@@ -1,4 +1,4 @@
--- What stands in an outbox.
+-- The content of an outbox.
 use Rattle.std.specs.List.{flat_map}
 use Rattle.botdrive.specs.declared.outbox.Outbox.{Outbox}
 use Rattle.botcore.specs.Bots.{Bot}

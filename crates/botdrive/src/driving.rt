@@ -1,4 +1,4 @@
-// A bot on a connection.
+// Drives a bot over a connection.
 ghost use Rattle.std.specs.Prelude.{◌≡◌, ◌<◌, OnOk, IfErr};
 ghost use Rattle.bytetext.specs.declared.moment.TheConstants.{MOMENTS_END};
 ghost use Rattle.botdrive.specs.Driving.{Drives, DrivesTo, TakesAll, TakesSome, course_at};
@@ -21,29 +21,30 @@ use streams::{Stream, WriteFault};
 /// How a drive ends.
 #[derive(Clone, Copy, Debug, PartialEq, Eq)]
 pub enum DriveEnd {
-    /// Nothing more is to be read now, or enough was read, and all that the bot says is written and flushed.
+    /// Nothing more is to be read now, or enough was read, and everything that the bot says is written and flushed.
     Done,
-    /// The stream failed as it was asked for bytes. The lines before it are stepped; the clock is not read, and nothing is
+    /// A read of the stream failed. The bot has handled the lines before it; the clock is not read, and nothing is
     /// written.
     Read,
-    /// The stream failed as it was offered bytes, took none, or failed to flush. All steps are made, and a front of what the
-    /// bot says is written: all of it where only the flush failed.
+    /// A write to the stream failed or took no bytes, or the flush failed. All steps are made, and a prefix of what
+    /// the bot says is written: all of it if only the flush failed.
     Write,
-    /// A growth was refused. The steps before it stand, and nothing is written.
+    /// An allocation failed. The steps before it are kept, and nothing is written.
     NoMemory,
 }
 
-/// What a drive tells.
+/// The report of a drive.
 pub struct DriveReport {
     /// How it ended.
     pub end: DriveEnd,
-    /// The packets of the steps that it made, in order, to be sent over the link: texts, so that no record is in them.
+    /// The packets of the steps that it made, in order, to send over the link: they are texts, so they contain no
+    /// record.
     pub packets: Outgoings,
-    /// What came of the steps that it made, in order: of each that has a note, a call or a fault.
+    /// The outcomes of the steps that it made, in order: one for each step with a note, a call or a fault.
     pub outcomes: Outcomes,
 }
 
-// By hand, so that this is proved once, and not in each function in which one ends.
+// Written by hand, so that it is proved once and not in each function that drops one.
 impl Drop for DriveReport {
     fn drop(self) {
         let DriveReport {
@@ -54,15 +55,16 @@ impl Drop for DriveReport {
     }
 }
 
-/// Drives a bot over a connection to a server: takes in what has come, reads the clock, and writes what the bot says.
+/// Drives `bot` over a connection to a server, with the procs of `store`: handles what the server has sent, reads the
+/// clock, and writes what the bot says.
 ///
-/// The stream is asked until it is at its end or would have to wait, at most 1,000 times for 4,096 bytes each. Each line
-/// that this ends, after what `lines` holds of it, is one step of the bot, in order. Then the reading `now` is one: it is a
-/// moment, so before [`MOMENTS_END`](bytetext::MOMENTS_END). The lines that these steps say are written, each with CR and
-/// LF, and the stream is flushed, even where they say nothing. It is offered a line's bytes and its end apart: put a
-/// `BufWriter` into a `streams::Duplex` where that matters.
+/// The call reads `stream` until it is at its end or would block, at most 1,000 times for 4,096 bytes each. Each line
+/// that these bytes complete, after the part of a line that `lines` holds, is one step of the bot, in order. The
+/// reading `now` is the last step; it must be before [`MOMENTS_END`](bytetext::MOMENTS_END). Then the call writes the
+/// lines of these steps, each with CR and LF, and flushes the stream, even if there are no lines. It writes a line's
+/// bytes and its end separately: if that matters, put a `BufWriter` into a `streams::Duplex`.
 ///
-/// After `Done` the next drive goes on where this one ended. After each other end, connect again: with a new
+/// After `Done` the next drive continues where this one ended. After every other end, connect again: with a new
 /// [`LineReader`], and the bot by [`Event::Connect`](botcore::Event::Connect).
 ///
 /// ```text
@@ -120,7 +122,7 @@ fn drive_with<P: Promise, D: Disk, B: Run, S: Stream>(
     }
 }
 
-// Takes in what has come, and reads the clock.
+// Handles what the server has sent, and reads the clock.
 fn take_in<P: Promise, D: Disk, B: Run, S: Stream>(
     alloc: Global,
     bot: &mut Bot<D>,

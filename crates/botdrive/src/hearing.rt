@@ -1,4 +1,4 @@
-// What a bot is told over a connection.
+// Reads a connection and makes the steps of its lines.
 ghost use Rattle.std.specs.Prelude.{◌≡◌, IfOk, OnOk, OnErr, IfErr};
 ghost use Rattle.botdrive.specs.Driving.{Hears, HearsFirst, HearsPiece, HearsNoPiece, HearsAll, HearsSome};
 ghost use Rattle.botdrive.specs.Outboxes.{course_of};
@@ -13,13 +13,13 @@ use std::alloc::Global;
 use storage::Disk;
 use streams::{Given, Stream};
 
-// How often a drive reads at most.
+// The most reads of one drive.
 const MAX_READS: usize = 1000;
 
-// How many bytes one read takes at most.
+// The most bytes of one read.
 const PIECE: usize = 4096;
 
-// Reads all that there is now, or 1,000 pieces of it, and makes a step of each line that they end.
+// Reads all that has arrived, or 1,000 pieces of it, and makes a step of each line that they complete.
 pub(crate) fn hear_all<P: Promise, D: Disk, B: Run, S: Stream>(
     alloc: Global,
     bot: &mut Bot<D>,
@@ -46,7 +46,7 @@ pub(crate) fn hear_all<P: Promise, D: Disk, B: Run, S: Stream>(
     Ok(())
 }
 
-// Reads a piece, and makes a step of each line that it ends. Whether there may be more.
+// Reads a piece, and makes a step of each line that it completes. Returns whether there may be more.
 fn hear_piece<P: Promise, D: Disk, B: Run, S: Stream>(
     alloc: Global,
     bot: &mut Bot<D>,
@@ -76,7 +76,7 @@ fn hear_piece<P: Promise, D: Disk, B: Run, S: Stream>(
     }
 }
 
-// Takes bytes in, and makes a step of each line that they end.
+// Makes a step of each line that these bytes complete.
 fn hear_bytes<P: Promise, D: Disk, B: Run>(
     alloc: Global,
     bot: &mut Bot<D>,

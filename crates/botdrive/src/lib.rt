@@ -1,9 +1,9 @@
-//! A bot on a connection: what a server has sent becomes its steps, and what it says is written.
+//! A bot on a connection: it handles what a server has sent, and writes what it says.
 //!
-//! [`drive`] reads what has come, makes a step of each line and one of a reading of the clock, and writes the lines of these
-//! steps. It takes any [`Stream`](streams::Stream): of a reader and a writer `streams::Duplex` makes one, and of bytes that
-//! are all there `streams::Memory`. What it may read, make and write, and how each of its ends came, is stated whole in
-//! `specs/Driving.antt`.
+//! [`drive`] reads what has arrived, makes a step of each line and one of a reading of the clock, and writes the lines
+//! of these steps. It takes any [`Stream`](streams::Stream): `streams::Duplex` makes one of a reader and a writer, and
+//! `streams::Memory` one of bytes in memory. `specs/Driving.antt` states in full what it may read, make and write, and
+//! when each of its ends comes.
 #![tactic(auto)]
 
 mod driving;

@@ -1,4 +1,4 @@
-// What the steps of a drive have to send, and the steps that put it there.
+// The output of the steps of a drive, and the steps that add to it.
 ghost use Rattle.std.specs.Prelude.{◌≡◌, ◌≢◌, ◌≤◌, ◌<◌, ◌+◌, ◌++◌, ◌∷◌, [], length, OnOk, OnErr, IfErr, vec_len, vec_capacity};
 ghost use Rattle.std.specs.List.{flat_map};
 ghost use Rattle.linkcalls.specs.declared.TheConstants.{MAX_TEXTS as most_texts};
@@ -16,8 +16,8 @@ use procstore::{ProcStore, Promise, Run};
 use std::alloc::Global;
 use storage::Disk;
 
-// What steps have to send, packets over the link, and lines to the server of each step that has some; and what came of each
-// step that has something to tell.
+// The output of steps: packets for the link, the lines to the server of each step that has some, and the outcome of
+// each step that has something to report.
 #[derive(Drop)]
 pub(crate) struct Outbox {
     pub(crate) packets: Vec<Outgoing>,
@@ -26,7 +26,7 @@ pub(crate) struct Outbox {
 }
 
 impl Outbox {
-    // Before the first step. Takes no memory.
+    // Creates an empty outbox. Does not allocate.
     pub(crate) fn new(alloc: Global) -> Outbox
         ensures packets { result.packets.items ≡ [] }
         ensures lines { result.lines.items ≡ [] }
@@ -39,7 +39,7 @@ impl Outbox {
         }
     }
 
-    // Makes room for what one step has to send and to tell.
+    // Reserves room for the output of one step.
     fn make_room(&mut self) -> Result<(), NoMemory>
         ensures packets { self.new.packets.items ≡ self.old.packets.items }
         ensures lines { self.new.lines.items ≡ self.old.lines.items }
@@ -54,7 +54,7 @@ impl Outbox {
         Ok(())
     }
 
-    // Takes what a step has to send and to tell. Takes no memory.
+    // Adds the output of a step. Does not allocate.
     fn put(&mut self, packets: Outgoings, lines: Texts, outcome: Outcome)
         requires few { length packets ≤ most_texts }
         requires packets_room { vec_len self.old.packets + most_texts ≤ vec_capacity self.old.packets }
@@ -74,7 +74,7 @@ impl Outbox {
         }
     }
 
-    // Takes what a step has to send and to tell, unless it ran out of memory. Takes no memory.
+    // Adds the output of a step, unless the step ran out of memory. Does not allocate.
     fn put_report(&mut self, report: Report) -> Result<(), NoMemory>
         requires few { length report.packets ≤ most_texts }
         requires packets_room { vec_len self.old.packets + most_texts ≤ vec_capacity self.old.packets }
@@ -105,7 +105,7 @@ impl Outbox {
     }
 }
 
-// Makes a step of a line. Out of memory the bot is as it was.
+// Makes a step of a line. Out of memory, the bot is as it was.
 fn step_line<P: Promise, D: Disk, B: Run>(
     alloc: Global,
     bot: &mut Bot<D>,
@@ -122,7 +122,7 @@ fn step_line<P: Promise, D: Disk, B: Run>(
     outbox.put_report(report)
 }
 
-// Makes a step of a reading of the clock. Out of memory the bot is as it was.
+// Makes a step of a reading of the clock. Out of memory, the bot is as it was.
 pub(crate) fn step_clock<P: Promise, D: Disk, B: Run>(
     alloc: Global,
     bot: &mut Bot<D>,
@@ -139,7 +139,7 @@ pub(crate) fn step_clock<P: Promise, D: Disk, B: Run>(
     outbox.put_report(report)
 }
 
-// Makes a step of each line, in order. Out of memory the first of them are made.
+// Makes a step of each line, in order. Out of memory, only the first of them are made.
 pub(crate) fn step_lines<P: Promise, D: Disk, B: Run>(
     alloc: Global,
     bot: &mut Bot<D>,

@@ -1,11 +1,11 @@
-// What a step tells beside what it has to send.
+// What a step reports besides what it has to send.
 use botcalls::MadeCalls;
 use botcore::{Faults, Note};
 use bytetext::Seq;
 
-/// What came of a step, beside what it has to send.
+/// What a step reports besides what it has to send.
 pub struct Outcome {
-    /// Of a line that is no message, which rule it breaks. A message and a reading of the clock have none.
+    /// For a line that is not a message, the rule that it breaks. A message and a reading of the clock have no note.
     pub note: Option<Note>,
     /// The calls that were made, in order.
     pub calls: MadeCalls,
@@ -13,7 +13,7 @@ pub struct Outcome {
     pub faults: Faults,
 }
 
-// By hand, so that this is proved once, and not in each function in which one ends.
+// Written by hand, so that it is proved once and not in each function that drops one.
 impl Drop for Outcome {
     fn drop(self) {
         let Outcome {
@@ -28,7 +28,7 @@ impl Outcome {
     ghost use Rattle.std.specs.Prelude.{◌≡◌};
     ghost use Rattle.botdrive.specs.Driving.{is_silent};
 
-    // Whether there is nothing to tell.
+    // Whether there is nothing to report.
     pub(crate) fn is_silent(&self) -> bool
         ensures { result ≡ is_silent self.now }
     {
@@ -36,5 +36,5 @@ impl Outcome {
     }
 }
 
-/// What came of steps, in order.
+/// The outcomes of steps, in order.
 pub type Outcomes = Seq<Outcome>;

@@ -1,4 +1,4 @@
-// Lines to a server.
+// Writes lines to a server.
 ghost use Rattle.std.specs.Prelude.{◌≡◌, ◌++◌, ◌∷◌, [], OnErr, OnOk};
 ghost use Rattle.std.specs.List.{flat_map};
 ghost use Rattle.streams.specs.Transfers.{Writes, WritesFront, WritesOut};
@@ -7,8 +7,8 @@ ghost use Rattle.botdrive.specs.Driving.{text_of};
 use bytetext::{Text, Texts};
 use streams::{Stream, WriteFault, write_all};
 
-// Writes the lines of all these lists, each with CR and LF, and flushes. Only a front is written where the stream fails or
-// takes nothing.
+// Writes the lines of all these lists, each with CR and LF, and flushes. If the stream fails or takes nothing, only a
+// prefix is written.
 pub(crate) fn write_out<S: Stream>(stream: &mut S, lists: &[Texts]) -> Result<(), WriteFault>
     ensures ok { OnOk result (WritesOut (S.sink stream.old) (flat_map text_of lists.now) (S.sink stream.new)) }
     ensures err { OnErr result (WritesFront (S.sink stream.old) (flat_map text_of lists.now) (S.sink stream.new)) }

@@ -8,7 +8,8 @@ use Rattle.botfolder.specs.declared.begun.Begun.{Begun}
 use Rattle.botfolder.specs.declared.begun.Begun.TheVariants.{Found, Empty}
 use Rattle.botfolder.specs.declared.stopped.Stopped.{Stopped}
 
--- nothing is pending on the disk, its file was told all of it and brought to its device, and is no standard stream's
+-- nothing is pending on the disk; all of it was written to its file and synced to its device; the file is no standard
+-- stream
 abbrev pub IsReady : FileState → Type 0
 IsReady disk = IsSettled (state_of disk.mirror) × IsKept disk × (pos 3 ≤ℤ disk.file.descriptor)
 

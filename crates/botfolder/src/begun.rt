@@ -4,9 +4,8 @@ use disks::Pair;
 /// The disks of a bot's journal, as a start finds them.
 #[derive(Drop)]
 pub enum Begun {
-    /// A journal was made on them, and nobody knows of it what a crash did not leave.
+    /// A journal was made on them. If a crash came, nobody knows more of the journal than the crash left.
     Found(Pair),
-    /// They are empty: a bot is to be made on them, and then [`BotFolder::finish`](crate::BotFolder::finish) to be
-    /// called.
+    /// They are empty: create a bot on them, and then call [`BotFolder::finish`](crate::BotFolder::finish).
     Empty(Pair),
 }

@@ -19,8 +19,8 @@ use std::os::unix::fs::MetadataExt;
 use std::rt::Files;
 use storage::Disk;
 
-/// A bot's folder that this program has taken: no other program can, while this lives. It has to live as long as the
-/// bot.
+/// A bot's folder that this program has taken. No other program can take it while this value lives. It must live as
+/// long as the bot.
 pub struct BotFolder {
     path: String,
     control: String,
@@ -40,12 +40,13 @@ impl Drop for BotFolder {
 }
 
 impl BotFolder {
-    /// Takes a folder for this program alone. It is made where it is missing, for its owner alone (mode 700), and its
-    /// name is brought to its device.
+    /// Takes `folder` for this program alone. Creates the folder if it is missing, for its owner alone (mode 700), and
+    /// syncs its name to its device.
     ///
     /// # Errors
-    /// `LongName`, `NoParent`, `Unusable`, `LetsOthersIn`, `InUse` and `DiskFails` as they say; `NoMemory` where
-    /// memory is refused, which no long name asks for. The folder may have been made, and a file `lock` in it.
+    /// `LongName`, `NoParent`, `Unusable`, `LetsOthersIn`, `InUse` and `DiskFails`, as [`FolderFault`] describes them;
+    /// `NoMemory` if an allocation fails. The check of the name's length does not allocate. The folder may have been
+    /// created, and a file `lock` in it.
     pub fn take<R: AllocGlobal + Files<File = File>>(
         rt: &R,
         folder: &str,
@@ -68,22 +69,22 @@ impl BotFolder {
         })
     }
 
-    /// The folder's name, as it was given.
+    /// Returns the folder's name, as it was given.
     pub fn path(&self) -> &str {
         self.path.as_str()
     }
 
-    /// Where its bot takes commands.
+    /// Returns the path of the socket at which the bot takes commands.
     pub fn control(&self) -> &str {
         self.control.as_str()
     }
 
-    /// The disks of its journal where one was made, and else two empty ones on which to make it. What a making left
-    /// that was stopped is taken away.
+    /// Returns the disks of the journal if one was made, and else two empty disks on which to make it. Removes what an
+    /// interrupted creation left.
     ///
     /// # Errors
-    /// `Unusable`, `InUse`, `LacksFile` and `DiskFails` as they say; `NoMemory` where memory is refused. A journal is
-    /// as it was.
+    /// `Unusable`, `InUse`, `LacksFile` and `DiskFails`, as [`FolderFault`] describes them; `NoMemory` if an allocation
+    /// fails. A journal is then unchanged.
     pub fn begin<R: AllocGlobal + Files<File = File>>(&self, rt: &R) -> Result<Begun, FolderError>
         ensures { IfOk result IsBegun }
     {
@@ -96,12 +97,13 @@ impl BotFolder {
         }
     }
 
-    /// The journal on the empty disks of `begin` was made whole: from now on, whatever crash comes, it is found. The
-    /// disks go on in their files.
+    /// Ends the creation: the journal on the empty disks of `begin` was made whole. From now on a start finds it,
+    /// whatever crash comes. The disks keep their files.
     ///
     /// # Errors
-    /// `Unusable` and `DiskFails` as they say, `InUse` where a journal is there already; `NoMemory` where memory is
-    /// refused. The journal may be found or not: nothing is to be told of the bot, and the program to be ended.
+    /// `Unusable` and `DiskFails`, as [`FolderFault`] describes them; `InUse` if a journal exists already; `NoMemory`
+    /// if an allocation fails. A start may then find the journal or not: report nothing of the bot, and end the
+    /// program.
     pub fn finish<R: AllocGlobal + Files<File = File>>(&self, rt: &R) -> Result<(), FolderError> {
         let new = below(rt.alloc(), self.path(), NEW)?;
         let journal = below(rt.alloc(), self.path(), JOURNAL)?;
@@ -111,16 +113,16 @@ impl BotFolder {
         }
     }
 
-    /// Takes the socket away that a bot left which was killed, so that a new one can be made there.
+    /// Removes the socket that a killed bot left, so that a new one can be made there.
     ///
     /// # Errors
-    /// `Unusable` where it can't be removed; `NoMemory` where memory is refused.
+    /// `Unusable` if it can't be removed; `NoMemory` if an allocation fails.
     pub fn clear_control<R: Files>(&self, rt: &R) -> Result<(), FolderError> {
         remove(rt, self.control())
     }
 }
 
-// Refuses a folder that others may enter: they could tell its bot what to do.
+// Refuses a folder that others may enter: they could give its bot commands.
 fn keep_others_out<R: Files>(rt: &R, folder: &str) -> Result<(), FolderError>
     ensures { result ≢ Err (Refused LongName) }
 {
@@ -151,7 +153,7 @@ pub(crate) fn is_there<R: AllocGlobal + Files<File = File>>(
     }
 }
 
-// The disks of the journal that is there.
+// Opens the disks of an existing journal.
 fn found_disks<R: AllocGlobal + Files<File = File>>(
     rt: &R,
     folder: &str,
@@ -163,7 +165,7 @@ fn found_disks<R: AllocGlobal + Files<File = File>>(
     Ok(Pair { first, second })
 }
 
-// The disk in a file that is to be there.
+// Opens the disk in a file that must exist.
 fn found_disk<R: AllocGlobal + Files<File = File>>(
     rt: &R,
     folder: &str,
@@ -178,7 +180,7 @@ fn found_disk<R: AllocGlobal + Files<File = File>>(
     }
 }
 
-// The disk in a file that is made where it is missing.
+// Opens the disk in a file, which is created if it is missing.
 fn disk_of<R: AllocGlobal + Files<File = File>>(
     rt: &R,
     folder: &str,
@@ -194,7 +196,7 @@ fn disk_of<R: AllocGlobal + Files<File = File>>(
     }
 }
 
-// New disks in place of what a making left that was stopped.
+// Removes what an interrupted creation left, and makes new disks.
 fn empty_disks<R: AllocGlobal + Files<File = File>>(
     rt: &R,
     folder: &str,
@@ -217,7 +219,7 @@ fn empty_disks<R: AllocGlobal + Files<File = File>>(
     Ok(Pair { first, second })
 }
 
-// Takes away what a making left, beside the journal of a later one.
+// Removes what an interrupted creation left beside a journal that was made later.
 fn clear_new<R: AllocGlobal + Files<File = File>>(rt: &R, folder: &str) -> Result<(), FolderError> {
     remove_below(rt, folder, NEW_FIRST)?;
     remove_below(rt, folder, NEW_SECOND)?;
@@ -226,7 +228,7 @@ fn clear_new<R: AllocGlobal + Files<File = File>>(rt: &R, folder: &str) -> Resul
     Ok(())
 }
 
-// Removes the file of this name, where there is one.
+// Removes the file of this name, if it exists.
 pub(crate) fn remove_below<R: AllocGlobal + Files<File = File>>(
     rt: &R,
     folder: &str,
@@ -236,7 +238,7 @@ pub(crate) fn remove_below<R: AllocGlobal + Files<File = File>>(
     remove(rt, path.as_str())
 }
 
-// Removes a file, where there is one.
+// Removes a file, if it exists.
 fn remove<R: Files>(rt: &R, path: &str) -> Result<(), FolderError> {
     match fs::remove_file(rt, path) {
         Ok(()) => Ok(()),

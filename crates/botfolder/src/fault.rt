@@ -9,16 +9,16 @@ use std::io;
 use std::io::ErrorKind;
 use thiserror::Error;
 
-/// Why a folder can't be a bot's. Each text goes on from the folder's name: `/var/lib/eggnet/egg1 is in use: ..`.
+/// Why a folder can't be a bot's. Each message continues the folder's name: `/var/lib/eggnet/egg1 is in use: ..`.
 #[derive(Clone, Copy, Debug, PartialEq, Eq, Error)]
 pub enum FolderFault {
-    /// Its name is so long that no socket can be made in it.
+    /// Its name is too long for a socket in it.
     #[error("has a name of more than 99 bytes: give it a shorter one")]
     LongName,
     /// The folder above it is missing.
     #[error("can't be made: make the folder above it first")]
     NoParent,
-    /// It is no folder, or it or what is in it can't be made, opened, read or removed.
+    /// It is not a folder, or the folder or something in it can't be created, opened, read or removed.
     #[error("can't be used: give a folder that this user may read and write")]
     Unusable,
     /// Its mode lets others enter it.
@@ -33,15 +33,15 @@ pub enum FolderFault {
     /// No journal was made in it.
     #[error("holds no bot: give the folder of one")]
     NoBot,
-    /// A file or a name could not be brought to its device.
+    /// A file or a name could not be synced to its device.
     #[error("lies on a disk that fails: free space or mend it, then run again")]
     DiskFails,
 }
 
-/// Why a folder can't be a bot's, or want of memory.
+/// Why a folder can't be a bot's, or `NoMemory` if an allocation failed.
 pub type FolderError = Failure<FolderFault>;
 
-// What a file's fault means of the folder; `missing` is what it means that a file or folder is missing.
+// What a file's fault means for the folder; `missing` is the fault if a file or folder is missing.
 pub(crate) fn folder_error(error: FileDiskError, missing: FolderFault) -> FolderError
     ensures { missing ≢ LongName → result ≢ Refused LongName }
 {
@@ -51,7 +51,7 @@ pub(crate) fn folder_error(error: FileDiskError, missing: FolderFault) -> Folder
     }
 }
 
-// What an error of the system means of the folder: this, where it is not the want of memory.
+// What an error of the system means for the folder: `fault`, unless the system is out of memory.
 pub(crate) fn system_error(error: &io::Error, fault: FolderFault) -> FolderError
     ensures { fault ≢ LongName → result ≢ Refused LongName }
 {

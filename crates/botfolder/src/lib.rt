@@ -1,7 +1,7 @@
-//! The folder of a bot: one bot at a time, and a journal that is there whole or not at all.
+//! The folder of a bot: one bot at a time, and a journal that is whole or does not exist.
 //!
 //! ```text
-//! FOLDER            mode 700: who may enter it may tell the bot what to do
+//! FOLDER            mode 700: whoever may enter it can give the bot commands
 //!   lock            an empty file, locked while a bot runs on the folder
 //!   journal/        first and second, the two disks of the bot's journal
 //!   new/            the same while they are made
@@ -9,10 +9,10 @@
 //!   control         a socket, at which the running bot takes commands
 //! ```
 //!
-//! [`BotFolder::take`] makes the folder where it is missing, and locks it. [`BotFolder::begin`] gives the disks of
-//! its journal, or where none was made yet two empty ones in `new`; once a bot was made on them [`BotFolder::finish`]
-//! renames `new` to `journal`. A program that ends before that, at any moment, leaves a folder in which the next
-//! start begins anew, and nobody was told anything of a bot. One that ends later leaves the journal.
+//! [`BotFolder::take`] creates the folder if it is missing, and locks it. [`BotFolder::begin`] returns the disks of its
+//! journal, or two empty ones in `new` if none was made yet. Once a bot was made on these, [`BotFolder::finish`]
+//! renames `new` to `journal`. A program that ends before that, at any moment, leaves a folder in which the next start
+//! begins again, and nobody has learnt anything of a bot. A program that ends later leaves the journal.
 //!
 //! ```text
 //! let folder = BotFolder::take(rt, "/var/lib/eggnet/egg1")?;
@@ -28,8 +28,8 @@
 //! // listen at folder.control()
 //! ```
 //!
-//! The lock is freed when the program ends, however it ends. [`read_stopped`] reads the journal of a bot that does
-//! not run, and leaves the folder as it is.
+//! The lock is released when the program ends, however it ends. [`read_stopped`] reads the journal of a bot that does
+//! not run, and leaves the folder unchanged.
 #![tactic(auto)]
 
 mod begun;

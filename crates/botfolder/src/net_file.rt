@@ -15,11 +15,11 @@ use std::{fs, io};
 pub const NET_DIGITS: usize = 16;
 
 impl BotFolder {
-    /// The first 16 bytes of the file `net`, which are the digits of the number of the bot's net. None where there is
-    /// no such file.
+    /// Returns the first 16 bytes of the file `net`, which are the digits of the number of the bot's net. Returns
+    /// `None` if the file does not exist.
     ///
     /// # Errors
-    /// `Unusable` where it can't be read, or is shorter; `NoMemory` where memory is refused.
+    /// `Unusable` if the file can't be read, or is shorter; `NoMemory` if an allocation fails.
     pub fn net<R: AllocGlobal + Files<File = File>>(
         &self,
         rt: &R,
@@ -34,11 +34,11 @@ impl BotFolder {
         }
     }
 
-    /// Keeps the number of the net: from now on, whatever crash comes, it is found whole.
+    /// Keeps `digits` as the number of the net. From now on it is found whole, whatever crash comes.
     ///
     /// # Errors
-    /// `Unusable` where the file can't be made, and `DiskFails` where it can't be written or brought to its device;
-    /// `NoMemory` where memory is refused. The number before it may be found, or this one.
+    /// `Unusable` if the file can't be made, and `DiskFails` if it can't be written or synced to its device; `NoMemory`
+    /// if an allocation fails. Either the previous number or this one may be found then.
     pub fn keep_net<R: AllocGlobal + Files<File = File>>(
         &self,
         rt: &R,
@@ -59,10 +59,10 @@ impl BotFolder {
         }
     }
 
-    /// Forgets the number of the net, as where a leaf is made.
+    /// Forgets the number of the net, as when a leaf is made.
     ///
     /// # Errors
-    /// `Unusable` where the file can't be removed; `NoMemory` where memory is refused.
+    /// `Unusable` if the file can't be removed; `NoMemory` if an allocation fails.
     pub fn forget_net<R: AllocGlobal + Files<File = File>>(
         &self,
         rt: &R,
@@ -71,7 +71,7 @@ impl BotFolder {
     }
 }
 
-// The digits in a file of them.
+// Reads the digits in the file of a net's number.
 fn digits_in(file: &File) -> Result<[u8; NET_DIGITS], FolderError> {
     let mut bytes = [0; NET_DIGITS];
     match file.read_exact_at(&mut bytes, 0) {
@@ -80,7 +80,7 @@ fn digits_in(file: &File) -> Result<[u8; NET_DIGITS], FolderError> {
     }
 }
 
-// Writes a file of digits and a line feed, for its owner alone, and brings it to its device.
+// Writes a file of digits and a line feed, for its owner alone, and syncs it to its device.
 fn write_digits<R: Files<File = File>>(
     rt: &R,
     path: &str,
@@ -98,7 +98,7 @@ fn write_digits<R: Files<File = File>>(
     }
 }
 
-// Writes bytes and a line feed, and brings them to their device.
+// Writes bytes and a line feed, and syncs them to their device.
 fn write_line(file: File, bytes: &[u8]) -> io::Result<()> {
     let mut file = file;
     file.write_all(bytes)?;

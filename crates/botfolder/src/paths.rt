@@ -1,9 +1,9 @@
-// What stands where in a folder.
+// The names of what a folder holds.
 use bytetext::NoMemory;
 use std::alloc::Global;
 
-/// The most bytes of a folder's name: with `/control` behind it, it is a socket's, and the system takes 107 bytes of
-/// one.
+/// The most bytes of a folder's name. With `/control` after it, it is a socket's path, and the system takes at most 107
+/// bytes of one.
 pub const MAX_PATH: usize = 99;
 
 // The file that is locked.
@@ -28,15 +28,15 @@ pub(crate) const NET: &str = "net";
 
 pub(crate) const NEW_NET: &str = "net.new";
 
-// The path of what has this name in a folder.
+// The path of `name` in a folder.
 pub(crate) fn below(alloc: Global, folder: &str, name: &str) -> Result<String, NoMemory> {
     Ok(format!(in alloc; "{folder}/{name}")?)
 }
 
-/// Where the bot that runs on a folder takes commands.
+/// Returns the path of the socket at which the bot that runs on `folder` takes commands.
 ///
 /// # Errors
-/// `NoMemory` where room for the path is refused.
+/// `NoMemory` if an allocation fails.
 pub fn control_of(alloc: Global, folder: &str) -> Result<String, NoMemory> {
     below(alloc, folder, "control")
 }

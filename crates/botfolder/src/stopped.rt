@@ -21,12 +21,12 @@ pub struct Stopped {
     pub second: MemDisk,
 }
 
-/// Copies of the journal of a bot that does not run. No file is made or written, and the folder is locked only while
-/// its files are read: a bot that starts in that moment is refused.
+/// Copies the journal in `folder`, of a bot that does not run. No file is created or written, and the folder is locked
+/// only while its files are read: a bot that starts at that moment is refused.
 ///
 /// # Errors
-/// `NoBot` where no journal was made in the folder, or there is no folder; `InUse` where a bot runs on it: ask that
-/// one; `LacksFile` and `Unusable` as they say; `NoMemory` where memory is refused.
+/// `NoBot` if no journal was made in the folder, or the folder does not exist; `InUse` if a bot runs on it, which can
+/// be asked instead; `LacksFile` and `Unusable`, as [`FolderFault`] describes them; `NoMemory` if an allocation fails.
 pub fn read_stopped<R: AllocGlobal + Files<File = File>>(
     rt: &R,
     folder: &str,
@@ -45,7 +45,7 @@ pub fn read_stopped<R: AllocGlobal + Files<File = File>>(
     })
 }
 
-// A file that is opened for reading, and locked beside others who read it.
+// Opens a file for reading, with a lock that other readers can share.
 fn locked_file<R: AllocGlobal + Files<File = File>>(
     rt: &R,
     folder: &str,
@@ -65,7 +65,7 @@ fn locked_file<R: AllocGlobal + Files<File = File>>(
     }
 }
 
-// What a file holds, as a disk in memory.
+// Copies what a file holds to a disk in memory.
 fn copy_of(alloc: Global, file: &File) -> Result<MemDisk, FolderError>
     ensures { IfOk result (λ disk. disk.events ≡ []) }
 {

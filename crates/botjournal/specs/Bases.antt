@@ -1,4 +1,4 @@
--- The one spelling of a base in each layout, and what reading one answers.
+-- The one spelling of a base in each layout, and what reading a base returns.
 use Rattle.std.specs.Prelude.{◌≡◌, ℕ, ◌+◌, ◌<◌, ◌≤◌, ◌^◌, ◌==◌, nat_le, nat_lt, Bool, true, false, ◌&&◌, List, [], ◌∷◌, ◌++◌, length, Option, Some, None, Result, Ok, Err}
 use Rattle.std.specs.Prelude.{if◌then◌else◌}
 use Rattle.std.specs.List.{flat_map, list_all, AllByRecursion}
@@ -29,7 +29,7 @@ use Rattle.botjournal.specs.declared.request.Request.{Request}
 abbrev pub listed : {A : Type 0} → (A → List ℕ) → List A → List ℕ
 listed spelling items = number w16 (length items) ++ flat_map spelling items
 
--- what became of a request: 0 and the change's number, or the byte of the fault
+-- the reply to a request: 0 and the change's number, or the byte of the fault
 abbrev pub answer_bytes : Answer → List ℕ
 answer_bytes (Taken n) = 0 ∷ number w32 n
 answer_bytes (Refused fault) = fault_byte fault ∷ []
@@ -45,7 +45,7 @@ abbrev pub one_out_bytes : List Request → List ℕ
 one_out_bytes [] = 0 ∷ []
 one_out_bytes (request ∷ more) = 1 ∷ change_bytes request.change
 
--- the requests that are out: those of layout 3 after their count, which has one byte
+-- the outstanding requests: those of layout 3 come after their count, which has one byte
 abbrev pub out_bytes_by : Layout → List Request → List ℕ
 out_bytes_by First = one_out_bytes
 out_bytes_by Second = one_out_bytes
@@ -63,7 +63,7 @@ base_bytes base = base_bytes_by Third base
 
 -- ---- which bases have a spelling
 
--- the first leaf is at least this, and each other above the one before it
+-- the first leaf is at least this, and each other leaf is above the one before it
 abbrev pub rises_from : ℕ → List Reply → Bool
 rises_from least [] = true
 rises_from least (reply ∷ replies) = nat_le least reply.leaf && rises_from (reply.leaf + 1) replies
@@ -76,15 +76,15 @@ are_rising replies = rises_from 0 replies
 abbrev pub is_next_reply : Reply → Reply → Bool
 is_next_reply first second = second.leaf == first.leaf && second.request == first.request + 1
 
--- These replies may follow this one, which is the so many'th to its leaf: each is to a leaf above that of the reply before
--- it, or to the same leaf's next request. A leaf has at most eight.
+-- These replies may follow `before`, which is the reply with the number `count` to its leaf: each is to a leaf above
+-- that of the reply before it, or to the same leaf's next request. A leaf has at most eight.
 abbrev pub may_follow : Reply → ℕ → List Reply → Bool
 may_follow before count [] = true
 may_follow before count (reply ∷ replies) =
     if nat_lt before.leaf reply.leaf then may_follow reply 1 replies
     else ((is_next_reply before reply && nat_lt count WINDOW) && may_follow reply (count + 1) replies)
 
--- replies as a hub keeps them: leaf by leaf, to each leaf at most eight, whose requests have numbers one after the other
+-- replies as a hub keeps them: leaf by leaf, at most eight to each leaf, whose requests have consecutive numbers
 abbrev pub are_kept : List Reply → Bool
 are_kept [] = true
 are_kept (reply ∷ replies) = may_follow reply 1 replies
@@ -94,7 +94,7 @@ are_kept_by First = are_rising
 are_kept_by Second = are_rising
 are_kept_by Third = are_kept
 
--- the first number is at least this, and each other above the one before it
+-- the first number is at least this, and each other number is above the one before it
 abbrev pub numbers_rise_from : ℕ → List Request → Bool
 numbers_rise_from least [] = true
 numbers_rise_from least (request ∷ requests) = nat_le least request.number && numbers_rise_from (request.number + 1) requests
@@ -103,8 +103,8 @@ numbers_rise_from least (request ∷ requests) = nat_le least request.number && 
 abbrev pub is_near : ℕ → Request → Bool
 is_near last request = nat_le request.number last && nat_lt last (request.number + WINDOW)
 
--- Requests that may be out where the last one had this number: their numbers rise, and it is at most 7 above each of them.
--- So they are at most eight.
+-- Requests that may be outstanding when the last request had this number: their numbers rise, and it is at most 7 above
+-- each of them. So there are at most eight.
 abbrev pub are_out : ℕ → List Request → Bool
 are_out last requests = numbers_rise_from 0 requests && list_all (is_near last) requests
 
@@ -119,7 +119,8 @@ is_of_its_bot base = if base.bot == 0 then (base.last_request == 0 && are_none b
 abbrev pub HasShapeOut : Request → Type 0
 HasShapeOut request = bad_shape request.change ≡ None
 
--- the lists are not too long for their counts, and the shapes of the records and the changes are good, as the userfile says
+-- the lists are not too long for their counts, and the shapes of the records and the changes are good, as the userfile
+-- says
 pub record HasShapes (base : Base) : Type 0 where
   pub few_records : length base.records < 2 ^ 16
   pub records : AllByRecursion HasShape base.records
@@ -137,7 +138,7 @@ IsGoodReply reply = (reply.leaf < 2 ^ 16) × ((reply.request < 2 ^ 32) × IsGood
 abbrev pub IsGoodRequest : Request → Type 0
 IsGoodRequest request = (request.number < 2 ^ 32) × IsGoodChange request.change
 
--- requests that have spellings, and may be out where the last one had this number
+-- requests that have spellings, and may be outstanding when the last request had this number
 abbrev pub AreOut : ℕ → List Request → Type 0
 AreOut last requests = AllByRecursion IsGoodRequest requests × (are_out last requests ≡ true)
 
@@ -147,7 +148,7 @@ IsOneOut layout last [] = Unit {0}
 IsOneOut layout last (request ∷ []) = (request.number ≡ last) × IsGoodChangeBy layout request.change
 IsOneOut layout last (request ∷ other ∷ more) = ⊥
 
--- the requests that a layout can say are out
+-- the outstanding requests that a layout can spell
 abbrev pub AreOutBy : Layout → ℕ → List Request → Type 0
 AreOutBy First = IsOneOut First
 AreOutBy Second = IsOneOut Second
@@ -211,7 +212,7 @@ records_at layout bytes = do
   count ← number_at w16 bytes
   so_many_records_by layout count.0 count.1
 
--- what follows the byte that says whether a change is out
+-- what follows the byte that says whether a change is outstanding
 unfoldable pub change_out_from : Layout → ℕ → List ℕ → Reading (Option Change)
 change_out_from layout byte bytes =
     if byte == 0 then Ok (None, bytes) else (if byte == 1 then made Some (change_by layout bytes) else Err NotCanonical)
@@ -221,12 +222,12 @@ change_out_at layout bytes = do
   byte ← byte_at bytes
   change_out_from layout byte.0 byte.1
 
--- the request of this number whose change is out, where one is
+-- the request of this number whose change is outstanding, if there is one
 abbrev pub one_out : ℕ → Option Change → List Request
 one_out last None = []
 one_out last (Some change) = record { number = last; change = change } ∷ []
 
--- an older layout's last request number, and its request that is out
+-- an older layout's last request number, and its outstanding request
 unfoldable pub one_out_at : Layout → List ℕ → Reading (ℕ × List Request)
 one_out_at layout bytes = made (λ x. (x.0, one_out x.0 x.1)) (both (number_at w32) (change_out_at layout) bytes)
 
@@ -236,11 +237,11 @@ request_at bytes = made (λ x. record { number = x.0; change = x.1 }) (both (num
 unfoldable pub requests_listed_at : List ℕ → Reading (List Request)
 requests_listed_at bytes = counted_at WINDOW (λ held more. request_at more) bytes
 
--- layout 3's last request number, and its requests that are out
+-- layout 3's last request number, and its outstanding requests
 unfoldable pub window_at : List ℕ → Reading (ℕ × List Request)
 window_at bytes = checked (λ x. are_out x.0 x.1) (both (number_at w32) requests_listed_at bytes)
 
--- the last request number, and the requests that are out
+-- the last request number, and the outstanding requests
 abbrev pub out_at : Layout → List ℕ → Reading (ℕ × List Request)
 out_at First = one_out_at First
 out_at Second = one_out_at Second

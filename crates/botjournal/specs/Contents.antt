@@ -17,7 +17,7 @@ pub record Contents : Type 0 where
   pub base : Base
   pub entries : List Entry
 
--- the contents with one entry more
+-- the contents with one more entry
 abbrev pub added : Entry → Contents → Contents
 added entry contents =
     record { layout = contents.layout; generation = contents.generation; base = contents.base; entries = contents.entries ++ (entry ∷ []) }
@@ -53,7 +53,7 @@ abbrev pub spelled_by : Option Layout → Texts → Option Contents
 spelled_by None texts = None
 spelled_by (Some layout) texts = with_base texts.layout texts.generation (base_in layout texts.base) (entries_in layout texts.entries)
 
--- the base and entries that these texts spell: none where their layout isn't read, or one of them is the spelling of nothing
+-- the base and entries that these texts spell: none if their layout isn't read, or if one of them spells nothing
 abbrev pub spelled : Texts → Option Contents
 spelled texts = spelled_by (layout_of texts.layout) texts
 
@@ -61,8 +61,8 @@ abbrev pub where_spelled : Texts → Option Contents → Held
 where_spelled texts None = Broken
 where_spelled texts (Some contents) = Open texts
 
--- What a disk holds as a bot's journal. Where one of its texts is the spelling of nothing it isn't a journal's, just as
--- where the texts themselves can't be read.
+-- What a disk holds as a bot's journal. If one of its texts spells nothing, the disk doesn't hold a journal, just as if
+-- the texts themselves couldn't be read.
 abbrev pub checked : Held → Held
 checked Shut = Shut
 checked Broken = Broken
@@ -73,6 +73,6 @@ abbrev pub typed : Option Texts → Option Contents
 typed None = None
 typed (Some texts) = spelled texts
 
--- What two disks mean. Both have to be a journal's as far as their gates are open, though the contents of one alone count.
+-- What two disks mean. Each has to be a journal's as far as its gate is open, though only one disk's contents count.
 abbrev pub meaning : List ℕ → List ℕ → Option Contents
 meaning first second = typed (chosen (checked (held first)) (checked (held second)))

@@ -1,4 +1,4 @@
--- The one spelling of an entry in each layout, and what reading one answers.
+-- The one spelling of an entry in each layout, and what reading an entry returns.
 use Rattle.std.specs.Prelude.{◌≡◌, ℕ, ◌<◌, ◌^◌, ◌==◌, List, [], ◌∷◌, ◌++◌, Option, Some, None, Result, Ok, Err, if◌then◌else◌}
 use Rattle.std.specs.Int.{w16, w32}
 use Rattle.bytetext.specs.declared.failure.Failure.{Failure}
@@ -20,7 +20,7 @@ use Rattle.botjournal.specs.declared.entry.Entry.TheVariants.{Accepted, Settled,
 -- ---- spellings
 
 -- an entry: a byte that is its tag, and its fields, each number with its most significant byte first. All layouts spell
--- it alike, where its change is one that the layout has.
+-- it alike, if the layout has its change.
 abbrev pub entry_bytes : Entry → List ℕ
 entry_bytes (Accepted origin request change) = 1 ∷ (number w16 origin ++ (number w32 request ++ change_bytes change))
 entry_bytes (Settled leaf request fault) = 2 ∷ (number w16 leaf ++ (number w32 request ++ fault_byte fault ∷ []))
@@ -97,7 +97,7 @@ abbrev pub TakesMemory : Reading Entry → Type 0
 TakesMemory (Ok x) = HoldsChange x.0
 TakesMemory (Err fault) = ⊥
 
--- what reading gives is answered, and this rest is left, or memory ran out
+-- the result is what reading gives, and this rest is left, or memory ran out
 abbrev pub MakesEntry : Result Entry (Failure CodecFault) → List ℕ → Reading Entry → Type 0
 MakesEntry (Ok entry) rest reading = reading ≡ Ok (entry, rest)
 MakesEntry (Err (Refused fault)) rest reading = reading ≡ Err fault

@@ -1,4 +1,4 @@
--- What the calls of a bot's journal answer. Contracts see a bot's journal as the journal of texts that it stands on.
+-- What the calls of a bot's journal return. Contracts see a bot's journal as the journal of texts that it stands on.
 use Rattle.std.specs.Prelude.{◌≡◌, ◌≢◌, ◌⊎◌, ◌+◌, ◌-◌, ◌^◌, Bool, true, false, if◌then◌else◌, ℕ, Option, Some, None, List, IsSome, option_map, Result, Ok, Err}
 use Rattle.std.specs.Option.{is_some}
 use Rattle.std.specs.List.{AllByRecursion}
@@ -22,7 +22,7 @@ use Rattle.botjournal.specs.Bases.{IsGoodBase}
 use Rattle.botjournal.specs.Entries.{IsGoodEntry}
 use Rattle.botjournal.specs.Contents.{Contents, added, rebased, new_contents, spelled, meaning}
 
--- two images mean the one or the other, and all their gates are there
+-- two images mean `before` or `after`, and all their gates exist
 pub record IsEither (before after : Option Contents) (first second : List ℕ) : Type 0 where
   pub means : (meaning first second ≡ before) ⊎ (meaning first second ≡ after)
   pub first_whole : IsWhole first
@@ -42,7 +42,7 @@ module _ {D : Type 0} (state : D → State) where
   abbrev pub IsSound : OfTexts D → Type 0
   IsSound journal = journal.spent ≡ false → IsAtRest journal
 
-  -- Appending an entry, by cases on the answer.
+  -- Appending an entry, by cases on the result.
   abbrev pub Appends : OfTexts D → Entry → Result (Unit {0}) (Failure JournalFault) → OfTexts D → Type 0
   Appends old entry (Ok _) new = (old.spent ≡ false) × (new.spent ≡ false) × (contents_of new ≡ option_map (added entry) (contents_of old))
   Appends old entry (Err (Refused DiskFault)) new = (old.spent ≡ false) × (new.spent ≡ true) × DiskFailed state old new
@@ -51,7 +51,7 @@ module _ {D : Type 0} (state : D → State) where
   Appends old entry (Err (Refused GenerationsSpent)) new = ⊥
   Appends old entry (Err NoMemory) new = (old.spent ≡ false) × (new.spent ≡ false) × SameDisks state old new × (contents_of new ≡ contents_of old)
 
-  -- Putting another base in place, by cases on the answer.
+  -- Replacing the base, by cases on the result.
   abbrev pub Rebases : OfTexts D → Base → Result (Unit {0}) (Failure JournalFault) → OfTexts D → Type 0
   Rebases old base (Ok _) new = (old.spent ≡ false) × (new.spent ≡ false) × (new.layout ≡ LAYOUT) × (new.generation ≡ old.generation + 1)
       × (contents_of new ≡ option_map (rebased base) (contents_of old))
@@ -62,7 +62,7 @@ module _ {D : Type 0} (state : D → State) where
   Rebases old base (Err NoMemory) new = (old.spent ≡ false) × (old.generation ≢ 2 ^ 32 - 1) × (new.spent ≡ false) × SameDisks state old new
       × (contents_of new ≡ contents_of old)
 
-  -- Making a journal, by cases on the answer.
+  -- Creating a journal, by cases on the result.
   abbrev pub Creates : D → D → Base → Result (OfTexts D) (Returned D) → Type 0
   Creates first second base (Ok journal) = (journal.spent ≡ false) × IsAtRest journal × (contents_of journal ≡ Some (new_contents base))
   Creates first second base (Err returned) = CannotCreate (state first) (state second) returned.error (state returned.disks.first) (state returned.disks.second)
@@ -72,7 +72,7 @@ module _ {D : Type 0} (state : D → State) where
   contents_found opened =
       record { layout = opened.journal.layout; generation = opened.journal.generation; base = opened.base; entries = opened.entries }
 
-  -- The journal was opened on disks with these bytes. Where it is whole it is at rest.
+  -- The journal was opened on disks with these bytes. If it is whole, it is at rest.
   pub record IsOpened (first second : List ℕ) (opened : Opened D) : Type 0 where
     pub found : meaning first second ≡ Some (contents_found opened)
     pub going : opened.journal.spent ≡ false
@@ -87,7 +87,7 @@ module _ {D : Type 0} (state : D → State) where
   Refuses first second (Refused GenerationsSpent) first' second' = ⊥
   Refuses first second NoMemory first' second' = HoldByte (state first) (state second)
 
-  -- Opening a journal, by cases on the answer.
+  -- Opening a journal, by cases on the result.
   abbrev pub Opens : D → D → Result (Opened D) (Returned D) → Type 0
   Opens first second (Ok opened) = IsOpened (state first).seen (state second).seen opened
       × Untouched (state first) (state (first_disk opened.journal)) × Untouched (state second) (state (second_disk opened.journal))
@@ -99,7 +99,7 @@ module _ {D : Type 0} (state : D → State) where
   Restarts journal result = (first : D) × (second : D) × Reopened (state (first_disk journal)) (state first)
       × Reopened (state (second_disk journal)) (state second) × Opens first second result
 
--- whether the texts of the disk that doesn't count spell a base and entries, where its gate is open
+-- whether the texts of the disk that doesn't count spell a base and entries, if its gate is open
 abbrev pub is_spelled : Option Older → Bool
 is_spelled None = true
 is_spelled (Some older) =
@@ -118,7 +118,7 @@ module _ {D : Type 0} where
   abbrev pub IsGoodOpened : Opened D → Type 0
   IsGoodOpened opened = IsGoodBase opened.base × AllByRecursion IsGoodEntry opened.entries
 
-  -- the disks are not told to hold no journal
+  -- the result isn't that the disks hold no journal
   abbrev pub IsNotRefused : Result (Opened D) (Returned D) → Type 0
   IsNotRefused (Ok opened) = Unit {0}
   IsNotRefused (Err returned) = returned.error ≢ Refused NotAJournal
@@ -127,11 +127,11 @@ module _ {D : Type 0} where
   abbrev pub texts_found : OpenedTexts D → Texts
   texts_found texts = record { layout = texts.journal.layout; generation = texts.journal.generation; base = texts.base; entries = texts.entries }
 
-  -- the contents of the texts that were found: none where a text on the other disk is the spelling of nothing
+  -- the contents of the texts that were found: none if a text on the other disk spells nothing
   abbrev pub contents_read : OpenedTexts D → Option Contents
   contents_read texts = if is_spelled texts.older then spelled (texts_found texts) else None
 
-  -- Reading the texts of an opened journal, by cases on the answer: the disks are handed on as they are.
+  -- Reading the texts of an opened journal, by cases on the result: the disks are handed on as they are.
   abbrev pub ReadsTexts : OpenedTexts D → Result (Opened D) (Returned D) → Type 0
   ReadsTexts texts (Ok opened) = (opened.journal ≡ texts.journal) × (opened.whole ≡ texts.whole)
       × (contents_read texts

@@ -1,4 +1,4 @@
--- How a layout spells changes and records, and what reading one answers. Layout 1 had no info texts and no sticky bans;
+-- How a layout spells changes and records, and what reading one returns. Layout 1 had no info texts and no sticky bans;
 -- layout 2 and the one that is written have them, and spell them alike.
 use Rattle.std.specs.Prelude.{ℕ, ◌==◌, List, Option, Some, None, if◌then◌else◌}
 use Rattle.userfile.specs.declared.change.Change.{Change}
@@ -11,7 +11,7 @@ use Rattle.botjournal.specs.declared.TheConstants.{LAYOUT}
 use Rattle.botjournal.specs.declared.layouts.Layout.{Layout}
 use Rattle.botjournal.specs.declared.layouts.Layout.TheVariants.{First, Second, Third}
 
--- the layout of this number: those of other numbers aren't read
+-- the layout of this number: layouts of other numbers aren't read
 abbrev pub layout_of : ℕ → Option Layout
 layout_of number = if number == 1 then Some First else (if number == 2 then Some Second else (if number == LAYOUT then Some Third else None))
 
@@ -41,7 +41,7 @@ IsGoodRecordBy First = IsGoodRecordOld
 IsGoodRecordBy Second = IsGoodRecord
 IsGoodRecordBy Third = IsGoodRecord
 
--- so many records, one after the other
+-- this number of records, one after the other
 abbrev pub so_many_records_by : Layout → ℕ → List ℕ → Reading (List Record)
 so_many_records_by First = so_many_records_at_old
 so_many_records_by Second = so_many_records_at

@@ -1,4 +1,4 @@
--- A ledger as contracts see it, and what its calls answer. What is said of the disks in its hands is its invariant.
+-- A ledger as contracts see it, and what its calls return. The ledger's invariant says what holds of its disks.
 use Rattle.std.specs.Prelude.{◌≡◌, ◌≢◌, ◌⊎◌, ◌≤◌, ◌+◌, ◌-◌, ◌^◌, ℕ, Bool, true, false, Option, None, Some, List, Result, Ok, Err}
 use Rattle.bytetext.specs.declared.failure.Failure.{Failure}
 use Rattle.bytetext.specs.declared.failure.Failure.TheVariants.{Refused, NoMemory}
@@ -24,19 +24,19 @@ use Rattle.botjournal.specs.Recovery.{IsJournal}
 
 -- ---- what a ledger is
 
--- what was being written when a disk failed: an entry more, or another base
+-- what was being written when a disk failed: one more entry, or another base
 pub data Pending : Type 0 where
   Adding : (entry : Entry) → Pending
   Rebasing : (base : Base) → Pending
 
--- what is kept, what is in doubt, and whether nothing is taken but a restart
+-- what is kept, what is in doubt, and whether the ledger takes nothing but a restart
 pub record Account : Type 0 where
   pub contents : Contents
   pub doubt : Option Pending
   pub down : Bool
 
--- The two disks, with all that happened to them: no room that is made on one of them is seen, so they are the same after a
--- call that wrote nothing.
+-- The two disks, with all that happened to them. Room that a call makes on a disk isn't visible, so the disks are the
+-- same after a call that wrote nothing.
 pub record Device : Type 0 where
   pub first : State
   pub second : State
@@ -68,25 +68,25 @@ counted account = written_if account.doubt account.contents
 abbrev pub settled : Contents → Account
 settled contents = record { contents = contents; doubt = None; down = false }
 
--- a disk failed between the one and the other
+-- a disk failed between these two states
 abbrev pub Failed : Device → Device → Type 0
 Failed before now = Rose before.first.failed now.first.failed ⊎ Rose before.second.failed now.second.failed
 
--- each disk was opened again once
+-- each disk was reopened once
 abbrev pub Reopens : Device → Device → Type 0
 Reopens before now = (openings now.first.events ≡ openings before.first.events + 1)
     × (openings now.second.events ≡ openings before.second.events + 1)
 
--- what a crash at any moment from the one on to the other may have left has P
+-- what a crash at any moment between these two states may have left has `P`
 abbrev pub AtEachMoment : Device → Device → (List ℕ → List ℕ → Type 0) → Type 0
 AtEachMoment before now P = EachMoment before.first before.second now.first now.second P
 
--- these disks are the device still: nothing happened to them since
+-- these disks are still the device: nothing happened to them since
 abbrev pub AreStill : State → State → Device → Type 0
 AreStill first second device = (device.first.seen ≡ first.seen) × (device.first.events ≡ first.events)
     × (device.second.seen ≡ second.seen) × (device.second.events ≡ second.events)
 
--- no failure of these disks is forgotten in the device
+-- the device forgets no failure of these disks
 abbrev pub NoFewer : State → State → Device → Type 0
 NoFewer first second device = (first.failed ≤ device.first.failed) × (second.failed ≤ device.second.failed)
 
@@ -105,15 +105,15 @@ abbrev pub LeavesEither : Pending → Ledger → Ledger → Type 0
 LeavesEither pending old new =
     AtEachMoment old.device new.device (IsEither (Some old.account.contents) (Some (written pending old.account.contents)))
 
--- ---- what the calls answer
+-- ---- what the calls return
 
--- Appending an entry, by cases on the answer.
+-- Appending an entry, by cases on the result.
 abbrev pub Appends : Ledger → Entry → Result (Unit {0}) (Failure DiskFault) → Ledger → Type 0
 Appends old entry (Ok _) new = Writes (Adding entry) old new
 Appends old entry (Err (Refused _)) new = FailsAt (Adding entry) old new
 Appends old entry (Err NoMemory) new = new ≡ old
 
--- Putting another base in place, by cases on the answer.
+-- Replacing the base, by cases on the result.
 abbrev pub Rebases : Ledger → Base → Result (Unit {0}) (Failure RebaseFault) → Ledger → Type 0
 Rebases old base (Ok _) new = Writes (Rebasing base) old new
 Rebases old base (Err (Refused GenerationsSpent)) new = (old.account.contents.generation ≡ 2 ^ 32 - 1) × (new ≡ old)
@@ -124,11 +124,11 @@ Rebases old base (Err NoMemory) new = (old.account.contents.generation ≢ 2 ^ 3
 abbrev pub IsFound : Found → Contents → Type 0
 IsFound found contents = (found.base ≡ contents.base) × (found.entries ≡ contents.entries)
 
--- all stays, but nothing is taken until the next restart
+-- all stays, but the ledger takes nothing until the next restart
 abbrev pub StaysDown : Ledger → Ledger → Type 0
 StaysDown old new = new.account ≡ record { contents = old.account.contents; doubt = old.account.doubt; down = true }
 
--- A restart, by cases on the answer.
+-- A restart, by cases on the result.
 abbrev pub Restarts : Ledger → Result Found (Failure DiskFault) → Ledger → Type 0
 Restarts old (Ok found) new =
     ((new.account ≡ settled old.account.contents) ⊎ (new.account ≡ settled (counted old.account))) × IsFound found new.account.contents
@@ -137,7 +137,7 @@ Restarts old (Err NoMemory) new = StaysDown old new
 
 -- ---- the disks
 
--- whatever a crash leaves on the disks means what is kept, or that with what is in doubt, and all gates are there
+-- whatever a crash leaves on the disks means what is kept, or that with what is in doubt, and all gates exist
 abbrev pub Leaves : State → State → Account → Type 0
 Leaves first second account = (x y : List ℕ) → may_leave first x → may_leave second y
     → IsEither (Some account.contents) (Some (counted account)) x y
@@ -145,7 +145,7 @@ Leaves first second account = (x y : List ℕ) → may_leave first x → may_lea
 -- ---- disks that are given and handed back
 
 module _ {D : Type 0} (state : D → State) where
-  -- Making a ledger, by cases on the answer.
+  -- Creating a ledger, by cases on the result.
   abbrev pub Creates : D → D → Base → Result Ledger (Returned D) → Type 0
   Creates first second base (Ok ledger) = ledger.account ≡ settled (new_contents base)
   Creates first second base (Err returned) =
@@ -160,7 +160,7 @@ module _ {D : Type 0} (state : D → State) where
   Refuses first second (Refused NoMoreLeft) first' second' = ⊥
   Refuses first second NoMemory first' second' = HoldByte (state first) (state second)
 
-  -- Opening a ledger, by cases on the answer.
+  -- Opening a ledger, by cases on the result.
   abbrev pub Opens : D → D → Result (Ledger × Found) (Returned D) → Type 0
   Opens first second (Ok opened) = (meaning (state first).seen (state second).seen ≡ Some opened.0.account.contents)
       × (opened.0.account ≡ settled opened.0.account.contents) × IsFound opened.1 opened.0.account.contents

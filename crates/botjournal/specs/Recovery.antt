@@ -1,4 +1,4 @@
--- A bot's journal over many calls and crashes. Each call is what the clauses of `Journal` say of it; stages, crashes and
+-- A bot's journal over many calls and crashes. Each call does what the clauses of `Journal` say; stages, crashes and
 -- what a crash leaves are those of the journal of texts.
 use Rattle.std.specs.Prelude.{◌≡◌, ◌≢◌, false, true, List, ℕ, IsSome, option_map, Result, Ok, Err}
 use Rattle.bytetext.specs.declared.failure.Failure.{Failure}
@@ -19,7 +19,7 @@ use Rattle.botjournal.specs.declared.opening.Opened.{Opened}
 use Rattle.botjournal.specs.Contents.{meaning, added, rebased}
 use Rattle.botjournal.specs.Journal.{IsEither, IsSound, Appends, Rebases, Opens, Restarts, contents_of}
 
--- two images are a bot's journal: they mean a base and entries, and all their gates are there
+-- two images are a bot's journal: they mean a base and entries, and all their gates exist
 pub record IsJournal (first second : List ℕ) : Type 0 where
   pub some : IsSome (meaning first second)
   pub first_whole : IsWhole first
@@ -31,7 +31,7 @@ module _ {D : Type 0} where
   after_opening (Ok opened) = InProgram opened.journal
   after_opening (Err returned) = OnDisks returned.disks.first returned.disks.second
 
-  -- the disks were not refused for holding no journal, and all gates were there
+  -- the disks were not rejected as holding no journal, and all gates existed
   abbrev pub FindsJournal : Result (Opened D) (Returned D) → Type 0
   FindsJournal (Ok opened) = opened.whole ≡ true
   FindsJournal (Err returned) = returned.error ≢ Refused NotAJournal

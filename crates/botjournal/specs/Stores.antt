@@ -1,4 +1,4 @@
--- What is true of a ledger's disks, and what a ledger shows.
+-- What holds of a ledger's disks, and what a ledger shows.
 use Rattle.std.specs.Prelude.{◌≡◌, Bool, true, false, Option, None, Some, [], option_map, Result}
 use Rattle.bytetext.specs.declared.failure.Failure.{Failure}
 use Rattle.bytetext.specs.declared.failure.Failure.TheVariants.{Refused, NoMemory}
@@ -25,7 +25,7 @@ abbrev pub pending_of : Doubt → Pending
 pending_of (AddingOne entry) = Adding entry.value
 pending_of (RebasingTo base) = Rebasing base.value
 
--- the contents where there are any: those of nothing else are never shown
+-- the contents, if there are any: those of nothing else are never shown
 abbrev pub shown : Option Contents → Contents
 shown None =
     record { layout = 0; generation = 0; base = record { bot = 0; version = 0; records = []; replies = []; last_request = 0; out = [] }; entries = [] }
@@ -37,7 +37,7 @@ read_error (Refused fault) = Refused (record {})
 read_error NoMemory = NoMemory
 
 module _ {D : Type 0} where
-  -- the disks are not in the hands of a restart
+  -- no restart holds the disks
   abbrev pub IsSomewhere : Store D → Type 0
   IsSomewhere (Open journal) = Unit {0}
   IsSomewhere (Shut disks) = Unit {0}
@@ -57,7 +57,7 @@ module _ {D : Type 0} (state : D → State) where
   abbrev pub account_of : OfTexts D → Option Doubt → Bool → Account
   account_of rested doubt down = record { contents = shown (contents_of state rested); doubt = option_map pending_of doubt; down = down }
 
-  -- the disks where they are; while a restart has them in its hands nothing is shown of them
+  -- the disks wherever they are; while a restart holds them, nothing is shown of them
   abbrev pub device_of : Store D → Device
   device_of (Open journal) = device_on (state (first_disk journal)) (state (second_disk journal))
   device_of (Shut disks) = device_on (state disks.first) (state disks.second)
@@ -70,7 +70,7 @@ module _ {D : Type 0} (state : D → State) where
     pub contents : contents_of state journal ≡ Some account.contents
     pub doubt : account.doubt ≡ None
 
-  -- what is true of the disks of a ledger that is up, and of one that is down
+  -- what holds of the disks of a ledger that is up, and of one that is down
   abbrev pub Stands : Bool → Store D → Account → Type 0
   Stands false (Open journal) account = IsGoing journal account
   Stands false (Shut disks) account = ⊥

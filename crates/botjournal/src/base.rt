@@ -14,13 +14,13 @@ pub struct Base {
     pub version: u32,
     /// The userfile's records at that version: a userfile gives its users first, and then its bans.
     pub records: Seq<Record>,
-    /// The hub's last replies to each leaf that has any, by rising leaf: at most [`WINDOW`](crate::WINDOW) to each, the
-    /// oldest first, to requests with numbers one after the other. A leaf has none.
+    /// The hub's last replies to each leaf that has any, by rising leaf. There are at most [`WINDOW`](crate::WINDOW) to
+    /// each leaf, the oldest first, to requests with consecutive numbers. A leaf has none.
     pub replies: Seq<Reply>,
     /// The number of the leaf's last request. The hub has 0.
     pub last_request: u32,
-    /// The leaf's requests that are out, by rising number. The last number is at most 7 above that of the first, so
-    /// that they are at most [`WINDOW`](crate::WINDOW). The hub has none.
+    /// The leaf's outstanding requests, by rising number. The last number is at most 7 above that of the first, so
+    /// there are at most [`WINDOW`](crate::WINDOW). The hub has none.
     pub out: Seq<Request>,
 }
 

@@ -15,10 +15,10 @@ use bytetext::{Failure, NoMemory};
 use std::alloc::Global;
 use usercodec::{CodecError, CodecFault, Reader, put_u16, put_u32};
 
-/// The one spelling of a base.
+/// Returns the one spelling of `base`.
 ///
 /// # Errors
-/// `NoMemory` where room for it is refused.
+/// `NoMemory` if it cannot allocate room for it.
 pub fn write_base(alloc: Global, base: &Base) -> Result<Vec<u8>, NoMemory>
     requires { HasShapes base.now }
     ensures { IfOk result (λ bytes. bytes.items ≡ base_bytes base.now) }
@@ -40,32 +40,32 @@ fn put_base(out: &mut Vec<u8>, base: &Base) -> Result<(), NoMemory>
     put_requests(out, base.out.as_slice())
 }
 
-/// The base whose spelling these bytes are, all of them, where they are one's.
+/// Returns the base whose spelling is all of `bytes`, or `None` if they are no base's spelling.
 ///
 /// # Errors
-/// `NoMemory` where room for the base is refused: never where the bytes begin with one that holds no record, no reply
-/// and no request.
+/// `NoMemory` if it cannot allocate room for the base; never if the bytes begin with a base that holds no record, no
+/// reply and no request.
 pub fn read_base(alloc: Global, bytes: &[u8]) -> Result<Option<Base>, NoMemory>
     ensures exact { IfOk result (λ read. read ≡ base_in Third bytes.now) }
-    // What is read is spelled by the bytes.
+    // What it reads is spelled by the bytes.
     ensures spelled { IfOk result (λ read. IsBaseOf bytes.now read) }
-    // What is spelled is read.
+    // It reads whatever has a spelling.
     ensures only { (base : Base) → IsGoodBase base → bytes.now ≡ base_bytes base → FindsBase base result }
     ensures memory { IfErr result (λ _. IfOk (base_at Third bytes.now) (λ x. 0 < item_count x.0)) }
 {
     read_base_by(alloc, Layout::Third, bytes)
 }
 
-/// The base whose spelling in this layout these bytes are, all of them, where they are one's.
+/// Returns the base whose spelling in `layout` is all of `bytes`, or `None` if they are no base's spelling.
 pub(crate) fn read_base_by(
     alloc: Global,
     layout: Layout,
     bytes: &[u8],
 ) -> Result<Option<Base>, NoMemory>
     ensures exact { IfOk result (λ read. read ≡ base_in layout bytes.now) }
-    // What is read is spelled by the bytes.
+    // What it reads is spelled by the bytes.
     ensures spelled { IfOk result (λ read. IsBaseBy layout bytes.now read) }
-    // What is spelled is read.
+    // It reads whatever has a spelling.
     ensures only { (base : Base) → IsGoodBaseBy layout base → bytes.now ≡ base_bytes_by layout base → FindsBase base result }
     // What any layout spelled may be written.
     ensures good { IfOk result (λ read. IfSome read IsGoodBase) }
@@ -121,7 +121,7 @@ fn parts(alloc: Global, layout: Layout, reader: &mut Reader<'_>) -> Result<Base,
     })
 }
 
-// Whether what a base holds fits its bot: a leaf has no replies, and the hub no request.
+// Whether the content of a base fits its bot: a leaf has no replies, and the hub no request.
 fn is_of_its_bot(base: &Base) -> bool
     ensures { result ≡ is_of_its_bot base.now }
 {

@@ -18,10 +18,10 @@ use std::alloc::Global;
 use usercodec::{CodecError, CodecFault, Reader, byte_of_fault, put_change, put_u16, put_u32};
 use userfile::Change;
 
-/// The one spelling of an entry.
+/// Returns the one spelling of `entry`.
 ///
 /// # Errors
-/// `NoMemory` where room for it is refused.
+/// `NoMemory` if it cannot allocate room for it.
 pub fn write_entry(alloc: Global, entry: &Entry) -> Result<Vec<u8>, NoMemory>
     requires { HasShape entry.now }
     ensures { IfOk result (λ bytes. bytes.items ≡ entry_bytes entry.now) }
@@ -81,32 +81,32 @@ fn put_numbered(out: &mut Vec<u8>, tag: u8, n: u32, change: &Change) -> Result<(
     put_change(out, change)
 }
 
-/// The entry whose spelling these bytes are, all of them, where they are one's.
+/// Returns the entry whose spelling is all of `bytes`, or `None` if they are no entry's spelling.
 ///
 /// # Errors
-/// `NoMemory` where room for the entry's change is refused: never where the bytes begin with no entry, or with one that
-/// has none.
+/// `NoMemory` if it cannot allocate room for the entry's change; never if the bytes begin with no entry, or with one
+/// that has no change.
 pub fn read_entry(alloc: Global, bytes: &[u8]) -> Result<Option<Entry>, NoMemory>
     ensures exact { IfOk result (λ read. read ≡ entry_in Third bytes.now) }
-    // What is read is spelled by the bytes.
+    // What it reads is spelled by the bytes.
     ensures spelled { IfOk result (λ read. IsEntryOf Third bytes.now read) }
-    // What is spelled is read.
+    // It reads whatever has a spelling.
     ensures only { (entry : Entry) → IsGoodEntry entry → bytes.now ≡ entry_bytes entry → FindsEntry entry result }
     ensures memory { IfErr result (λ _. TakesMemory (entry_at Third bytes.now)) }
 {
     read_entry_by(alloc, Layout::Third, bytes)
 }
 
-/// The entry whose spelling in this layout these bytes are, all of them, where they are one's.
+/// Returns the entry whose spelling in `layout` is all of `bytes`, or `None` if they are no entry's spelling.
 pub(crate) fn read_entry_by(
     alloc: Global,
     layout: Layout,
     bytes: &[u8],
 ) -> Result<Option<Entry>, NoMemory>
     ensures exact { IfOk result (λ read. read ≡ entry_in layout bytes.now) }
-    // What is read is spelled by the bytes.
+    // What it reads is spelled by the bytes.
     ensures spelled { IfOk result (λ read. IsEntryOf layout bytes.now read) }
-    // What is spelled is read.
+    // It reads whatever has a spelling.
     ensures only { (entry : Entry) → IsGoodEntryBy layout entry → bytes.now ≡ entry_bytes entry → FindsEntry entry result }
     // What any layout spelled may be written.
     ensures good { IfOk result (λ read. IfSome read IsGoodEntry) }

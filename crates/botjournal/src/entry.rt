@@ -6,7 +6,7 @@ use userfile::{Change, ChangeFault};
 /// One entry of a bot's journal. Bot 0 is the hub, and leaves are numbered from 1.
 #[derive(Debug)]
 pub enum Entry {
-    /// The hub took a change, which makes its next version.
+    /// The hub accepted a change, which makes its next version.
     Accepted {
         /// The bot that asked for it: 0 for the hub.
         origin: u16,
@@ -15,32 +15,32 @@ pub enum Entry {
         /// The change itself.
         change: Change,
     },
-    /// The hub refused a leaf's request.
+    /// The hub rejected a leaf's request.
     Settled {
         /// The leaf's number.
         leaf: u16,
-        /// The leaf's number of its request.
+        /// The leaf's number for the request.
         request: u32,
         /// Why the userfile refused the change.
         fault: ChangeFault,
     },
-    /// A leaf made a change that the hub told.
+    /// A leaf applied a change that the hub sent.
     Applied {
         /// The change's number, from 1.
         number: u32,
         /// The change itself.
         change: Change,
     },
-    /// A leaf's request goes out.
+    /// A leaf sends a request.
     ReqOut {
-        /// The leaf's number of the request.
+        /// The leaf's number for the request.
         request: u32,
         /// The change that it asks for.
         change: Change,
     },
-    /// A leaf's request that was out got its reply.
+    /// A leaf's outstanding request got its reply.
     ReqDone {
-        /// The leaf's number of the request.
+        /// The leaf's number for the request.
         request: u32,
     },
 }

@@ -1,11 +1,11 @@
-// What a ledger's calls answer.
+// What a ledger's calls return.
 use crate::base::Base;
 use crate::entry::Entry;
 use bytetext::{Failure, Seq};
 use storage::DiskFault;
 use thiserror::Error;
 
-/// What stood on a ledger's disks when it was opened.
+/// What a ledger's disks held when it was opened.
 #[derive(Drop)]
 pub struct Found {
     /// The base that counts.
@@ -14,19 +14,19 @@ pub struct Found {
     pub entries: Seq<Entry>,
 }
 
-/// Why a ledger's append or restart is refused. `NoMemory` says of an append that nothing was written.
+/// Why a ledger rejects an append or a restart. From an append, `NoMemory` means that nothing was written.
 pub type LedgerError = Failure<DiskFault>;
 
-/// Why another base isn't put in place.
+/// Why a base isn't replaced.
 #[derive(Clone, Copy, Debug, PartialEq, Eq, Error)]
 pub enum RebaseFault {
     /// The generations are used up: nothing was written.
     #[error("make the journal anew on empty disks: its generations are used up")]
     GenerationsSpent,
-    /// A disk failed in this call. The base counts or doesn't: a restart tells.
+    /// A disk failed in this call. The new base may count or not: a restart shows which.
     #[error("restart: a disk failed, and what was written counts or not")]
     DiskFault,
 }
 
-/// Why a ledger's rebase is refused. `NoMemory` says that nothing was written.
+/// Why a ledger rejects a rebase. `NoMemory` means that nothing was written.
 pub type RebaseError = Failure<RebaseFault>;

@@ -41,11 +41,12 @@ impl<D: Disk> Model for Journal<D> {
 }
 
 impl<D: Disk> Journal<D> {
-    /// Appends an entry to a journal of the layout `LAYOUT`. At `Ok` it is acknowledged: from then on each crash leaves it.
+    /// Appends `entry` to a journal of the layout `LAYOUT`. At `Ok` the entry is acknowledged: from then on each crash
+    /// leaves it.
     ///
     /// # Errors
-    /// `Spent` where a disk failed before. `NoMemory` where room is refused: nothing was written. `DiskFault` where a
-    /// disk failed in this call: the entry counts or doesn't, and the journal is spent.
+    /// `Spent` if a disk failed before. `NoMemory` if it cannot allocate room: nothing was written. `DiskFault` if a
+    /// disk failed in this call: the entry may count or not, and the journal is spent.
     pub fn append(&mut self, alloc: Global, entry: &Entry) -> Result<(), JournalError>
         requires sound { IsSound D.state self.old }
         requires current { self.old.layout ≡ LAYOUT }
@@ -81,13 +82,13 @@ impl<D: Disk> Journal<D> {
         }
     }
 
-    /// Puts a base in the place of the base and its entries, in the layout `LAYOUT` and the next generation. At `Ok` it is
+    /// Replaces the base and its entries by `base`, in the layout `LAYOUT` and the next generation. At `Ok` the base is
     /// acknowledged.
     ///
     /// # Errors
-    /// `Spent` where a disk failed before. `GenerationsSpent` where the generations are used up. `NoMemory` where room
-    /// is refused: nothing was written. `DiskFault` where a disk failed in this call: the old base and entries count,
-    /// or the new base alone, and the journal is spent.
+    /// `Spent` if a disk failed before. `GenerationsSpent` if the generations are used up. `NoMemory` if it cannot
+    /// allocate room: nothing was written. `DiskFault` if a disk failed in this call: either the old base and entries
+    /// count, or the new base alone, and the journal is spent.
     pub fn rebase(&mut self, alloc: Global, base: &Base) -> Result<(), JournalError>
         requires sound { IsSound D.state self.old }
         requires good { IsGoodBase base.now }
@@ -126,24 +127,24 @@ impl<D: Disk> Journal<D> {
         }
     }
 
-    /// Whether the active disk's generation is the last one, so that `rebase` would be refused for it. After a fault
-    /// nothing is said of the answer.
+    /// Whether the active disk's generation is the last one, so that `rebase` would return `GenerationsSpent`. After a
+    /// fault the result says nothing.
     pub fn generations_spent(&self) -> bool
         ensures { IsTrue result ↔ (self.now.generation ≡ 2 ^ 32 - 1) }
     {
         self.texts.generations_spent()
     }
 
-    /// The active disk's generation: 1 in a new journal, and one more with each base that is put in place. After a fault
-    /// nothing is said of the answer.
+    /// Returns the active disk's generation: 1 in a new journal, and one more with each `rebase`. After a fault the
+    /// result says nothing.
     pub fn generation(&self) -> u32
         ensures { result ≡ self.now.generation }
     {
         self.texts.generation()
     }
 
-    /// The active disk's layout: `LAYOUT` in a new journal, and from the first base on that is put in place. After a fault
-    /// nothing is said of the answer.
+    /// Returns the active disk's layout: `LAYOUT` in a new journal, and after the first `rebase`. After a fault the
+    /// result says nothing.
     pub fn layout(&self) -> u8
         ensures { result ≡ self.now.layout }
     {

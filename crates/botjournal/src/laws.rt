@@ -1,4 +1,4 @@
-// What spellings promise to whoever stores them, and the calls of a journal together, proved of the definitions.
+// What spellings promise to those who store them, and the calls of a journal together, proved of the definitions.
 ghost use Rattle.std.specs.Prelude.{◌≡◌, Some, Result, Ok};
 ghost use Rattle.bytejournal.specs.declared.journal.Journal.{Journal as OfTexts};
 ghost use Rattle.bytejournal.specs.declared.opening.Returned.{Returned};
@@ -17,34 +17,35 @@ ghost use Rattle.botjournal.specs.Recovery.{Calls, IsJournal, FindsJournal};
 
 use storage::Disk;
 
-/// The law of the spellings of entries. It does nothing: what it ensures holds of any entries.
+/// The law of the spellings of entries. The function does nothing: its clauses hold for any entries.
 pub fn laws_of_entries()
-    // Each entry is what its spelling reads as, so no two entries have one spelling.
+    // Reading an entry's spelling gives that entry, so no two entries share a spelling.
     ensures again { (entry : Entry) → IsGoodEntry entry → entry_in Third (entry_bytes entry) ≡ Some entry }
-    // So it is in each layout that is read, and what that spelled may be written.
+    // The same holds in each layout that is read, and what it spelled may be written.
     ensures again_old { (layout : Layout) (entry : Entry) → IsGoodEntryBy layout entry
         → entry_in layout (entry_bytes entry) ≡ Some entry }
     ensures writable { (layout : Layout) (entry : Entry) → IsGoodEntryBy layout entry → IsGoodEntry entry }
 {}
 
-/// The law of the spellings of bases. It does nothing: what it ensures holds of any bases.
+/// The law of the spellings of bases. The function does nothing: its clauses hold for any bases.
 pub fn laws_of_bases()
-    // Each base is what its spelling reads as, so no two bases have one spelling.
+    // Reading a base's spelling gives that base, so no two bases share a spelling.
     ensures again { (base : Base) → IsGoodBase base → base_in Third (base_bytes base) ≡ Some base }
-    // So it is in each layout that is read, and what that spelled may be written.
+    // The same holds in each layout that is read, and what it spelled may be written.
     ensures again_old { (layout : Layout) (base : Base) → IsGoodBaseBy layout base
         → base_in layout (base_bytes_by layout base) ≡ Some base }
     ensures writable { (layout : Layout) (base : Base) → IsGoodBaseBy layout base → IsGoodBase base }
 {}
 
-/// The laws of a bot's journal that only this library writes. It does nothing: what it ensures holds of any disks.
+/// The laws of a bot's journal that only this library writes. The function does nothing: its clauses hold for any
+/// disks.
 pub fn laws_of_journals<D: Disk>()
-    // From a `create` that was `Ok`, through any calls and through crashes at any moment of them: a journal that a
-    // program holds may be called, and what a crash leaves on the disks means a base and entries.
+    // After a `create` that returned `Ok`, through any calls and through crashes at any moment of them: a journal that
+    // a program holds may be called, and what a crash leaves on the disks means a base and entries.
     ensures kept { (first second : D) (base : Base) (journal : OfTexts D) (last : Stage D)
         → Creates D.state first second base (Ok journal)
         → Lives D.state (Calls D.state) (InProgram journal) last → IsIntact D.state (IsSound D.state) IsJournal last }
-    // So opening it never ends with `NotAJournal`, and finds all gates.
+    // So opening it never returns `NotAJournal`, and finds all gates.
     ensures opened { (first second : D) (result : Result (Opened D) (Returned D))
         → IsRecoverable D.state IsJournal first second → Opens D.state first second result → FindsJournal result }
     ensures restarted { (journal : OfTexts D) (result : Result (Opened D) (Returned D))

@@ -12,15 +12,15 @@ use userfile::Change;
 /// A layout that is read.
 #[derive(Clone, Copy)]
 pub(crate) enum Layout {
-    /// The layout 1, which had no info texts and no sticky bans. Nothing is written in it any more.
+    /// The layout 1, which had no info texts and no sticky bans. It is no longer written.
     First,
-    /// The layout 2, which had one request out and one reply to a leaf. Nothing is written in it any more.
+    /// The layout 2, which had one outstanding request and one reply to a leaf. It is no longer written.
     Second,
     /// The layout that is written.
     Third,
 }
 
-/// The layout of this number, where it is one that is read.
+/// Returns the layout of this `number`, if it is one that is read.
 pub(crate) fn layout_of(number: u8) -> Option<Layout>
     ensures { result ≡ layout_of number }
 {

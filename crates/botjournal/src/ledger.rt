@@ -1,4 +1,4 @@
-// A bot's journal that outlives a fault of its disks.
+// A bot's journal that survives a fault of its disks.
 ghost use Rattle.std.specs.Prelude.{◌≡◌, ◌↔◌, ◌-◌, ◌^◌, IsTrue, IfOk, Some, false};
 ghost use Rattle.storage.specs.State.{IsSettled};
 ghost use Rattle.botjournal.specs.Bases.{IsGoodBase};
@@ -60,11 +60,12 @@ impl<D: Disk> Model for Ledger<D> {
 }
 
 impl<D: Disk> Ledger<D> {
-    /// Makes a ledger with this base and no entry, in generation 1 and the layout `LAYOUT`. What the disks held is lost.
+    /// Creates a ledger on the disks `first` and `second` with the base `base` and no entry, in generation 1 and the
+    /// layout `LAYOUT`. What the disks held is lost.
     ///
     /// # Errors
-    /// With the disks: `NoMemory` where room is refused: nothing was written. `DiskFault` where a disk failed: what the
-    /// disks hold is then unknown.
+    /// Each hands the disks back. `NoMemory` if it cannot allocate room: nothing was written. `DiskFault` if a disk
+    /// failed: what the disks hold is then unknown.
     pub fn create(alloc: Global, first: D, second: D, base: &Base) -> Result<Ledger<D>, Returned<D>>
         requires first_settled { IsSettled (D.state first) }
         requires second_settled { IsSettled (D.state second) }
@@ -77,22 +78,22 @@ impl<D: Disk> Ledger<D> {
         }
     }
 
-    /// Opens the ledger on two disks, each read by its own layout. Nothing is written: what was found in an older layout
-    /// stays so until `rebase`.
+    /// Opens the ledger on the disks `first` and `second`, each read by its own layout. Writes nothing: what it found
+    /// in an older layout stays so until `rebase`.
     ///
     /// # Errors
-    /// With the disks as they were: `DiskFault` where a read failed; `NotAJournal` where the disks don't hold a journal,
-    /// or one of its gates is missing, which no disk lacks that `create` made; `NoMemory` where room for what they hold
-    /// is refused: never where neither holds a byte.
+    /// Each hands the disks back as they were. `DiskFault` if a read failed. `NotAJournal` if the disks don't hold a
+    /// journal, or one of its gates is missing, which no disk lacks that `create` made. `NoMemory` if it cannot
+    /// allocate room for what they hold; never if neither holds a byte.
     pub fn open(alloc: Global, first: D, second: D) -> Result<(Ledger<D>, Found), Returned<D>>
         requires first_settled { IsSettled (D.state first) }
         requires second_settled { IsSettled (D.state second) }
         ensures row { Opens D.state first second result }
         // Nothing happened to the disks.
         ensures still { IfOk result (λ opened. AreStill (D.state first) (D.state second) opened.0.device) }
-        // Their failures so far count on.
+        // Their earlier failures still count.
         ensures no_fewer { IfOk result (λ opened. NoFewer (D.state first) (D.state second) opened.0.device) }
-        // What it holds may be appended and put in place again.
+        // What it holds may be written again, as entries and as a base.
         ensures good { IfOk result (λ opened. IsGoodFound opened.1) }
     {
         match Journal::open(alloc, first, second) {
@@ -127,11 +128,12 @@ impl<D: Disk> Ledger<D> {
         }
     }
 
-    /// Appends an entry to a ledger of the layout `LAYOUT`. At `Ok` it is kept: from then on each crash leaves it.
+    /// Appends `entry` to a ledger of the layout `LAYOUT`. At `Ok` the entry is kept: from then on each crash leaves
+    /// it.
     ///
     /// # Errors
-    /// `NoMemory` where room is refused: nothing was written. `DiskFault` where a disk failed in this call: the ledger is
-    /// down, and the entry in doubt until a restart tells.
+    /// `NoMemory` if it cannot allocate room: nothing was written. `DiskFault` if a disk failed in this call: the
+    /// ledger is down, and the entry is in doubt until a restart shows whether it counts.
     pub fn append(&mut self, alloc: Global, entry: &Entry) -> Result<(), LedgerError>
         requires up { self.old.account.down ≡ false }
         requires current { self.old.account.contents.layout ≡ LAYOUT }
@@ -157,13 +159,13 @@ impl<D: Disk> Ledger<D> {
         }
     }
 
-    /// Puts a base in the place of the base and its entries, in the layout `LAYOUT` and the next generation. At `Ok` it is
+    /// Replaces the base and its entries by `base`, in the layout `LAYOUT` and the next generation. At `Ok` the base is
     /// kept.
     ///
     /// # Errors
-    /// `GenerationsSpent` where the generations are used up: nothing was written. `NoMemory` where room is refused:
-    /// nothing was written. `DiskFault` where a disk failed in this call: the ledger is down, and the base in doubt until
-    /// a restart tells.
+    /// `GenerationsSpent` if the generations are used up: nothing was written. `NoMemory` if it cannot allocate room:
+    /// nothing was written. `DiskFault` if a disk failed in this call: the ledger is down, and the base is in doubt
+    /// until a restart shows whether it counts.
     pub fn rebase(&mut self, alloc: Global, base: &Base) -> Result<(), RebaseError>
         requires up { self.old.account.down ≡ false }
         requires good { IsGoodBase base.now }
@@ -191,8 +193,8 @@ impl<D: Disk> Ledger<D> {
         }
     }
 
-    /// Whether the generation is the last one, so that `rebase` would be refused for it. Where the ledger is down
-    /// nothing is said of the answer.
+    /// Whether the generation is the last one, so that `rebase` would return `GenerationsSpent`. While the ledger is
+    /// down the result says nothing.
     pub fn generations_spent(&self) -> bool
         ensures { self.now.account.down ≡ false → IsTrue result ↔ (self.now.account.contents.generation ≡ 2 ^ 32 - 1) }
     {
@@ -202,8 +204,8 @@ impl<D: Disk> Ledger<D> {
         }
     }
 
-    /// The journal's generation: 1 at first, and one more with each base that is put in place. Where the ledger is down
-    /// nothing is said of the answer.
+    /// Returns the journal's generation: 1 at first, and one more with each `rebase`. While the ledger is down the
+    /// result says nothing.
     pub fn generation(&self) -> u32
         ensures { self.now.account.down ≡ false → result ≡ self.now.account.contents.generation }
     {
@@ -213,8 +215,8 @@ impl<D: Disk> Ledger<D> {
         }
     }
 
-    /// The journal's layout: `LAYOUT`, or an older one that was found and not yet rewritten by `rebase`. Where the ledger
-    /// is down nothing is said of the answer.
+    /// Returns the journal's layout: `LAYOUT`, or an older one that was found and that no `rebase` has replaced yet.
+    /// While the ledger is down the result says nothing.
     pub fn layout(&self) -> u8
         ensures { self.now.account.down ≡ false → result ≡ self.now.account.contents.layout }
     {
@@ -224,20 +226,20 @@ impl<D: Disk> Ledger<D> {
         }
     }
 
-    /// Crashes both disks, as where the program that used them ended, and opens what that left. A ledger that is down is
-    /// up again at `Ok`, and nothing is in doubt any more.
+    /// Crashes both disks, as if the program that used them had ended, and opens what the crash left. At `Ok` a ledger
+    /// that was down is up again, and nothing is in doubt any more.
     ///
     /// # Errors
-    /// `DiskFault` where a read failed, `NoMemory` where room for what the disks hold is refused. The ledger is down, and
-    /// what was in doubt still is.
+    /// `DiskFault` if a read failed, `NoMemory` if it cannot allocate room for what the disks hold. The ledger is down,
+    /// and what was in doubt still is.
     pub fn restart(&mut self, alloc: Global) -> Result<Found, LedgerError>
         ensures row { Restarts self.old result self.new }
-        // Both disks are opened again, whatever is answered.
+        // Both disks are reopened, whatever the result.
         ensures reopened { Reopens self.old.device self.new.device }
         // Whatever a crash at any moment of the call leaves means what is kept, or that with what is in doubt.
         ensures any_moment { AtEachMoment self.old.device self.new.device
             (IsEither (Some self.old.account.contents) (Some (counted self.old.account))) }
-        // What it holds may be appended and put in place again.
+        // What it holds may be written again, as entries and as a base.
         ensures good { IfOk result IsGoodFound }
     {
         let disks = mem::replace(&mut self.store, Store::InHand).into_disks();
@@ -260,7 +262,7 @@ impl<D: Disk> Ledger<D> {
         }
     }
 
-    /// The two disks, in the order in which they were given.
+    /// Returns the two disks, in the order in which they were given.
     pub fn into_disks(self) -> Disks<D>
         // A crash leaves on them what is kept, or that with what is in doubt.
         ensures left { Leaves (D.state result.first) (D.state result.second) self.account }
@@ -276,7 +278,7 @@ impl<D: Disk> Ledger<D> {
         store.into_disks()
     }
 
-    /// Says what a crash leaves at this moment, between two calls. It does nothing.
+    /// States what a crash leaves at this moment, between two calls. It does nothing.
     pub fn know_disks(&self)
         // What is kept, or that with what is in doubt.
         ensures left { Leaves self.now.device.first self.now.device.second self.now.account }
@@ -284,7 +286,7 @@ impl<D: Disk> Ledger<D> {
         let _down = self.down;
     }
 
-    /// Whether nothing is taken but a restart.
+    /// Whether the ledger takes nothing but a restart.
     pub fn is_down(&self) -> bool
         ensures { result ≡ self.now.account.down }
     {
@@ -292,7 +294,7 @@ impl<D: Disk> Ledger<D> {
     }
 }
 
-// Crashes both disks, and opens the journal on what that left.
+// Crashes both disks, and opens the journal on what the crash left.
 fn open_again<D: Disk>(alloc: Global, disks: Disks<D>) -> Result<Opened<D>, Returned<D>>
     ensures row { OpensAgain D.state disks.first disks.second result }
     ensures good { IfOk result IsGoodOpened }

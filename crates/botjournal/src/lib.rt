@@ -1,9 +1,9 @@
 //! The journal of a bot: its base and entries as values, over the journal of byte texts on two disks.
 //!
 //! A [`Base`] is a bot's state at a version: the userfile's records, and what is kept of requests. An [`Entry`] is what
-//! happened since. Each has one spelling as bytes ([`write_base`], [`write_entry`]); the readers take that spelling and
-//! nothing else. A [`Journal`] keeps them on two disks, and holds at any crash the entries before a call, or with the
-//! one in hand.
+//! happened since. Each has one spelling as bytes ([`write_base`], [`write_entry`]); the readers accept that spelling
+//! and nothing else. A [`Journal`] keeps them on two disks. After any crash it holds the entries from before a call, or
+//! those and the one being written.
 //!
 //! ```text
 //! let mut journal = Journal::create(alloc, first, second, &base)?;
@@ -13,18 +13,19 @@
 //! if opened.whole { /* opened.base, opened.entries, and opened.journal to go on with */ }
 //! ```
 //!
-//! Each disk says in which layout its texts are spelled. [`LAYOUT`] is written; the two layouts before it are read too, and
-//! their journals take no entry until another base is put in place, which is written in the new layout. Whatever an older
-//! layout spelled may be written in the new one.
+//! Each disk names the layout in which its texts are spelled. [`LAYOUT`] is written. The two layouts before it are read
+//! too, but their journals take no entry until `rebase` writes another base in the new layout. Whatever an older layout
+//! spelled may be written in the new one.
 //!
-//! `NotAJournal` comes from disks that hold no journal of texts, and where a disk whose gate is open has a layout that
-//! isn't read, or a base or an entry that is the spelling of none, on the disk that counts or on the other one. It never comes from disks that `create` made and only
-//! this journal wrote, whatever crashes came: [`laws_of_journals`] says so of any number of calls. After a disk's fault
-//! the journal is spent: what was being written counts or doesn't, and opening it again tells.
+//! `NotAJournal` comes from disks that hold no journal of texts. It also comes when the disk that counts, or the other
+//! one if its gate is open, has a layout that isn't read, or holds a text that spells no base or entry. It never comes
+//! from disks that `create` made and only this journal wrote, whatever crashes came: [`laws_of_journals`] states this
+//! for any number of calls. After a disk's fault the journal is spent: what was being written may count or not, and
+//! opening the journal again shows which.
 //!
-//! A [`Ledger`] is a journal that stays with its owner through such faults. It has the disks in its hands at all times, in
-//! a journal or, where a restart could not open one, without; and what contracts see of it is plain: what is kept, what is
-//! in doubt, whether it is down, and how often its disks have failed.
+//! A [`Ledger`] is a journal that stays with its owner through such faults. It holds the disks at all times: in a
+//! journal, or without one if a restart could not open it. Contracts see of it what is kept, what is in doubt, whether
+//! it is down, and how often its disks have failed.
 //!
 //! ```text
 //! let mut ledger = Ledger::create(alloc, first, second, &base)?;
@@ -62,10 +63,10 @@ pub use crate::opening::Opened;
 pub use crate::reply::{Answer, Reply};
 pub use crate::request::Request;
 
-/// The layout in which a journal is written: the byte after the letters on its disks. Layout 2, whose bases have at most one
-/// request out and one reply to each leaf, is read too, and so is layout 1, which has no info texts and no sticky bans
-/// either. Nothing is appended to a journal that has one of these.
+/// The layout in which a journal is written: the byte after the letters on its disks. Two older layouts are read too:
+/// layout 2, whose bases have at most one outstanding request and one reply to each leaf, and layout 1, which also has
+/// no info texts and no sticky bans. Nothing is appended to a journal in an older layout.
 pub const LAYOUT: u8 = 3;
 
-/// How many requests of a leaf are out at most, and how many replies to a leaf are kept.
+/// How many outstanding requests a leaf has at most, and how many replies to a leaf are kept.
 pub const WINDOW: usize = 8;

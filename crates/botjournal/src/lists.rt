@@ -192,7 +192,7 @@ fn are_kept(replies: &[Reply]) -> bool
     }
 }
 
-// Whether these replies may follow the first one to its leaf.
+// Whether `replies` may follow `first`, the first one to its leaf.
 fn may_follow(first: Reply, replies: &[Reply]) -> bool
     ensures { result ≡ may_follow first 1 replies.now }
 {

@@ -1,4 +1,4 @@
-// How a journal is made, opened and taken apart.
+// How a journal is created, opened and taken apart.
 ghost use Rattle.std.specs.Prelude.{◌≡◌, IfOk, IfSome, Some, false};
 ghost use Rattle.std.specs.List.{AllByRecursion};
 ghost use Rattle.storage.specs.State.{IsSettled};
@@ -30,17 +30,18 @@ pub struct Opened<D: Disk> {
     pub base: Base,
     /// The entries appended since, the oldest first.
     pub entries: Seq<Entry>,
-    /// Whether all gates are there, as on disks that `create` made and only this journal wrote. Where one is missing
-    /// the journal can be read; nothing can be appended safely, since a byte past a disk's end may come back as 1.
+    /// Whether all gates exist, as on disks that `create` made and only this journal wrote. If one is missing, the
+    /// journal can be read, but nothing can be appended safely, since a byte past a disk's end may come back as 1.
     pub whole: bool,
 }
 
 impl<D: Disk> Journal<D> {
-    /// Makes a journal with this base and no entry, in generation 1 and the layout `LAYOUT`. What the disks held is lost.
+    /// Creates a journal on the disks `first` and `second` with the base `base` and no entry, in generation 1 and the
+    /// layout `LAYOUT`. What the disks held is lost.
     ///
     /// # Errors
-    /// With the disks: `NoMemory` where room is refused: nothing was written. `DiskFault` where a disk failed: what the
-    /// disks hold is then unknown.
+    /// Each hands the disks back. `NoMemory` if it cannot allocate room: nothing was written. `DiskFault` if a disk
+    /// failed: what the disks hold is then unknown.
     pub fn create(
         alloc: Global,
         first: D,
@@ -70,20 +71,20 @@ impl<D: Disk> Journal<D> {
         }
     }
 
-    /// Opens the journal on two disks, each read by its own layout. Nothing is written.
+    /// Opens the journal on the disks `first` and `second`, each read by its own layout. Writes nothing.
     ///
     /// # Errors
-    /// With the disks as they were: `DiskFault` where a read failed; `NotAJournal` where the disks don't hold a
-    /// journal, or what follows an open gate, on whichever disk, has a layout that isn't read, or a base or an entry that
-    /// is none; `NoMemory` where room for what they hold is refused: never where neither holds a byte.
+    /// Each hands the disks back as they were. `DiskFault` if a read failed. `NotAJournal` if the disks don't hold a
+    /// journal, or if what follows an open gate, on whichever disk, has a layout that isn't read, or a text that is no
+    /// base or no entry. `NoMemory` if it cannot allocate room for what they hold; never if neither holds a byte.
     pub fn open(alloc: Global, first: D, second: D) -> Result<Opened<D>, Returned<D>>
         requires first_settled { IsSettled (D.state first) }
         requires second_settled { IsSettled (D.state second) }
         ensures row { Opens D.state first second result }
-        // Disks that mean a journal are never told to hold none.
+        // The result is never that disks hold no journal when they mean one.
         ensures never_refused { (contents : Contents)
             → meaning (D.state first).seen (D.state second).seen ≡ Some contents → IsNotRefused result }
-        // What it holds may be appended and put in place again.
+        // What it holds may be written again, as entries and as a base.
         ensures good { IfOk result IsGoodOpened }
     {
         match bytejournal::Journal::open(alloc, first, second) {
@@ -92,10 +93,10 @@ impl<D: Disk> Journal<D> {
         }
     }
 
-    /// Crashes both disks, as where the program that used them ended, and opens the journal on what that left.
+    /// Crashes both disks, as if the program that used them had ended, and opens the journal on what the crash left.
     ///
     /// # Errors
-    /// As of `open`.
+    /// As for `open`.
     pub fn restart(self, alloc: Global) -> Result<Opened<D>, Returned<D>>
         ensures row { Restarts D.state self result }
         ensures good { IfOk result IsGoodOpened }
@@ -106,7 +107,7 @@ impl<D: Disk> Journal<D> {
         }
     }
 
-    /// The two disks, in the order in which they were given.
+    /// Returns the two disks, in the order in which they were given.
     pub fn into_disks(self) -> Disks<D>
         ensures first { result.first ≡ first_disk self }
         ensures second { result.second ≡ second_disk self }
@@ -115,7 +116,7 @@ impl<D: Disk> Journal<D> {
     }
 }
 
-// The journal whose base and entries these texts spell.
+// Reads the journal whose base and entries these texts spell.
 fn read_texts<D: Disk>(
     alloc: Global,
     texts: bytejournal::Opened<D>,
@@ -153,7 +154,7 @@ fn read_texts<D: Disk>(
     })
 }
 
-// Whether the texts of the disk that doesn't count spell a base and entries, where its gate is open.
+// Whether the texts of the disk that doesn't count spell a base and entries, if its gate is open.
 fn is_spelled(alloc: Global, older: &Option<Older>) -> Result<bool, NoMemory>
     ensures { IfOk result (λ spelled. spelled ≡ is_spelled older.now) }
 {
@@ -171,7 +172,7 @@ fn is_spelled(alloc: Global, older: &Option<Older>) -> Result<bool, NoMemory>
     Ok(entries.is_some())
 }
 
-// The entries whose spellings in a layout these texts are.
+// Reads the entries that these texts spell in a layout.
 fn read_entries(
     alloc: Global,
     layout: Layout,
@@ -193,7 +194,7 @@ fn read_entries(
 ghost use Rattle.bytetext.specs.declared.failure.Failure.TheVariants.{NoMemory as want_of_memory};
 ghost use Rattle.bytejournal.specs.declared.fault.JournalFault.TheVariants.{NotAJournal as no_journal};
 
-// The disks of a journal whose texts are not a bot's.
+// Hands back the disks of a journal whose texts are not a bot's.
 fn not_a_journal<D: Disk>(texts: bytejournal::Journal<D>) -> Returned<D>
     ensures error { result.error ≡ Refused no_journal }
     ensures first { result.disks.first ≡ first_disk texts }
@@ -205,7 +206,7 @@ fn not_a_journal<D: Disk>(texts: bytejournal::Journal<D>) -> Returned<D>
     }
 }
 
-// The disks of a journal for whose contents there is no room.
+// Hands back the disks of a journal when its contents can't be allocated.
 fn no_memory<D: Disk>(texts: bytejournal::Journal<D>) -> Returned<D>
     ensures error { result.error ≡ want_of_memory }
     ensures first { result.disks.first ≡ first_disk texts }

@@ -6,9 +6,9 @@ use userfile::ChangeFault;
 /// What became of a leaf's request.
 #[derive(Clone, Copy, Debug)]
 pub enum Answer {
-    /// The change was taken, and has this number.
+    /// The hub accepted the change, which has this number.
     Taken(u32),
-    /// The userfile refused the change.
+    /// The userfile rejected the change.
     Refused(ChangeFault),
 }
 
@@ -17,13 +17,13 @@ pub enum Answer {
 pub struct Reply {
     /// The leaf's number, from 1.
     pub leaf: u16,
-    /// The leaf's number of its request.
+    /// The leaf's number for its request.
     pub request: u32,
     /// What became of it.
     pub answer: Answer,
 }
 
-// What stands in the places that are not in use of a list with a fixed room.
+// What the unused places of a fixed-size list hold.
 impl Default for Reply {
     fn default() -> Reply {
         Reply {

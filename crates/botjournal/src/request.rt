@@ -1,12 +1,12 @@
-// A leaf's request that is out.
+// A leaf's outstanding request.
 use bytetext::{NoMemory, TryCopy};
 use std::alloc::Global;
 use userfile::Change;
 
-/// A leaf's request whose reply hasn't come.
+/// A leaf's request that has no reply yet.
 #[derive(Debug)]
 pub struct Request {
-    /// The leaf's number of the request.
+    /// The leaf's number for the request.
     pub number: u32,
     /// The change that it asks for.
     pub change: Change,

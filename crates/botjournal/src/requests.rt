@@ -1,4 +1,4 @@
-// The requests that are out, as bytes: in the layout that is written, and the one change of an older layout.
+// The outstanding requests as bytes: in the layout that is written, and the one change of an older layout.
 ghost use Rattle.std.specs.Prelude.{◌≡◌, ◌<◌, ◌≤◌, ◌++◌, [], IfOk, IfErr, IsSome, OnOk, length};
 ghost use Rattle.std.specs.List.{AllByRecursion, list_all};
 ghost use Rattle.usercodec.specs.Answers.{Finds};
@@ -42,7 +42,7 @@ fn put_request(out: &mut Vec<u8>, request: &Request) -> Result<(), NoMemory>
 
 // ---- read
 
-// The number of the last request, and the requests that are out.
+// Reads the number of the last request, and the outstanding requests.
 pub(crate) fn out(
     alloc: Global,
     layout: Layout,
@@ -108,7 +108,7 @@ fn request(alloc: Global, reader: &mut Reader<'_>) -> Result<Request, CodecError
     Ok(Request { number, change })
 }
 
-// Whether these requests may be out where the last one had this number.
+// Whether these requests may be outstanding when the last request has the number `last`.
 fn are_out(last: u32, requests: &[Request]) -> bool
     ensures { result ≡ are_out last requests.now }
 {
@@ -134,7 +134,7 @@ fn are_near(last: u32, requests: &[Request]) -> bool
     requests.iter().all(|request| is_near(last, request))
 }
 
-// Whether the last number is the request's, or at most 7 above it.
+// Whether `last` is the request's number, or at most 7 above it.
 fn is_near(last: u32, request: &Request) -> bool
     ensures { result ≡ is_near last request.now }
 {
@@ -156,7 +156,7 @@ fn one_out(
     Ok((last, numbered(alloc, last, change)?))
 }
 
-// The request of this number, where a change is out.
+// Returns the request of the number `last`, if a change is outstanding.
 fn numbered(alloc: Global, last: u32, change: Option<Change>) -> Result<Seq<Request>, NoMemory>
     ensures out { IfOk result (λ out. out ≡ one_out last change) }
     ensures memory { IfErr result (λ _. IsSome change) }

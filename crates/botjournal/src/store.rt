@@ -14,7 +14,7 @@ pub(crate) enum Store<D: Disk> {
     Open(Journal<D>),
     /// In no journal: a restart could not open one.
     Shut(Disks<D>),
-    /// With the restart that opens them again. No caller sees a ledger so.
+    /// With the restart that reopens them. No caller sees a ledger in this state.
     InHand,
 }
 

@@ -1,4 +1,4 @@
--- A bot's end of the link over a journal as contracts see it, and how its calls stand to their rows.
+-- A bot's end of the link over a journal as contracts see it, and how its calls match their rows.
 use Rattle.std.specs.Prelude.{◌≡◌, ◌⊎◌, ℕ, zero, suc, false, List, [], Option, None, Some, option_map, Result, Ok, Err}
 use Rattle.bytetext.specs.declared.failure.Failure.{Failure}
 use Rattle.bytetext.specs.declared.failure.Failure.TheVariants.{Refused, NoMemory}
@@ -21,7 +21,7 @@ use Rattle.linkcalls.specs.Calls.{IsFault}
 use Rattle.linkcalls.specs.Meets.{Meets, Answers, Restarts, TakesMemory}
 use Rattle.linkcalls.specs.Texts.{Sends}
 
--- whose end it is, of how many leaves, what it holds, and its two disks
+-- whose end it is, the number of leaves, what it holds, and its two disks
 pub record BotEnd : Type 0 where
   pub number : ℕ
   pub leaves : ℕ
@@ -34,7 +34,7 @@ new_bot_end number leaves device = record { number = number; leaves = leaves; en
 
 -- ---- rows
 
--- what it is told to do, and a packet that it takes
+-- the rows of an event at the bot, and of a packet that it takes
 abbrev pub did : BotEnd → Event → How → Row End
 did old event how = end_did old.leaves old.number how old.end event
 
@@ -57,7 +57,7 @@ hub_at_rest kept = AtHub (record { kept = kept; loose = []; down = false; doubt 
 abbrev pub leaf_at_rest : LeafState → End
 leaf_at_rest kept = AtLeaf (record { kept = kept; loose = no_loose; down = false; doubt = None })
 
--- what the contents of a journal mean to the bot of this number, in a net of so many leaves
+-- what the contents of a journal mean to the bot of this number, in a net of `leaves` leaves
 abbrev pub end_meaning : ℕ → ℕ → Contents → Option End
 end_meaning zero leaves contents = option_map hub_at_rest (hub_meaning leaves contents)
 end_meaning (suc place) leaves contents = option_map leaf_at_rest (leaf_meaning (suc place) contents)
@@ -66,7 +66,7 @@ end_meaning (suc place) leaves contents = option_map leaf_at_rest (leaf_meaning 
 abbrev pub compacted : ℕ → ℕ → End → End
 compacted number leaves end = (end_did leaves number Works end Compact).after
 
--- what becomes of an end whose journal has an older layout, which is put anew as a compaction does it
+-- what an end becomes when its journal has an older layout and is rewritten, as a compaction does it
 abbrev pub RenewsEnd : ℕ → ℕ → End → End → Type 0
 RenewsEnd number leaves before end = end ≡ compacted number leaves before
 
@@ -89,15 +89,15 @@ LeavesOwn link before now = AtEachMoment before now (AreOf link)
 
 -- ---- calls
 
--- A call meets its row, and the bot stays who it is. Where it calls a disk, a crash at any moment of it leaves what is the bot's that
--- the row leaves where the device fails.
+-- A call meets its row, and the bot keeps its identity. If it calls a disk, a crash at any moment of the call leaves
+-- what belongs to the bot that the row leaves when the device fails.
 pub record Calls (old : BotEnd) (rule : How → Row End) (result : Result Answer (Failure LinkFault)) (new : BotEnd) : Type 0 where
   pub row : Meets rule old.end old.device result new.end new.device
   pub number : new.number ≡ old.number
   pub leaves : new.leaves ≡ old.leaves
   pub moments : (new.device ≡ old.device) ⊎ LeavesOwn (record old { end = (rule Fails).after }) old.device new.device
 
--- so does a restart, which opens both disks again, whatever it answers
+-- the same for a restart, which reopens both disks, whatever its result
 pub record CallsRestart (old : BotEnd) (result : Result Answer (Failure LinkFault)) (new : BotEnd) : Type 0 where
   pub row : Restarts (did old Restart) old.device result new.end new.device
   pub reopened : Reopens old.device new.device
@@ -105,16 +105,16 @@ pub record CallsRestart (old : BotEnd) (result : Result Answer (Failure LinkFaul
   pub number : new.number ≡ old.number
   pub leaves : new.leaves ≡ old.leaves
 
--- An ask, by cases on its answer: nothing but the asks that wait is another then.
+-- An ask, by cases on its result: it changes nothing but the waiting asks.
 abbrev pub Asks : BotEnd → UserChange → Result Answer (Failure LinkFault) → BotEnd → Type 0
 Asks old change (Ok answer) new = Answers (asked old change) answer new.end × (new ≡ record old { end = new.end })
 Asks old change (Err (Refused fault)) new = IsFault fault (asked old change).told × (new ≡ old)
 Asks old change (Err NoMemory) new = TakesMemory (did old (Ask change)) (asked old change).told × (new ≡ old)
 
--- A text to another bot, where so many were sent before it.
+-- A text to another bot, when this number of texts were sent before it.
 abbrev pub Tells : BotEnd → ℕ → List ℕ → ℕ → Result Outgoing (Failure LinkFault) → Type 0
 Tells old to text sent result = Sends (told old to text) sent result
 
--- the oldest asks alone stay, at most so many
+-- only the oldest asks stay, at most this number
 abbrev pub keeps_asks : BotEnd → ℕ → BotEnd
 keeps_asks old count = record old { end = with_oldest old.end count }

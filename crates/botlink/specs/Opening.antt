@@ -1,4 +1,4 @@
--- How a bot's end of the link is made, found and handed back.
+-- How a bot's end of the link is created, found and handed back.
 use Rattle.std.specs.Prelude.{◌≡◌, ℕ, List, Option, Result, Ok, Err}
 use Rattle.bytetext.specs.declared.failure.Failure.{Failure}
 use Rattle.storage.specs.State.{State}
@@ -14,22 +14,23 @@ use Rattle.botlink.specs.Links.{BotEnd, new_bot_end, end_meaning, RenewsEnd}
 -- ---- what contents mean to a bot that is opened on them
 
 module _ (number leaves : ℕ) where
-  -- The contents of two disks mean an end, and this one is kept: the same, or where they have an older layout that after a compaction.
+  -- The contents of two disks mean an end, and this one is kept: the same end or, if they have an older layout, that
+  -- after a compaction.
   abbrev pub IsKeptOf : Option Contents → End → Type 0
   IsKeptOf found end = AreKept (end_meaning number leaves) (RenewsEnd number leaves) found end
 
-  -- these bytes mean what an opening leaves, at whichever moment it ends: what there was, or that put anew
+  -- these bytes mean what an opening leaves, at whichever moment it ends: what was there before, or that rewritten
   abbrev pub IsLeft : Option Contents → List ℕ → List ℕ → Type 0
   IsLeft = IsLeftOf (end_meaning number leaves) (RenewsEnd number leaves)
 
--- ---- making and finding an end
+-- ---- creating and finding an end
 
--- the disks have the present layout, where they hold a journal
+-- the disks have the present layout, if they hold a journal
 abbrev pub AreCurrent : {D : Type 0} → (D → State) → D → D → Type 0
 AreCurrent state first second = HaveLayout state first second
 
 module _ {D : Type 0} (state : D → State) (number leaves : ℕ) (first second : D) where
-  -- Making an end, by cases on the answer.
+  -- Creating an end, by cases on the result.
   abbrev pub Makes : Result BotEnd (Returned D) → Type 0
   Makes (Ok link) = link ≡ new_bot_end number leaves link.device
   Makes (Err returned) =
@@ -44,18 +45,18 @@ module _ {D : Type 0} (state : D → State) (number leaves : ℕ) (first second 
   FindsNone error first' second' =
       FindsNoEnd state first second (end_meaning number leaves) (RenewsEnd number leaves) error first' second'
 
-  -- whatever a crash leaves on these disks is what the disks that were given mean, or that put anew
+  -- whatever a crash leaves on these disks is what the given disks mean, or that rewritten
   abbrev pub MeanTheSame : D → D → Type 0
   MeanTheSame first' second' = StaySo state first second (end_meaning number leaves) (RenewsEnd number leaves) first' second'
 
-  -- Finding an end, by cases on the answer.
+  -- Finding an end, by cases on the result.
   abbrev pub Opens : Result BotEnd (Returned D) → Type 0
   Opens (Ok link) =
       IsFound link.end × (link ≡ record { number = number; leaves = leaves; end = link.end; device = link.device })
   Opens (Err returned) = FindsNone returned.error returned.disks.first returned.disks.second
       × MeanTheSame returned.disks.first returned.disks.second
 
-  -- At each moment of finding one a crash leaves what the disks mean, or that put anew.
+  -- At each moment of finding an end a crash leaves what the disks mean, or that rewritten.
   abbrev pub OpensAtEachMoment : Result BotEnd (Returned D) → Type 0
   OpensAtEachMoment (Ok link) =
       LeavesFound state first second (end_meaning number leaves) (RenewsEnd number leaves) link.device

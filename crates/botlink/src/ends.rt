@@ -1,4 +1,4 @@
-// The end that a bot has. This is apart, since an enum has no value that contracts see.
+// The end that a bot has, in a file of its own, since an enum has no value that contracts see.
 use hublink::HubLink;
 use leaflink::LeafLink;
 use storage::Disk;

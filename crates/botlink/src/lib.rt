@@ -1,7 +1,7 @@
-//! A bot's end of the sharing link over a journal, be it the hub's or a leaf's.
+//! A bot's end of the sharing link over a journal, the hub's or a leaf's.
 //!
-//! Bot 0 is the hub, and the leaves are numbered from 1. A [`BotLink`] takes the calls that any bot may be given, and
-//! hands each to the end that it is. What contracts see of it is one value, whichever end it is (`specs/Links`).
+//! Bot 0 is the hub, and the leaves are numbered from 1. A [`BotLink`] takes the calls that any bot may get, and hands
+//! each to its end. Contracts see it as one value, whichever end it is (`specs/Links`).
 //!
 //! ```text
 //! let mut hub = BotLink::create(alloc, first, second, 0, 3)?;   // the hub of 3 leaves, on two disks

@@ -9,7 +9,7 @@ use std::marker::Model;
 use storage::Disk;
 use userfile::{Change, Userfile};
 
-/// A bot's end of the link: the hub's where its number is 0, else a leaf's.
+/// A bot's end of the link: the hub's if its number is 0, otherwise a leaf's.
 pub struct BotLink<D: Disk> {
     end: Ends<D>,
 }
@@ -46,11 +46,12 @@ impl<D: Disk> BotLink<D> {
     ghost use Rattle.botlink.specs.Opening.{Makes, Opens, OpensAtEachMoment, AreCurrent};
     ghost use Rattle.botlink.specs.Links.{MayLeave};
 
-    /// The bot of this number, from 0 to the number of leaves, before the first change. What the disks held is lost.
+    /// Creates the bot `number`, from 0 to `leaves`, on the disks `first` and `second`, before the first change. What
+    /// the disks held is lost.
     ///
     /// # Errors
-    /// With the disks: `NoMemory` where room is refused: nothing was written. `DiskFault` where a disk failed: what the
-    /// disks hold is then unknown.
+    /// Each hands the disks back. `NoMemory` if it cannot allocate room: nothing was written. `DiskFault` if a disk
+    /// failed: what the disks hold is then unknown.
     pub fn create(
         alloc: Global,
         first: D,
@@ -80,15 +81,16 @@ impl<D: Disk> BotLink<D> {
         }
     }
 
-    /// The bot of this number, as its journal on the two disks has it. A journal of the present layout stays as it is. One of
-    /// an older layout is put anew before this answers, as `compact` does it: the bot's version and records are those that
-    /// it had.
+    /// Opens the bot `number`, in a net of `leaves` leaves, from its journal on the disks `first` and `second`. A
+    /// journal of the present layout stays as it is. One of an older layout is rewritten before the call returns, as
+    /// `compact` does it: the bot keeps its version and records.
     ///
     /// # Errors
-    /// With the disks, which mean what they meant, or that put anew: `DiskFault` where a read failed; `NotAJournal` where
-    /// the disks hold no journal, or one that no bot of this number writes in such a net; `NoMemory` where room for what
-    /// they hold, or for the asks, is refused. Then, of an older layout alone, `GenerationsSpent` where there is no next
-    /// generation, `NoMemory`, or `DiskFault` where a disk failed while it was written.
+    /// Each hands the disks back; they mean what they meant before, or that rewritten. `DiskFault` if a read failed.
+    /// `NotAJournal` if the disks hold no journal, or one that no bot of this number writes in such a net. `NoMemory`
+    /// if it cannot allocate room for what they hold, or for the asks. Then, only for an older layout:
+    /// `GenerationsSpent` if there is no next generation, `NoMemory`, or `DiskFault` if a disk failed while the journal
+    /// was rewritten.
     pub fn open(
         alloc: Global,
         first: D,
@@ -103,7 +105,7 @@ impl<D: Disk> BotLink<D> {
         ensures row { Opens D.state number leaves first second result }
         // Nothing happened to disks that have the present layout.
         ensures still { AreCurrent D.state first second → IfOk result (λ link. AreStill (D.state first) (D.state second) link.device) }
-        // At each moment of the call a crash leaves what the disks meant, or that put anew.
+        // At each moment of the call a crash leaves what the disks meant, or that rewritten.
         ensures any_moment { OpensAtEachMoment D.state number leaves first second result }
     {
         if number == 0 {
@@ -122,7 +124,7 @@ impl<D: Disk> BotLink<D> {
         }
     }
 
-    /// The version: how many changes the hub has accepted, or the number of the last one that the leaf holds.
+    /// Returns the version: how many changes the hub has accepted, or the number of the last one that the leaf holds.
     pub fn version(&self) -> u32
         ensures { result ≡ end_version self.now.end }
     {
@@ -132,7 +134,7 @@ impl<D: Disk> BotLink<D> {
         }
     }
 
-    /// The userfile at that version.
+    /// Returns the userfile at that version.
     pub fn userfile(&self) -> &Userfile
         ensures { result.now ≡ end_records self.now.end }
     {
@@ -142,8 +144,8 @@ impl<D: Disk> BotLink<D> {
         }
     }
 
-    /// Whether a disk failed, or a restart did not end, since the journal was last opened: nothing is taken but a
-    /// restart.
+    /// Whether, since the journal was last opened, a disk failed or a restart did not finish: the bot then takes
+    /// nothing but a restart.
     pub fn is_down(&self) -> bool
         ensures { result ≡ end_is_down self.now.end }
     {
@@ -153,7 +155,7 @@ impl<D: Disk> BotLink<D> {
         }
     }
 
-    /// How many asks wait.
+    /// Returns how many asks wait.
     pub fn ask_count(&self) -> usize
         ensures { result ≡ length (end_asks self.now.end) }
     {
@@ -163,10 +165,10 @@ impl<D: Disk> BotLink<D> {
         }
     }
 
-    /// Takes back all asks but the oldest ones, of which this many stay. Takes no memory.
+    /// Keeps the oldest `count` asks and withdraws the others. Allocates nothing.
     ///
-    /// A caller that asks for several things, all or none, counts the asks before it begins, and comes back to that
-    /// count where it has to give up.
+    /// A caller that asks for several things, all or none, counts the asks before it begins, and returns to that count
+    /// if it has to give up.
     pub fn keep_asks(&mut self, count: usize)
         ensures { self.new ≡ keeps_asks self.old count }
     {
@@ -176,10 +178,10 @@ impl<D: Disk> BotLink<D> {
         }
     }
 
-    /// Lets a change wait for a pump: `Queued`, and nothing to send. Takes no memory.
+    /// Queues `change` for a pump: `Queued`, and nothing to send. Allocates nothing.
     ///
     /// # Errors
-    /// `Down`, then `BadChange` for a bad shape, then `AsksFull` where 64 asks wait; each leaves the bot as it was.
+    /// `Down`, then `BadChange` for a bad shape, then `AsksFull` if 64 asks wait; each leaves the bot as it was.
     pub fn ask(&mut self, alloc: Global, change: Change) -> Result<Answer, LinkError>
         ensures row { Asks self.old change result self.new }
         ensures packets { GoOut (MAX_LEAVES + 1) result }
@@ -191,12 +193,12 @@ impl<D: Disk> BotLink<D> {
         }
     }
 
-    /// Does the next piece of work. The hub takes its oldest ask: `Accepted`, once that is journaled, with the change for
-    /// each leaf, or `Refused`, or `Idle`. A leaf says hello, and sends the requests that are out, and a new one once that is
-    /// journaled: `Sent`, or `Idle`.
+    /// Does the next piece of work. The hub takes its oldest ask: `Accepted`, once that is journaled, with the change
+    /// for each leaf, or `Refused`, or `Idle`. A leaf sends a hello and its outstanding requests, and a new one once
+    /// that is journaled: `Sent`, or `Idle`.
     ///
     /// # Errors
-    /// `Down`; then `NumbersSpent`; then `NoMemory`; each leaves the bot as it was. `JournalFault` where a disk failed in
+    /// `Down`; then `NumbersSpent`; then `NoMemory`; each leaves the bot as it was. `JournalFault` if a disk failed in
     /// this call: the bot is down, sends nothing, and what was being journaled is in doubt.
     pub fn pump(&mut self, alloc: Global) -> Result<Answer, LinkError>
         ensures row { Calls self.old (did self.old Pump) result self.new }
@@ -208,16 +210,16 @@ impl<D: Disk> BotLink<D> {
         }
     }
 
-    /// Takes a packet.
+    /// Takes `packet`.
     ///
-    /// The hub takes a leaf's hello and its requests, a leaf the hub's changes, replies and parts of a userfile, and each
-    /// a text of another bot's; what is for none of them is `Stray`.
+    /// The hub takes a leaf's hello and its requests. A leaf takes the hub's changes, replies and parts of a userfile.
+    /// Each takes a text of another bot's. A packet for none of them is `Stray`.
     ///
     /// # Errors
-    /// `Down`; then `OtherLayout` at the hub for a hello of another layout; `Diverged` where a leaf's records aren't the
-    /// hub's, which drops its kept parts; then `NumbersSpent`;
-    /// then `NoMemory`; the last two leave the bot as it was. `JournalFault` where a disk failed in this call: the bot is
-    /// down, sends nothing, and what was being journaled is in doubt.
+    /// `Down`; then `OtherLayout` at the hub for a hello of another layout; `Diverged` if a leaf's records aren't the
+    /// hub's, which drops its kept parts; then `NumbersSpent`; then `NoMemory`; the last two leave the bot as it was.
+    /// `JournalFault` if a disk failed in this call: the bot is down, sends nothing, and what was being journaled is in
+    /// doubt.
     pub fn receive(&mut self, alloc: Global, packet: &Packet) -> Result<Answer, LinkError>
         requires records { HasGoodRecords packet.now }
         ensures row { Calls self.old (took self.old packet.now) result self.new }
@@ -229,12 +231,12 @@ impl<D: Disk> BotLink<D> {
         }
     }
 
-    /// A text to another bot, which the caller is to send, where its step has sent so many so far. The bot stays as it
-    /// was.
+    /// Returns `text` for the bot `to`, which the caller is to send, when its step has sent `sent` texts so far. The
+    /// bot stays as it was.
     ///
     /// # Errors
-    /// `Down`; `BadBotText` where there is no such bot, it is this one, or the text is none that a bot may tell another;
-    /// then `TextsFull` from 64 on, then `NoMemory`.
+    /// `Down`; `BadBotText` if there is no bot `to`, it is this one, or no bot may send such a text; then `TextsFull`
+    /// if `sent` is 64 or more; then `NoMemory`.
     pub fn send_text(
         &self,
         alloc: Global,
@@ -254,7 +256,8 @@ impl<D: Disk> BotLink<D> {
     ///
     /// # Errors
     /// `Down`; then `NumbersSpent` at generation 4,294,967,295; then `NoMemory`; each leaves the bot as it was.
-    /// `JournalFault` where a disk failed in this call: the bot is down, and whether the journal was written in doubt.
+    /// `JournalFault` if a disk failed in this call: the bot is down, and it is in doubt whether the journal was
+    /// written.
     pub fn compact(&mut self, alloc: Global) -> Result<Answer, LinkError>
         ensures row { Calls self.old (did self.old Compact) result self.new }
         ensures packets { GoOut (MAX_LEAVES + 1) result }
@@ -265,11 +268,12 @@ impl<D: Disk> BotLink<D> {
         }
     }
 
-    /// Crashes both disks, as where the program ended, and opens the journal on what that left: `Restarted` with the
-    /// version. The record that was in doubt counts, or doesn't. The asks that wait are lost, and a leaf's kept parts.
+    /// Crashes both disks, as if the program had ended, and opens the journal on what the crash left: `Restarted` with
+    /// the version. The record that was in doubt counts, or doesn't. The waiting asks are lost, and so are a leaf's
+    /// kept parts.
     ///
     /// # Errors
-    /// `DiskFault` where a disk failed, or `NoMemory`: the bot is down, and all else as it was.
+    /// `DiskFault` if a disk failed, or `NoMemory`: the bot is down, and all else is as it was.
     pub fn restart(&mut self, alloc: Global) -> Result<Answer, LinkError>
         ensures row { CallsRestart self.old result self.new }
         ensures packets { GoOut (MAX_LEAVES + 1) result }
@@ -280,7 +284,7 @@ impl<D: Disk> BotLink<D> {
         }
     }
 
-    /// Says what a crash leaves at this moment, between two calls. It does nothing.
+    /// States what a crash leaves at this moment, between two calls. It does nothing.
     pub fn know_disks(&self)
         // What is the bot's, with the record in doubt or without it.
         ensures left { MayLeave self.now.device.first self.now.device.second self.now }
@@ -291,7 +295,7 @@ impl<D: Disk> BotLink<D> {
         }
     }
 
-    /// The two disks, in the order in which they were given.
+    /// Returns the two disks, in the order in which they were given.
     pub fn into_disks(self) -> Disks<D>
         // Whatever a crash leaves on them is the bot's, with the record in doubt or without it.
         ensures left { MayLeave (D.state result.first) (D.state result.second) self }

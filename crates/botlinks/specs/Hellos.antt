@@ -8,26 +8,27 @@ use Rattle.botlinks.specs.declared.links.Links.TheVariants.{Alone, Hub, Leaf}
 use Rattle.botlinks.specs.declared.pumps.Pumps.{Pumps}
 use Rattle.botlinks.specs.declared.pumps.TheConstants.{REST, AGAIN}
 
--- a second so much later
+-- the second that is this many seconds later
 abbrev pub later : ℕ → ℕ → ℕ
 later seconds now = min (now + seconds) (2 ^ 64 - 1)
 
--- none was said
+-- no hello was said yet
 abbrev pub begun : Pumps
 begun = record { due = 0; last = 0; version = 0; request = 0 }
 
--- one was said that told this version, and nothing is asked
+-- a hello with this version was said, and nothing is asked
 abbrev pub said : ℕ → ℕ → Pumps → Pumps
 said version now pumps = record pumps { due = later REST now; last = now; version = version }
 
--- requests went with it, the newest of this number: at once where that one is new and more changes wait than are out
+-- requests were sent with it, the newest numbered `request`: at once if that one is new and more changes wait than are
+-- out
 abbrev pub sent : ℕ → Bool → Pumps → Pumps
 sent request more pumps = record pumps {
   due = if more && nat_lt pumps.request request then 0 else min pumps.due (later AGAIN pumps.last);
   request = request;
 }
 
--- something is asked: not within the same second
+-- something is asked: a second after the last hello
 abbrev pub asked : Pumps → Pumps
 asked pumps = record pumps { due = min pumps.due (later 1 pumps.last) }
 
@@ -35,11 +36,11 @@ asked pumps = record pumps { due = min pumps.due (later 1 pumps.last) }
 abbrev pub answered : Pumps → Pumps
 answered pumps = record pumps { due = 0 }
 
--- at once where as many changes were applied as a hub answers
+-- at once if the leaf has applied as many changes as a hub sends in answer to one hello
 abbrev pub applied : ℕ → Pumps → Pumps
 applied version pumps = if nat_le HELLO_CHANGES (version - pumps.version) then answered pumps else pumps
 
--- a leaf's step notes this, and more changes wait than are out or not
+-- a leaf's step returned this note; `more` says whether more changes wait than are out
 abbrev pub noted : Note → Bool → Pumps → Pumps
 noted Queued more pumps = asked pumps
 noted Idle more pumps = pumps

@@ -1,4 +1,4 @@
--- Who takes a leaf's seat.
+-- Which guest takes a leaf's seat.
 use Rattle.std.specs.Prelude.{◌≡◌, ◌+◌, ◌++◌, ℕ, true, List, take, drop, Some}
 use Rattle.handshake.specs.declared.reading.Ask.{Ask}
 use Rattle.handshake.specs.declared.hub_side.HubSide.{HubSide}
@@ -8,8 +8,8 @@ use Rattle.handshake.specs.Sides.{is_leaf, shows_code}
 use Rattle.botlinks.specs.declared.guest.Heeded.{Heeded}
 use Rattle.botlinks.specs.declared.guest.Heeded.TheVariants.{Waits, Joins, Goes}
 
--- These bytes begin with a line in which this leaf of the net shows the right code: the one that the secret gives for what
--- the line says and the nonce that the hub drew for this connection. The rest are its first frames.
+-- These bytes begin with a line in which this leaf of the net shows the right code: the one that the secret gives for
+-- the words of the line and the nonce that the hub drew for this connection. The rest are its first frames.
 pub record ShowsCode (side : HubSide) (heard : List ℕ) (leaf : ℕ) (rest : List ℕ) : Type 0 where
   pub len : ℕ
   pub ask : Ask
@@ -21,7 +21,7 @@ pub record ShowsCode (side : HubSide) (heard : List ℕ) (leaf : ℕ) (rest : Li
   pub net : may_be_of side.net ask.net ≡ true
   pub rest_is : drop (len + 1) heard ≡ rest
 
--- A guest of whom this was heard before joins only where it has shown its code, in that and what came after it.
+-- A guest from which `before` was read joins only if it has shown its code, in those bytes and the ones after them.
 abbrev pub IsShown : HubSide → List ℕ → Heeded → List ℕ → Type 0
 IsShown side before (Waits came) rest = Unit {0}
 IsShown side before (Joins leaf) rest = (piece : List ℕ) × ShowsCode side (before ++ piece) leaf rest

@@ -1,4 +1,4 @@
--- Who is there for a call: where nobody is, it takes no memory.
+-- Whether anybody is connected to a bot: a call allocates only then.
 use Rattle.std.specs.Prelude.{◌≡◌, ◌||◌, ◌==◌, Bool, not, ℕ, length, Option, None, Some, IsTrue, is_some, slice_get}
 use Rattle.std.specs.List.{list_any}
 use Rattle.botlinks.specs.declared.hub_links.HubLinks.{HubLinks}
@@ -9,39 +9,39 @@ use Rattle.botlinks.specs.declared.meeting.Stage.TheVariants.{Meets, Knows, Link
 use Rattle.botlinks.specs.declared.seat.Seat.{Seat}
 use Rattle.botlinks.specs.declared.meeting.Hub.{Hub as Meeting}
 
--- packets go to the hub and come from it
+-- packets go to and come from the hub
 abbrev pub IsLinked : Option Meeting → Type 0
 IsLinked None = ⊥
 IsLinked (Some hub) = hub.stage ≡ Linked
 
--- the hub is listened to at this stage: not while a leaf keeps the number of its net
+-- the leaf reads from the hub at this stage: not while it has still to save the number of its net
 abbrev pub IsHeardAt : Stage → Type 0
 IsHeardAt Meets = Unit {0}
 IsHeardAt (Knows net) = ⊥
 IsHeardAt Linked = Unit {0}
 
--- the hub is listened to
+-- the leaf reads from the hub
 abbrev pub IsHeard : Option Meeting → Type 0
 IsHeard None = ⊥
 IsHeard (Some hub) = IsHeardAt hub.stage
 
--- a leaf that is linked has this place
+-- a linked leaf has this place
 abbrev pub IsTaken : Option (Option Seat) → Type 0
 IsTaken None = ⊥
 IsTaken (Some None) = ⊥
 IsTaken (Some (Some seat)) = Unit {0}
 
--- who is to have a packet is linked
+-- the recipient of a packet is linked
 abbrev pub Reaches : ℕ → Links → Type 0
 Reaches to Alone = ⊥
 Reaches to (Hub hub) = IsTaken (slice_get hub.seats.items to)
 Reaches to (Leaf leaf) = IsLinked leaf.hub
 
--- somebody is connected to a hub: one who has shown no code yet, or a leaf
+-- somebody is connected to the hub: a guest that has shown no code yet, or a leaf
 abbrev pub has_somebody : HubLinks → Bool
 has_somebody hub = not (length hub.guests.items == 0) || list_any is_some hub.seats.items
 
--- a hub to whom somebody is connected, or a leaf that listens to its own
+-- a hub to which somebody is connected, or a leaf that reads from its hub
 abbrev pub Hears : Links → Type 0
 Hears Alone = ⊥
 Hears (Hub hub) = IsTrue (has_somebody hub)

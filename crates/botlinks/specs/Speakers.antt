@@ -7,6 +7,6 @@ abbrev pub is_leaf : ℕ → Option ℕ → Bool
 is_leaf leaf None = false
 is_leaf leaf (Some speaker) = speaker == leaf
 
--- a packet that names this leaf as the one that says it
+-- a packet that names this leaf as its sender
 abbrev pub is_own : ℕ → Packet → Bool
 is_own leaf packet = is_leaf leaf (speaker_of packet)

@@ -1,4 +1,4 @@
--- What a bot tells the others, and what it takes of what they said.
+-- What a bot queues for the others, and what it takes of what they sent.
 use Rattle.std.specs.Prelude.{◌≡◌, ◌+◌, ◌++◌, ℕ, nat_le, Bool, true, false, List, [], length, Option, None, Some, IsSome, slice_get}
 use Rattle.inbox.specs.Waiting.{TakesTurn}
 use Rattle.sharewire.specs.declared.packet.Packet.{Packet}
@@ -12,15 +12,16 @@ use Rattle.botlinks.specs.declared.seat.Seat.{Seat}
 
 -- ---- one connection
 
--- whether so many bytes more find room
+-- whether these bytes fit
 abbrev pub fits : LinkWire → List ℕ → Bool
 fits wire bytes = nat_le (length wire.wire.unsent.items + length bytes) wire.wire.bounds.unsent
 
--- nothing is left for the other end
+-- nothing is queued for the other end
 abbrev pub IsUntold : LinkWire → LinkWire → Type 0
 IsUntold old new = (new.wire.unsent.items ≡ old.wire.unsent.items) × (new.gone ≡ old.gone)
 
--- Bytes are left whole for the other end, after those before. Where they find no room none is, and it is to be let go.
+-- All bytes are queued for the other end, after those before. If they do not fit, none is, and the connection is to be
+-- closed.
 abbrev pub IsToldIf : Bool → LinkWire → List ℕ → LinkWire → Type 0
 IsToldIf true old bytes new = (new.wire.unsent.items ≡ old.wire.unsent.items ++ bytes) × (new.gone ≡ old.gone)
 IsToldIf false old bytes new = (new.wire.unsent.items ≡ old.wire.unsent.items) × IsSome new.gone
@@ -28,26 +29,26 @@ IsToldIf false old bytes new = (new.wire.unsent.items ≡ old.wire.unsent.items)
 abbrev pub IsTold : LinkWire → List ℕ → LinkWire → Type 0
 IsTold old bytes new = IsToldIf (fits old bytes) old bytes new
 
--- a packet is told as its frame; one that has none is lost
+-- a packet is queued as its frame; a packet that has none is lost
 pub record Tells (packet : Packet) (old new : LinkWire) : Type 0 where
   pub framed : CanBeWritten packet → IsTold old (frame packet) new
   pub lost : (CanBeWritten packet → ⊥) → IsUntold old new
 
 -- ---- a leaf at a hub, and a hub at a leaf
 
--- where a leaf that is linked has the place it is told the packet
+-- if a linked leaf has the place, the packet is queued for it
 abbrev pub TellsSeat : Packet → Option Seat → Option Seat → Type 0
 TellsSeat packet (Some old) (Some new) = Tells packet old.wire new.wire
 TellsSeat packet (Some old) None = ⊥
 TellsSeat packet None new = new ≡ None
 
--- the place of this number, if there is one
+-- the place with this number, if there is one
 abbrev pub TellsPlace : Packet → Option (Option Seat) → Option (Option Seat) → Type 0
 TellsPlace packet (Some old) (Some new) = TellsSeat packet old new
 TellsPlace packet (Some old) None = ⊥
 TellsPlace packet None new = new ≡ None
 
--- where the hub is linked it is told the packet
+-- if the hub is linked, the packet is queued for it
 abbrev pub TellsHub : Packet → Option Meeting → Option Meeting → Type 0
 TellsHub packet (Some old) (Some new) = old.stage ≡ Linked → Tells packet old.wire new.wire
 TellsHub packet (Some old) None = ⊥
@@ -55,7 +56,7 @@ TellsHub packet None new = new ≡ None
 
 -- ---- a bot's connections
 
--- who is to have it is told the packet
+-- the packet is queued for its recipient
 abbrev pub TellsOne : ℕ → Packet → Links → Links → Type 0
 TellsOne to packet Alone new = new ≡ Alone
 TellsOne to packet (Hub old) (Hub new) = TellsPlace packet (slice_get old.seats.items to) (slice_get new.seats.items to)
@@ -65,7 +66,7 @@ TellsOne to packet (Leaf old) (Leaf new) = TellsHub packet old.hub new.hub
 TellsOne to packet (Leaf old) Alone = ⊥
 TellsOne to packet (Leaf old) (Hub new) = ⊥
 
--- the packets of one turn are taken from those that wait
+-- the packets of one turn are taken from the queued ones
 abbrev pub TakesPackets : Links → List Packet → Links → Type 0
 TakesPackets Alone packets new = packets ≡ []
 TakesPackets (Hub old) packets (Hub new) = TakesTurn old.inbox packets new.inbox

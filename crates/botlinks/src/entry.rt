@@ -1,4 +1,4 @@
-// What the log says of the connections between bots.
+// What the log says about the connections between bots.
 use crate::gone::Gone;
 use bstr::ByteSlice;
 use dialling::DialFault;
@@ -6,22 +6,22 @@ use std::fmt;
 use std::fmt::Display;
 use std::net::SocketAddr;
 
-// An event that the log tells of.
+// An event that is logged.
 #[derive(Drop)]
 pub(crate) enum Entry<'a> {
     // A leaf is linked.
     Joined(u16),
-    // A leaf is let go.
+    // A leaf is disconnected.
     LeafGone(u16, Gone),
-    // Who has not shown a code is let go.
+    // A guest is disconnected: a connection that has not shown a code.
     GuestGone(Gone),
-    // A connection to the hub begins.
+    // The leaf begins to connect to the hub.
     Dialled(&'a [u8], SocketAddr),
-    // A try to connect to the hub did not begin, and the next one is due at this second.
+    // An attempt to connect to the hub could not begin; the second at which the next one is due.
     NotDialled(&'a [u8], DialFault, u64),
     // The hub is linked.
     Linked,
-    // The hub is let go, and the next try is due at this second.
+    // The hub is disconnected; the second at which the next attempt is due.
     HubGone(Gone, u64),
 }
 

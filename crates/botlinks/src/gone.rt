@@ -1,30 +1,30 @@
-// Why another bot's connection is let go.
+// Why another bot is disconnected.
 use handshake::HandshakeFault;
 use sharewire::WireFault;
 use std::fmt;
 use std::fmt::Display;
 
-// Why a connection is let go.
+// Why a connection is closed.
 #[derive(Clone, Copy)]
 pub(crate) enum Gone {
-    // Its other end has ended it, or it never was one.
+    // The other end closed it, or it was never established.
     Ended,
-    // More than 256 KB would wait for it.
+    // More than 256 KB would be unsent.
     TooSlow,
-    // Before the first frame.
+    // The handshake failed.
     Handshake(HandshakeFault),
-    // What it sends are no frames.
+    // The other end sends bytes that are no frames.
     NoFrames(WireFault),
     // It speaks for another leaf, or for the hub.
     OtherSpeaker,
     // The same leaf has connected again.
     Replaced,
-    // So many others wait that have not shown a code.
+    // Too many others that have not shown a code are connected.
     Crowded,
 }
 
 impl Gone {
-    // Whether it knows the secret, and is of another net.
+    // Whether the other end knows the secret, but belongs to another net.
     pub(crate) fn is_of_other_net(self) -> bool {
         match self {
             Gone::Handshake(fault) => fault == HandshakeFault::OtherNet,
@@ -49,7 +49,7 @@ impl Display for Gone {
     }
 }
 
-// The text of one without parts; empty for the others.
+// The text of a reason without parts; empty for the others.
 fn sentence(gone: Gone) -> &'static str {
     match gone {
         Gone::Ended => "the connection ended",

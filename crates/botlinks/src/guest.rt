@@ -1,4 +1,4 @@
-// Who has connected to the hub and has not shown a code.
+// A connection to the hub that has not shown a code.
 ghost use Rattle.std.specs.Prelude.{◌≡◌, List, ℕ, IfOk};
 ghost use Rattle.botlinks.specs.Joining.{IsShown};
 
@@ -11,13 +11,13 @@ use handshake::{HandshakeFault, HubHears, HubSide, is_late};
 pub(crate) struct Guest {
     pub(crate) wire: LinkWire,
     pub(crate) side: HubSide,
-    // The second at which it came.
+    // The second at which it arrived.
     pub(crate) began: u64,
     // Which of the hub's tokens names it.
     pub(crate) slot: usize,
 }
 
-// By hand, so that this is proved once, and not in each function in which a guest ends.
+// Written by hand, so that the drop is proved once, and not in each function that drops one.
 impl Drop for Guest {
     fn drop(self) {
         let Guest {
@@ -29,21 +29,21 @@ impl Drop for Guest {
     }
 }
 
-// What comes of hearing a guest.
+// The result of reading from a guest.
 #[derive(Clone, Copy)]
 pub(crate) enum Heeded {
-    // It is to be heard on. Whether a byte came.
+    // The guest has to send more. Whether a byte arrived.
     Waits(bool),
-    // It is this leaf.
+    // The guest is this leaf.
     Joins(u16),
-    // It is to be let go.
+    // The guest is to be disconnected.
     Goes(Gone),
 }
 
 impl Guest {
-    // Hears it at this second, and answers it.
+    // Reads from the guest at second `now`, and answers it.
     pub(crate) fn heed(&mut self, now: u64) -> Result<Heeded, NoMemory>
-        // Who is a leaf has shown its code on this connection.
+        // A guest that is a leaf has shown its code on this connection.
         ensures shown { IfOk result (λ heeded. IsShown self.old.side self.old.wire.wire.heard.items heeded
             self.new.wire.wire.heard.items) }
         ensures side { self.new.side ≡ self.old.side }
@@ -64,7 +64,7 @@ impl Guest {
         }
     }
 
-    // Its connection, and which token names it.
+    // Returns the guest's connection, and which token names it.
     pub(crate) fn into_parts(self) -> (LinkWire, usize) {
         let Guest {
             wire,
@@ -75,7 +75,7 @@ impl Guest {
         (wire, slot)
     }
 
-    // It has said no whole line yet.
+    // The guest has not sent a whole line yet.
     fn wait(&self, came: bool, now: u64) -> Heeded
         ensures { (before rest : List ℕ) → IsShown self.now.side before result rest }
     {

@@ -26,35 +26,35 @@ use std::random::RandomSource;
 /// The most connections that have not shown a code.
 pub const MAX_GUESTS: usize = 64;
 
-// Under which the door is watched.
+// The token under which the door is watched.
 const DOOR: usize = 4;
 
-// Whom a token names.
+// Which connection a token names.
 #[derive(Clone, Copy)]
 pub(crate) enum Who {
     Guest,
     Leaf(u16),
 }
 
-/// The hub's connections: a seat for each leaf, and those that have not shown a code.
+/// The hub's connections: a seat for each leaf, and the guests, which have not shown a code.
 pub struct HubLinks {
     door: TcpDoor,
     key: Key,
     net: NetNumber,
     pub(crate) leaves: u16,
-    // In the order in which they came.
+    // In the order in which they arrived.
     pub(crate) guests: Vec<Guest>,
-    // By number; none has the number 0.
+    // By the leaf's number; no leaf has the number 0.
     pub(crate) seats: Vec<Option<Seat>>,
     // By token.
     pub(crate) slots: Vec<Option<Who>>,
-    // By number.
+    // By the leaf's number.
     pub(crate) inbox: Inbox,
-    // The last second at which the log told of a guest.
+    // The last second at which a guest was logged.
     pub(crate) told: u64,
 }
 
-// By hand, so that this is proved once, and not in each function in which they end.
+// Written by hand, so that the drop is proved once, and not in each function that drops one.
 impl Drop for HubLinks {
     fn drop(self) {
         let HubLinks {
@@ -71,12 +71,12 @@ impl Drop for HubLinks {
     }
 }
 
-/// Why nobody is listened to.
+/// Why the hub cannot listen.
 #[derive(Clone, Copy, Debug, PartialEq, Eq)]
 pub enum ListenFault {
-    /// The system refuses.
+    /// The system refuses the door.
     Door(DoorFault),
-    /// A growth was refused.
+    /// An allocation failed.
     NoMemory,
 }
 
@@ -87,10 +87,11 @@ impl From<NoMemory> for ListenFault {
 }
 
 impl HubLinks {
-    /// Listens at an address for so many leaves of this net.
+    /// Listens at `address` for the `leaves` leaves of `net`, which know the secret of `key`. `registry` watches the
+    /// door and the connections.
     ///
     /// # Errors
-    /// `Door` where the system refuses, and `NoMemory` where a growth is.
+    /// `Door` if the system refuses, and `NoMemory` if an allocation fails.
     pub fn open<R: AllocGlobal + Net>(
         rt: &R,
         registry: &Registry,
@@ -120,7 +121,7 @@ impl HubLinks {
         }
     }
 
-    /// The one that a token names may have something to give.
+    /// Notes that the connection that the token of `slot` names may have something to read.
     pub fn wake(&mut self, slot: usize) {
         let Some(Some(who)) = self.slots.get(slot) else {
             return;
@@ -143,10 +144,11 @@ impl HubLinks {
         }
     }
 
-    /// Lets in who waits. Where 64 have not shown a code, the oldest of them gives way.
+    /// Accepts the connections that wait at second `now`, and greets them. If 64 guests have not shown a code, the
+    /// oldest of them is disconnected for each new one. `registry` watches the connections.
     ///
     /// # Errors
-    /// `NoMemory` where a growth is refused.
+    /// `NoMemory` if an allocation fails.
     pub fn let_in<R: AllocGlobal + Net + Print + RandomSource>(
         &mut self,
         rt: &R,
@@ -166,7 +168,7 @@ impl HubLinks {
         Ok(())
     }
 
-    // Greets who has come. Where the system draws nothing, it is let go.
+    // Greets a new guest. If the system gives no random bytes, it is disconnected.
     fn greet<R: AllocGlobal + RandomSource>(
         &mut self,
         rt: &R,
@@ -195,15 +197,15 @@ impl HubLinks {
         Ok(())
     }
 
-    // Where there is no room for a guest, the oldest is let go.
+    // Disconnects the oldest guest if there is no room for another.
     fn make_way<R: Print>(&mut self, rt: &R, now: u64) {
         if self.guests.len() >= MAX_GUESTS {
             self.drop_guest(rt, 0, Gone::Crowded, now);
         }
     }
 
-    // Lets the guest at a place go. The log tells of one a second, so that nobody fills it, and of each that knows the
-    // secret and is of another net.
+    // Disconnects the guest at `place`. At most one a second is logged, so that nobody can fill the log; but each guest
+    // that knows the secret and belongs to another net is logged.
     pub(crate) fn drop_guest<R: Print>(&mut self, rt: &R, place: usize, gone: Gone, now: u64) {
         if place >= self.guests.len() {
             return;
@@ -216,17 +218,17 @@ impl HubLinks {
         }
     }
 
-    // A token names another from now on, or nobody.
+    // Makes the token of `slot` name another connection from now on, or none.
     pub(crate) fn name(&mut self, slot: usize, who: Option<Who>) {
         if let Some(named) = self.slots.get_mut(slot) {
             *named = who;
         }
     }
 
-    /// The packets of one turn, as [`Inbox::take`] gives them.
+    /// Returns the packets of one turn, as [`Inbox::take`] does.
     ///
     /// # Errors
-    /// `NoMemory` where room for them is refused.
+    /// `NoMemory` if an allocation fails.
     pub fn take_packets(&mut self, alloc: Global) -> Result<Vec<Packet>, NoMemory>
         ensures good { IfOk result (λ packets. AllByRecursion HasGoodRecords packets.items) }
         ensures takes { IfOk result (λ packets. TakesTurn self.old.inbox packets.items self.new.inbox) }
@@ -234,10 +236,10 @@ impl HubLinks {
         self.inbox.take(alloc)
     }
 
-    /// Leaves a packet for a leaf. Where it is not linked, the packet is lost.
+    /// Queues `packet` for the leaf numbered `leaf`. If that leaf is not linked, the packet is lost.
     ///
     /// # Errors
-    /// `NoMemory` where a growth is refused: never where it is not linked, nor where the packet has no frame.
+    /// `NoMemory` if an allocation fails: never if the leaf is not linked, nor if the packet has no frame.
     pub fn tell(&mut self, alloc: Global, leaf: u16, packet: &Packet) -> Result<(), NoMemory>
         requires good { HasGoodRecords packet.now }
         ensures memory { OnErr result (IsTaken (slice_get self.old.seats.items leaf)) }
@@ -251,25 +253,25 @@ impl HubLinks {
         }
     }
 
-    /// Offers each what is unsent. Whether one took a byte.
+    /// Offers each connection its unsent bytes. Returns whether one took a byte.
     pub fn send(&mut self) -> bool {
         let guests = send_guests(self.guests.as_mut_slice());
         let seats = send_seats(self.seats.as_mut_slice());
         guests || seats
     }
 
-    /// How many leaves are linked.
+    /// Returns the number of linked leaves.
     pub fn linked(&self) -> usize {
         self.seats.iter().filter(|seat| seat.is_some()).count()
     }
 }
 
-// The first token that names nobody.
+// The first token that names no connection.
 fn free_slot(slots: &[Option<Who>]) -> Option<usize> {
     slots.iter().position(|who| who.is_none())
 }
 
-// Nobody is there.
+// Creates `places` empty seats.
 fn no_seats(alloc: Global, places: usize) -> Result<Vec<Option<Seat>>, NoMemory> {
     let mut seats = Vec::new(alloc);
     for _place in 0..places {
@@ -278,7 +280,7 @@ fn no_seats(alloc: Global, places: usize) -> Result<Vec<Option<Seat>>, NoMemory>
     Ok(seats)
 }
 
-// No token names anybody.
+// Creates `places` tokens that name no connection.
 fn no_slots(alloc: Global, places: usize) -> Result<Vec<Option<Who>>, NoMemory> {
     let mut slots = Vec::new(alloc);
     for _place in 0..places {

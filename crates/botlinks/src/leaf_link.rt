@@ -25,26 +25,26 @@ use std::alloc::Global;
 use std::net::Net;
 use std::random::RandomSource;
 
-/// The longest wait for a try, in seconds.
+/// The longest wait before an attempt to connect, in seconds.
 pub const LONGEST_WAIT: u16 = 30;
 
-// Under which the connection to the hub is watched.
+// The token under which the connection to the hub is watched.
 const TOKEN: usize = 5;
 
-/// A leaf's connection to its hub, if there is one, and what is kept over all of them.
+/// A leaf's connection to its hub, if there is one, and what outlasts a connection.
 pub struct LeafLink {
     key: Key,
     leaf: u16,
-    // Of which net it is, once it knows.
+    // The number of the leaf's net, once the leaf knows it.
     pub(crate) net: Option<NetNumber>,
     pub(crate) dialling: Dialling,
     pub(crate) hub: Option<Hub>,
     pub(crate) inbox: Inbox,
-    /// When it is to say hello.
+    /// When the leaf is to say hello.
     pub pumps: Pumps,
 }
 
-// By hand, so that this is proved once, and not in each function in which one ends.
+// Written by hand, so that the drop is proved once, and not in each function that drops one.
 impl Drop for LeafLink {
     fn drop(self) {
         let LeafLink {
@@ -60,10 +60,11 @@ impl Drop for LeafLink {
 }
 
 impl LeafLink {
-    /// No connection yet; a try is due at once. `net` is the number that the leaf keeps, if it keeps one.
+    /// Creates the link of the leaf numbered `leaf`, which knows the secret of `key`. There is no connection yet, and
+    /// an attempt to connect is due at once. `net` is the number of the net that the leaf keeps, if it keeps one.
     ///
     /// # Errors
-    /// `NoMemory` where a growth is refused.
+    /// `NoMemory` if an allocation fails.
     pub fn new(
         alloc: Global,
         leaf: u16,
@@ -81,14 +82,15 @@ impl LeafLink {
         })
     }
 
-    /// The connection may have something to give.
+    /// Notes that the connection may have something to read, if `token` names it.
     pub fn wake(&mut self, token: usize) {
         if let (TOKEN, Some(hub)) = (token, &mut self.hub) {
             hub.wire.wake();
         }
     }
 
-    /// Begins to connect where there is no connection and a try is due at this second. Whether a connection began.
+    /// Begins to connect to the hub at `address` if there is no connection and an attempt is due at second `now`.
+    /// `registry` watches the connection. Returns whether one began.
     pub fn connect<R: AllocGlobal + Net + Print + RandomSource>(
         &mut self,
         rt: &R,
@@ -122,7 +124,7 @@ impl LeafLink {
         }
     }
 
-    // A connection begins, unless the system draws nothing. Whether it does. Takes no memory.
+    // Begins a connection, unless the system gives no random bytes. Returns whether it began. Allocates nothing.
     fn begin<R: AllocGlobal + RandomSource>(&mut self, rt: &R, dialled: Dialled, now: u64) -> bool
         requires moment { now < MOMENTS_END }
     {
@@ -137,11 +139,11 @@ impl LeafLink {
         true
     }
 
-    /// Hears the hub. Whether there may be more at once.
+    /// Reads from the hub at second `now`. Returns whether there may be more at once.
     ///
     /// # Errors
-    /// `NoMemory` where a growth is refused: never without a connection, nor where the number of the hub's net is to be
-    /// kept first.
+    /// `NoMemory` if an allocation fails: never without a connection, nor while the leaf has still to save the number
+    /// of the hub's net.
     pub fn read<R: AllocGlobal + Print>(&mut self, rt: &R, now: u64) -> Result<bool, NoMemory>
         ensures memory { IfErr result (λ _. IsHeard self.old.hub) }
     {
@@ -160,15 +162,15 @@ impl LeafLink {
         }
     }
 
-    // Where the hub has just shown its code, and the leaf keeps its number already, it is linked.
+    // Links the hub if it has just shown its code, and the leaf keeps the number of its net already.
     fn join<R: Print>(&mut self, rt: &R, keeps: bool, now: u64) {
         if keeps && self.found().is_some() {
             self.link(rt, now);
         }
     }
 
-    /// The number of the hub's net where the leaf keeps none and the hub has just shown its code: it is to be kept, and
-    /// then [`LeafLink::keep`] to be called.
+    /// Returns the number of the hub's net if the hub has just shown its code, and the leaf keeps no number yet. Save
+    /// the number, and then call [`LeafLink::keep`].
     pub fn to_keep(&self) -> Option<NetNumber> {
         match self.net {
             Some(_) => None,
@@ -176,7 +178,7 @@ impl LeafLink {
         }
     }
 
-    // The number of the hub's net where the hub has just shown its code.
+    // The number of the hub's net, if the hub has just shown its code.
     fn found(&self) -> Option<NetNumber> {
         match &self.hub {
             Some(hub) => match hub.stage {
@@ -187,13 +189,13 @@ impl LeafLink {
         }
     }
 
-    /// The number of the hub's net is kept. It is linked now.
+    /// Notes that `net`, the number of the hub's net, is saved. The hub is linked at second `now`.
     pub fn keep<R: Print>(&mut self, rt: &R, net: NetNumber, now: u64) {
         self.net = Some(net);
         self.link(rt, now);
     }
 
-    // It is linked: the connection was a good one, and a hello is due.
+    // Links the hub: the connection was a good one, and a hello is due.
     fn link<R: Print>(&mut self, rt: &R, now: u64) {
         if let Some(hub) = &mut self.hub {
             hub.stage = Stage::Linked;
@@ -203,7 +205,7 @@ impl LeafLink {
         log(rt, now, &Entry::Linked);
     }
 
-    // Hears the hub, unless packets of it wait. Whether there may be more at once.
+    // Reads from the hub, unless packets of it wait. Returns whether there may be more at once.
     fn hear(&mut self, alloc: Global) -> Result<bool, NoMemory> {
         if self.inbox.stream_count() == 0 || self.inbox.count(0) > 0 {
             return Ok(false);
@@ -217,10 +219,10 @@ impl LeafLink {
         Ok(busy)
     }
 
-    /// The packets of one turn, as [`Inbox::take`] gives them.
+    /// Returns the packets of one turn, as [`Inbox::take`] does.
     ///
     /// # Errors
-    /// `NoMemory` where room for them is refused.
+    /// `NoMemory` if an allocation fails.
     pub fn take_packets(&mut self, alloc: Global) -> Result<Vec<Packet>, NoMemory>
         ensures good { IfOk result (λ packets. AllByRecursion HasGoodRecords packets.items) }
         ensures takes { IfOk result (λ packets. TakesTurn self.old.inbox packets.items self.new.inbox) }
@@ -241,14 +243,14 @@ impl LeafLink {
         }
     }
 
-    /// The second at which the next try is due.
+    /// Returns the second at which the next attempt to connect is due.
     pub fn due(&self) -> u64
         ensures { result ≡ self.now.dialling.waits.due }
     {
         self.dialling.due()
     }
 
-    /// How many bytes wait for the hub.
+    /// Returns the number of unsent bytes for the hub.
     pub fn unsent(&self) -> usize {
         match &self.hub {
             Some(hub) => hub.wire.unsent(),
@@ -256,10 +258,11 @@ impl LeafLink {
         }
     }
 
-    /// Leaves a packet for the hub. Where it is not linked, the packet is lost. A hello is noted.
+    /// Queues `packet` for the hub. If the hub is not linked, the packet is lost. A hello counts as said at second
+    /// `now`.
     ///
     /// # Errors
-    /// `NoMemory` where a growth is refused: never where the hub is not linked, nor where the packet has no frame.
+    /// `NoMemory` if an allocation fails: never if the hub is not linked, nor if the packet has no frame.
     pub fn tell(&mut self, alloc: Global, packet: &Packet, now: u64) -> Result<(), NoMemory>
         requires good { HasGoodRecords packet.now }
         ensures memory { OnErr result (IsLinked self.old.hub) }
@@ -275,7 +278,7 @@ impl LeafLink {
         }
     }
 
-    /// Offers the hub what is unsent. Whether it took a byte.
+    /// Offers the hub the unsent bytes. Returns whether it took a byte.
     pub fn send(&mut self) -> bool {
         match &mut self.hub {
             Some(hub) => hub.wire.send(),
@@ -283,7 +286,7 @@ impl LeafLink {
         }
     }
 
-    /// Lets the hub go where its connection is over.
+    /// Disconnects the hub at second `now`, if its connection is over.
     pub fn let_go<R: Print>(&mut self, rt: &R, now: u64)
         requires moment { now < MOMENTS_END }
     {

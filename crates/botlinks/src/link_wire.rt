@@ -10,25 +10,25 @@ use std::alloc::Global;
 use streams::{Given, Taken};
 use wire::{Bounds, Wire};
 
-// A piece of what is heard, and what may wait for the other end.
+// The most bytes of a piece that is read, and the most unsent bytes.
 const BOUNDS: Bounds = Bounds {
     heard: 4_096,
     unsent: 262_144,
 };
 
-// Above so many bytes that wait for the other end it is not read.
+// While more than this many bytes are unsent, the connection is not read.
 const SLOW: usize = 65_536;
 
 // A connection to another bot.
 pub(crate) struct LinkWire {
     wire: Wire<TcpSocket>,
-    // Whether it may have something to give: it stalled, and no event has named it since, where not.
+    // False after a read that would block, until an event names the connection again.
     may_give: bool,
-    // Why it is to be let go, if it is.
+    // Why the connection is to be closed, if it is.
     gone: Option<Gone>,
 }
 
-// By hand, so that this is proved once, and not in each function in which a connection ends.
+// Written by hand, so that the drop is proved once, and not in each function that drops one.
 impl Drop for LinkWire {
     fn drop(self) {
         let LinkWire {
@@ -40,7 +40,7 @@ impl Drop for LinkWire {
 }
 
 impl LinkWire {
-    // A connection on which nothing is heard or told yet. Takes no memory.
+    // A connection on which nothing was read or sent yet. Allocates nothing.
     pub(crate) fn new(alloc: Global, socket: TcpSocket) -> LinkWire {
         LinkWire {
             wire: Wire::new(alloc, socket, BOUNDS),
@@ -49,17 +49,17 @@ impl LinkWire {
         }
     }
 
-    // An event has named it.
+    // Notes that an event has named the connection.
     pub(crate) fn wake(&mut self) {
         self.may_give = true;
     }
 
-    // Whether it may have something to give.
+    // Whether the connection may have something to read.
     pub(crate) fn may_give(&self) -> bool {
         self.may_give
     }
 
-    // Hears a piece of what has come, where there may be any. Whether a byte came.
+    // Reads a piece of what has arrived, if there may be any. Returns whether a byte arrived.
     pub(crate) fn read(&mut self) -> Result<bool, NoMemory>
         ensures { Grows self.old.wire.heard.items self.new.wire.heard.items }
     {
@@ -76,14 +76,14 @@ impl LinkWire {
         }
     }
 
-    // What was heard and is not taken yet.
+    // The bytes that were read and not taken yet.
     pub(crate) fn heard(&self) -> &[u8]
         ensures { result.now ≡ self.now.wire.heard.items }
     {
         self.wire.heard.as_slice()
     }
 
-    // So many bytes of what was heard are taken.
+    // Takes the first `count` bytes that were read.
     pub(crate) fn take_front(&mut self, count: usize)
         ensures { self.new.wire.heard.items ≡ drop count self.old.wire.heard.items }
     {
@@ -91,12 +91,12 @@ impl LinkWire {
         let _taken = self.wire.heard.drain(..count);
     }
 
-    // What was heard and is not taken yet, which then is. Takes no memory.
+    // Takes the bytes that were read and not taken yet. Allocates nothing.
     pub(crate) fn take_heard(&mut self, alloc: Global) -> Vec<u8> {
         self.wire.take_heard(alloc)
     }
 
-    // Leaves bytes for the other end, after those before. Where they don't fit, it is to be let go.
+    // Queues bytes for the other end, after those before them. If they do not fit, the connection is to be closed.
     pub(crate) fn tell(&mut self, bytes: &[u8]) -> Result<(), NoMemory>
         ensures heard { self.new.wire.heard.items ≡ self.old.wire.heard.items }
         ensures told { OnOk result (IsTold self.old bytes.now self.new) }
@@ -108,7 +108,7 @@ impl LinkWire {
         Ok(())
     }
 
-    // Offers the other end what is unsent, once. Whether it took a byte.
+    // Offers the other end the unsent bytes, once. Returns whether it took a byte.
     pub(crate) fn send(&mut self) -> bool {
         if self.wire.is_over || self.wire.unsent.is_empty() {
             return false;
@@ -119,7 +119,7 @@ impl LinkWire {
         }
     }
 
-    // It is to be let go. The first reason is the one that is told.
+    // Marks the connection as one to close. The first reason is the one that is logged.
     pub(crate) fn end(&mut self, gone: Gone)
         ensures wire { self.new.wire ≡ self.old.wire }
         ensures gone { IsSome self.new.gone }
@@ -129,7 +129,7 @@ impl LinkWire {
         }
     }
 
-    // Why it is to be let go, if it is.
+    // Why the connection is to be closed, if it is.
     pub(crate) fn gone(&self) -> Option<Gone> {
         match self.gone {
             Some(gone) => Some(gone),
@@ -138,12 +138,12 @@ impl LinkWire {
         }
     }
 
-    // Whether so much waits for the other end that it is not to be read.
+    // Whether so much is unsent that the connection is not to be read.
     pub(crate) fn is_slow(&self) -> bool {
         self.wire.unsent.len() > SLOW
     }
 
-    // How many bytes wait for the other end.
+    // The number of unsent bytes.
     pub(crate) fn unsent(&self) -> usize
         ensures { result ≡ length self.now.wire.unsent.items }
     {

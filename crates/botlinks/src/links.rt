@@ -21,10 +21,10 @@ use std::alloc::Global;
 use std::net::Net;
 use std::random::RandomSource;
 
-/// From this token on a hub's connections are watched, and below it a leaf's, and both doors.
+/// The first token of a hub's connections. A leaf's connection and both doors have lower tokens.
 pub const FIRST_TOKEN: usize = 16;
 
-/// A bot's connections to the others.
+/// A bot's connections to the others of its net.
 pub enum Links {
     /// The bot is alone.
     Alone,
@@ -34,7 +34,7 @@ pub enum Links {
     Leaf(LeafLink),
 }
 
-// By hand, so that this is proved once, and not in each function in which they end.
+// Written by hand, so that the drop is proved once, and not in each function that drops one.
 impl Drop for Links {
     fn drop(self) {
         match self {
@@ -46,7 +46,7 @@ impl Drop for Links {
 }
 
 impl Links {
-    /// Those that tokens name may have something to give.
+    /// Notes that the connections that `tokens` name may have something to read.
     pub fn wake(&mut self, tokens: &[usize]) {
         for token in tokens {
             self.wake_one(*token);
@@ -65,10 +65,12 @@ impl Links {
         }
     }
 
-    /// Lets in who waits, or connects what is lost and due. Whether a connection to the hub began.
+    /// At a hub, accepts the connections that wait. At a leaf, begins to connect to the hub that `settings` name, if
+    /// the connection is lost and an attempt is due at second `now`. `registry` watches the connections. Returns
+    /// whether a connection to the hub began.
     ///
     /// # Errors
-    /// `NoMemory` where a growth is refused: at a hub alone.
+    /// `NoMemory` if an allocation fails: only at a hub.
     pub fn connect<R: AllocGlobal + Net + Print + RandomSource>(
         &mut self,
         rt: &R,
@@ -92,10 +94,10 @@ impl Links {
         }
     }
 
-    /// Hears each. Whether there may be more at once.
+    /// Reads from each connection at second `now`. Returns whether there may be more at once.
     ///
     /// # Errors
-    /// `NoMemory` where a growth is refused: never for a bot that is alone, nor where nobody is connected.
+    /// `NoMemory` if an allocation fails: never for a bot that is alone, nor if nobody is connected.
     pub fn read<R: AllocGlobal + Print>(&mut self, rt: &R, now: u64) -> Result<bool, NoMemory>
         ensures memory { IfErr result (λ _. Hears self.old) }
     {
@@ -106,10 +108,10 @@ impl Links {
         }
     }
 
-    /// The packets of one turn.
+    /// Returns the packets of one turn.
     ///
     /// # Errors
-    /// `NoMemory` where room for them is refused: never for a bot that is alone.
+    /// `NoMemory` if an allocation fails: never for a bot that is alone.
     pub fn take_packets(&mut self, alloc: Global) -> Result<Vec<Packet>, NoMemory>
         ensures good { IfOk result (λ packets. AllByRecursion HasGoodRecords packets.items) }
         ensures takes { IfOk result (λ packets. TakesPackets self.old packets.items self.new) }
@@ -122,7 +124,8 @@ impl Links {
         }
     }
 
-    /// Whether a pump is due at this second: always at a hub, and at a leaf where it is to say hello.
+    /// Whether a pump is due at second `now`: at a leaf if it is linked and is to say hello, and always at any other
+    /// bot.
     pub fn is_pump_due(&self, now: u64) -> bool {
         match self {
             Links::Alone | Links::Hub(_) => true,
@@ -138,10 +141,11 @@ impl Links {
         }
     }
 
-    /// Leaves a packet for who is to have it. Where that one is not linked, the packet is lost.
+    /// Queues the packet of `outgoing` for its recipient. If the recipient is not linked, the packet is lost.
+    /// A leaf's hello counts as said at second `now`.
     ///
     /// # Errors
-    /// `NoMemory` where a growth is refused: never where that one is not linked, nor where the packet has no frame.
+    /// `NoMemory` if an allocation fails: never if the recipient is not linked, nor if the packet has no frame.
     pub fn tell(&mut self, alloc: Global, outgoing: &Outgoing, now: u64) -> Result<(), NoMemory>
         requires good { HasGoodRecords outgoing.now.packet }
         ensures memory { OnErr result (Reaches outgoing.now.to self.old) }
@@ -155,7 +159,7 @@ impl Links {
         }
     }
 
-    /// Something was asked at this bot.
+    /// Notes that something was asked at this bot.
     pub fn ask(&mut self)
         ensures { pumps_of self.new ≡ option_map asked (pumps_of self.old) }
     {
@@ -164,7 +168,8 @@ impl Links {
         }
     }
 
-    /// What a step of the link notes, for when a leaf is to say hello, and whether more changes wait than are out.
+    /// Passes the `note` of a step of the link to a leaf, which decides from it when to say hello. `more` says whether
+    /// more changes wait than are out.
     pub fn note(&mut self, note: &Note, more: bool)
         ensures { pumps_of self.new ≡ option_map (noted note.now more) (pumps_of self.old) }
     {
@@ -173,7 +178,7 @@ impl Links {
         }
     }
 
-    /// Offers each what is unsent. Whether one took a byte.
+    /// Offers each connection its unsent bytes. Returns whether one took a byte.
     pub fn send(&mut self) -> bool {
         match self {
             Links::Alone => false,
@@ -182,7 +187,7 @@ impl Links {
         }
     }
 
-    /// Lets each go whose connection is over.
+    /// Closes each connection that is over, at second `now`.
     pub fn let_go<R: Print>(&mut self, rt: &R, now: u64)
         requires moment { now < MOMENTS_END }
     {
@@ -193,8 +198,8 @@ impl Links {
         }
     }
 
-    /// The number of the hub's net that a leaf is to keep before it goes on, if there is one. Then [`Links::keep`] is
-    /// to be called.
+    /// Returns the number of the hub's net that a leaf has to save before it goes on, if there is one. Save it, and
+    /// then call [`Links::keep`].
     pub fn to_keep(&self) -> Option<NetNumber> {
         match self {
             Links::Alone | Links::Hub(_) => None,
@@ -202,7 +207,7 @@ impl Links {
         }
     }
 
-    /// The number of the hub's net is kept.
+    /// Notes that `net`, the number of the hub's net, is saved. The hub is linked at second `now`.
     pub fn keep<R: Print>(&mut self, rt: &R, net: NetNumber, now: u64) {
         match self {
             Links::Alone | Links::Hub(_) => {}

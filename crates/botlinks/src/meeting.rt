@@ -14,12 +14,12 @@ use linkframes::{FrameReader, frame_of};
 use sharewire::Packet;
 use std::alloc::Global;
 
-// How far a connection to the hub is.
+// The stage of a connection to the hub.
 #[derive(Clone, Copy)]
 pub(crate) enum Stage {
     // The hub has still to show its code.
     Meets,
-    // It has shown it, and is of this net.
+    // The hub has shown its code, and belongs to this net.
     Knows(NetNumber),
     // Packets go both ways.
     Linked,
@@ -31,11 +31,11 @@ pub(crate) struct Hub {
     side: LeafSide,
     reader: FrameReader,
     pub(crate) stage: Stage,
-    // The second at which it began.
+    // The second at which the connection began.
     began: u64,
 }
 
-// By hand, so that this is proved once, and not in each function in which one ends.
+// Written by hand, so that the drop is proved once, and not in each function that drops one.
 impl Drop for Hub {
     fn drop(self) {
         let Hub {
@@ -49,7 +49,7 @@ impl Drop for Hub {
 }
 
 impl Hub {
-    // A connection that begins at this second. Takes no memory.
+    // A connection that begins at second `now`. Allocates nothing.
     pub(crate) fn new(alloc: Global, wire: LinkWire, side: LeafSide, now: u64) -> Hub {
         Hub {
             wire,
@@ -60,7 +60,7 @@ impl Hub {
         }
     }
 
-    // Hears the hub before its first frame, and answers it. Whether a byte came.
+    // Reads from the hub before its first frame, and answers it. Returns whether a byte arrived.
     pub(crate) fn meet(&mut self, now: u64) -> Result<bool, NoMemory> {
         let came = self.wire.read()?;
         for _line in 0..2 {
@@ -71,7 +71,7 @@ impl Hub {
         Ok(came)
     }
 
-    // Hears a line of the hub's. Whether there may be another.
+    // Reads a line of the hub's. Returns whether there may be another.
     fn meet_line(&mut self, now: u64) -> Result<bool, NoMemory> {
         match self.side.hear(self.wire.heard()) {
             LeafHears::More => {
@@ -97,7 +97,7 @@ impl Hub {
         }
     }
 
-    // Hears a piece. The packets that are whole now. Bytes that are no frames end the connection.
+    // Reads a piece, and returns the packets that are whole now. Bytes that are no frames end the connection.
     pub(crate) fn hear(&mut self, alloc: Global) -> Result<Vec<Packet>, NoMemory>
         ensures good { IfOk result (λ packets. AllByRecursion HasGoodRecords packets.items) }
     {
@@ -113,12 +113,12 @@ impl Hub {
         Ok(feed.packets.into_vec())
     }
 
-    // Whether it may have more at once.
+    // Whether the hub may have more to read at once.
     pub(crate) fn is_busy(&self) -> bool {
         self.wire.may_give() && self.wire.gone().is_none()
     }
 
-    // Leaves a packet for the hub, as its frame, where packets go. One that has no frame is lost.
+    // Queues a packet for the hub, as its frame, if the hub is linked. A packet that has no frame is lost.
     pub(crate) fn tell(&mut self, alloc: Global, packet: &Packet) -> Result<(), NoMemory>
         requires good { HasGoodRecords packet.now }
         ensures memory { OnErr result (self.old.stage ≡ Linked) }

@@ -4,30 +4,36 @@ ghost use Rattle.botlinks.specs.Hellos.{answered, applied, asked, begun, noted, 
 
 use linkcalls::{HELLO_CHANGES, Note};
 
-/// How long a leaf that has nothing to ask waits for its next hello, in seconds.
+/// A leaf that has nothing to ask waits this many seconds for its next hello.
 pub const REST: u64 = 30;
 
-/// How long it waits for what its hub answers to a request, in seconds.
+/// A leaf waits this many seconds for its hub's answer to a request.
 pub const AGAIN: u64 = 5;
 
-/// When a leaf is to say hello to its hub: when it is linked, or something is asked; when a request was answered; at once
-/// where a new one went out and more changes wait, and 5 seconds after any other that went out; when it has applied 16
-/// changes since the last hello, which are all that a hub answers to one; when a change came too early; and else each 30
-/// seconds. But where its last hello came to something it says one a second at most.
+/// When a leaf is to say hello to its hub:
+///
+/// - at once when it is linked, when a request was answered, when it has put the hub's records in place, when a new
+///   request was sent and more changes wait, and when it has applied 16 changes since its last hello, which are all
+///   that a hub sends in answer to one hello;
+/// - a second after its last hello when something is asked, or a change came too early;
+/// - 5 seconds after its last hello when any other request was sent with it;
+/// - otherwise 30 seconds after its last hello.
+///
+/// So a leaf says hello at most once a second, except after a hello that led to something.
 #[derive(Clone, Copy)]
 pub struct Pumps {
-    /// The second at which the next is due.
+    /// The second at which the next hello is due.
     pub due: u64,
-    /// The second of the last one.
+    /// The second of the last hello.
     pub last: u64,
-    /// The version that the last one told.
+    /// The version in the last hello.
     pub version: u32,
-    /// The number of the newest request that went out, 0 before any.
+    /// The number of the newest request that was sent, 0 before any.
     pub request: u32,
 }
 
 impl Pumps {
-    /// None was said: the first is due at once.
+    /// Starts without any hello said: the first is due at once.
     pub fn new() -> Pumps
         ensures { result ≡ begun }
     {
@@ -39,14 +45,14 @@ impl Pumps {
         }
     }
 
-    /// Whether one is due at this second.
+    /// Whether a hello is due at second `now`.
     pub fn is_due(self, now: u64) -> bool
         ensures { IsTrue result ↔ (self.due ≤ now) }
     {
         self.due <= now
     }
 
-    /// One was said at this second, which told this version.
+    /// Notes that the leaf said hello with `version` at second `now`.
     pub fn say(&mut self, version: u32, now: u64)
         ensures { self.new ≡ said version now self.old }
     {
@@ -58,7 +64,8 @@ impl Pumps {
         };
     }
 
-    /// With it requests went out, the newest of this number, and more changes wait or none does.
+    /// Notes that requests were sent with the hello, the newest numbered `request`. `more` says whether more changes
+    /// wait.
     pub fn send(&mut self, request: u32, more: bool)
         ensures { self.new ≡ sent request more self.old }
     {
@@ -70,21 +77,22 @@ impl Pumps {
         self.request = request;
     }
 
-    /// Something is asked, or a change came too early: the next is due a second after the last.
+    /// Notes that something is asked, or that a change came too early: the next hello is due a second after the last.
     pub fn ask(&mut self)
         ensures { self.new ≡ asked self.old }
     {
         self.due = self.due.min(self.last.saturating_add(1));
     }
 
-    /// The connection begins, the last one came to something, or a request was answered: the next is due at once.
+    /// Notes that the connection begins, that the last hello led to something, or that a request was answered: the
+    /// next hello is due at once.
     pub fn go_on(&mut self)
         ensures { self.new ≡ answered self.old }
     {
         self.due = 0;
     }
 
-    /// The leaf is at this version now.
+    /// Notes that the leaf is at `version` now.
     pub fn apply(&mut self, version: u32)
         ensures { self.new ≡ applied version self.old }
     {
@@ -93,7 +101,7 @@ impl Pumps {
         }
     }
 
-    /// What a leaf's step notes means for its hellos, and whether more changes wait than are out.
+    /// Notes what the `note` of a leaf's step means for its hellos. `more` says whether more changes wait than are out.
     pub fn note(&mut self, note: &Note, more: bool)
         ensures { self.new ≡ noted note.now more self.old }
     {

@@ -1,4 +1,4 @@
-// A leaf that is linked to the hub.
+// A linked leaf of the hub.
 ghost use Rattle.std.specs.Prelude.{◌≡◌, true, IfOk, IsSome, OnOk, OnErr};
 ghost use Rattle.std.specs.List.{AllByRecursion, list_all};
 ghost use Rattle.sharewire.specs.Frames.{CanBeWritten};
@@ -14,18 +14,18 @@ use linkframes::{FrameReader, frame_of};
 use sharewire::Packet;
 use std::alloc::Global;
 
-// A leaf that is linked.
+// A linked leaf.
 pub(crate) struct Seat {
     pub(crate) wire: LinkWire,
     reader: FrameReader,
     leaf: u16,
-    // The version of its last hello.
+    // The version in its last hello.
     pub(crate) version: u32,
     // Which of the hub's tokens names it.
     pub(crate) slot: usize,
 }
 
-// By hand, so that this is proved once, and not in each function in which a seat is left.
+// Written by hand, so that the drop is proved once, and not in each function that drops one.
 impl Drop for Seat {
     fn drop(self) {
         let Seat {
@@ -39,7 +39,7 @@ impl Drop for Seat {
 }
 
 impl Seat {
-    // A leaf that has shown its code on this connection. Takes no memory.
+    // A leaf that has shown its code on this connection. Allocates nothing.
     pub(crate) fn new(alloc: Global, wire: LinkWire, leaf: u16, slot: usize) -> Seat {
         Seat {
             wire,
@@ -50,8 +50,8 @@ impl Seat {
         }
     }
 
-    // Hears a piece, unless too much waits for it. The packets that are whole now. Bytes that are no frames, and a
-    // packet that this leaf does not say, end the connection; then there are none.
+    // Reads a piece, unless too much is unsent, and returns the packets that are whole now. Bytes that are no frames,
+    // or a packet that this leaf may not send, end the connection; after such a packet it returns none.
     pub(crate) fn hear(&mut self, alloc: Global) -> Result<Vec<Packet>, NoMemory>
         ensures good { IfOk result (λ packets. AllByRecursion HasGoodRecords packets.items) }
         // A leaf speaks for itself alone.
@@ -77,7 +77,7 @@ impl Seat {
         Ok(feed.packets.into_vec())
     }
 
-    // Whether it may have more at once.
+    // Whether the leaf may have more to read at once.
     pub(crate) fn is_busy(&self) -> bool {
         self.wire.may_give() && !self.wire.is_slow() && self.wire.gone().is_none()
     }
@@ -91,7 +91,7 @@ impl Seat {
         }
     }
 
-    // Leaves a packet for it, as its frame. One that has no frame is lost.
+    // Queues a packet for the leaf, as its frame. A packet that has no frame is lost.
     pub(crate) fn tell(&mut self, alloc: Global, packet: &Packet) -> Result<(), NoMemory>
         requires good { HasGoodRecords packet.now }
         ensures frame { OnErr result (CanBeWritten packet.now) }
@@ -104,7 +104,7 @@ impl Seat {
     }
 }
 
-// Leaves a packet for the leaf that has a place, if one has.
+// Queues a packet for the leaf in a place, if there is one.
 pub(crate) fn tell_place(
     alloc: Global,
     place: &mut Option<Seat>,
@@ -121,7 +121,7 @@ pub(crate) fn tell_place(
     }
 }
 
-// Whether all of these name this leaf as the one that says them.
+// Whether all packets name this leaf as their sender.
 fn are_said_by(packets: &[Packet], leaf: u16) -> bool
     ensures { result ≡ list_all (is_own leaf) packets.now }
 {

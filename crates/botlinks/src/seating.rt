@@ -1,4 +1,4 @@
-// How the hub hears its leaves, and who takes which seat.
+// How the hub reads from its leaves, and which leaf takes which seat.
 ghost use Rattle.std.specs.Prelude.{◌≡◌, IsTrue, OnErr, is_some};
 ghost use Rattle.std.specs.List.{list_any};
 ghost use Rattle.botlinks.specs.Linked.{has_somebody};
@@ -13,10 +13,11 @@ use bytetext::NoMemory;
 use std::alloc::Global;
 
 impl HubLinks {
-    /// Hears each that may have something to give. Whether there may be more at once.
+    /// Reads from each connection that may have something to read, at second `now`. Returns whether there may be more
+    /// at once.
     ///
     /// # Errors
-    /// `NoMemory` where a growth is refused: never where nobody is connected.
+    /// `NoMemory` if an allocation fails: never if nobody is connected.
     pub fn read<R: AllocGlobal + Print>(&mut self, rt: &R, now: u64) -> Result<bool, NoMemory>
         ensures memory { OnErr result (IsTrue (has_somebody self.old)) }
     {
@@ -35,11 +36,11 @@ impl HubLinks {
         !self.guests.is_empty() || is_any_taken(self.seats.as_slice())
     }
 
-    // Hears each guest. Whether one has said anything.
+    // Reads from each guest. Returns whether one has sent anything.
     fn heed_guests<R: AllocGlobal + Print>(&mut self, rt: &R, now: u64) -> Result<bool, NoMemory> {
         let mut came = false;
         for back in 0..self.guests.len() {
-            // From the last on, since one that joins or goes leaves the others before it in their places.
+            // From the last one on, since a guest that joins or goes leaves those before it in their places.
             let place = self.guests.len().saturating_sub(back + 1);
             if self.heed_guest(rt, place, now)? {
                 came = true;
@@ -70,7 +71,7 @@ impl HubLinks {
         }
     }
 
-    // The guest at a place is this leaf, and takes its seat. Who has it goes.
+    // Gives the guest at `place` the seat of `leaf`. A leaf that has that seat is disconnected.
     fn seat<R: AllocGlobal + Print>(&mut self, rt: &R, place: usize, leaf: u16, now: u64) {
         if place >= self.guests.len() {
             return;
@@ -84,7 +85,7 @@ impl HubLinks {
         }
     }
 
-    // Lets a leaf go, if it is there, and forgets what waits of it.
+    // Disconnects `leaf`, if it is linked, and drops its queued packets.
     fn unseat<R: Print>(&mut self, rt: &R, leaf: u16, gone: Gone, now: u64) {
         let Some(place) = self.seats.get_mut(usize::from(leaf)) else {
             return;
@@ -99,7 +100,7 @@ impl HubLinks {
         log(rt, now, &Entry::LeafGone(leaf, gone));
     }
 
-    // Hears each leaf of which no packets wait. Whether one may have more at once.
+    // Reads from each leaf that has no queued packets. Returns whether one may have more at once.
     fn hear_leaves(&mut self, alloc: Global) -> Result<bool, NoMemory> {
         let mut came = false;
         for leaf in 1..self.seats.len() {
@@ -123,7 +124,7 @@ impl HubLinks {
         Ok(busy)
     }
 
-    /// Lets each leaf go whose connection is over.
+    /// Disconnects each leaf whose connection is over, at second `now`.
     pub fn let_go<R: Print>(&mut self, rt: &R, now: u64) {
         for leaf in 1..self.leaves.saturating_add(1) {
             if let Some(gone) = self.gone_of(usize::from(leaf)) {
@@ -132,7 +133,7 @@ impl HubLinks {
         }
     }
 
-    // Why a leaf is to be let go, if it is there and is to be.
+    // Why a leaf is to be disconnected, if it is linked and its connection is over.
     fn gone_of(&self, leaf: usize) -> Option<Gone> {
         match self.seats.get(leaf) {
             Some(Some(seat)) => seat.wire.gone(),
@@ -141,7 +142,7 @@ impl HubLinks {
     }
 }
 
-// Whether a leaf is linked.
+// Whether any leaf is linked.
 fn is_any_taken(seats: &[Option<Seat>]) -> bool
     ensures { result ≡ list_any is_some seats.now }
 {

@@ -1,4 +1,4 @@
-// How a bot's connections to the others are, as lines.
+// The state of a bot's connections to the others, as lines.
 ghost use Rattle.std.specs.Prelude.{◌≢◌, OnErr};
 ghost use Rattle.botlinks.specs.declared.links.Links.TheVariants.{Alone};
 
@@ -9,11 +9,12 @@ use crate::seat::Seat;
 use bytetext::NoMemory;
 use itoa::Buffer;
 
-/// Puts the lines that tell who is linked after a text: at a hub how many leaves are, and each of them with the version
-/// of its last hello and how many bytes wait for it; at a leaf whether the hub is, or when the next try is.
+/// Appends to `text` the lines that say which bots of `links` are linked. At a hub they say how many leaves are linked,
+/// and for each of them the version in its last hello and the number of unsent bytes. At a leaf they say whether the
+/// hub is linked, or when the next attempt to connect is due.
 ///
 /// # Errors
-/// `NoMemory` where room is refused: never for a bot that is alone.
+/// `NoMemory` if an allocation fails: never for a bot that is alone.
 pub fn put_status(text: &mut Vec<u8>, links: &Links) -> Result<(), NoMemory>
     ensures memory { OnErr result (links.now ≢ Alone) }
 {

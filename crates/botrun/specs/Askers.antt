@@ -1,5 +1,5 @@
--- Who has asked for the changes that wait at a bot or are out, the oldest first: an operator, a person by whose words a proc
--- asked, or nobody who waits for an answer.
+-- Who asked for the changes that wait at a bot or are out, the oldest first: an operator, a person whose words made a
+-- proc ask, or nobody who waits for an answer.
 use Rattle.std.specs.Prelude.{ℕ, Bool, true, false, ◌||◌, ◌&&◌, ◌-◌, ◌^◌, ◌==◌, min, List, [], ◌∷◌, ◌++◌, Option, None, Some}
 use Rattle.std.specs.Prelude.{drop, count_by, sum_by, replicate, if◌then◌else◌}
 use Rattle.std.specs.List.{flat_map}
@@ -30,7 +30,7 @@ use Rattle.botrun.specs.declared.outcome.Outcome.{Outcome}
 use Rattle.botrun.specs.declared.outcome.Outcome.TheVariants.{Nothing, Accepted, Refused, Barred}
 use Rattle.botrun.specs.Outcomes.{told_by}
 
--- who has asked first
+-- who asked first
 abbrev pub first_asker : List Asker → Asker
 first_asker [] = Nobody
 first_asker (asker ∷ askers) = asker
@@ -40,12 +40,12 @@ is_operator number Nobody = false
 is_operator number (Operator other) = other == number
 is_operator number (Person nick) = false
 
--- the operator whose command is done, if one is
+-- the operator whose command is being executed, if there is one
 abbrev pub operator_if : Option ℕ → Asker
 operator_if None = Nobody
 operator_if (Some number) = Operator number
 
--- ---- what procs have asked for
+-- ---- what procs asked for
 
 abbrev pub is_ask : Action → Bool
 is_ask (Ask change) = true
@@ -58,7 +58,7 @@ is_ask (Put wish) = false
 abbrev pub asks_of : MadeCall → ℕ
 asks_of call = count_by is_ask call.reply.actions
 
--- the link refuses a change by this, and not a text
+-- the link refuses a change, and not a text, with this fault
 abbrev pub is_ask_fault : LinkFault → Bool
 is_ask_fault refuses.Down = false
 is_ask_fault refuses.OtherLayout = false
@@ -84,11 +84,11 @@ is_refused_ask (by_line fault) = false
 abbrev pub at_most_usize : ℕ → ℕ
 at_most_usize count = min count (2 ^ 64 - 1)
 
--- as many as they have asked for, without those that the link has refused
+-- the number of changes that procs asked for, without those that the link refused
 abbrev pub asked_by_procs : Report → ℕ
 asked_by_procs report = at_most_usize (sum_by asks_of report.calls) - count_by is_refused_ask report.faults
 
--- the kinds of calls that are made for words that somebody said, whose nick comes first
+-- the kinds of calls that are made for words that somebody said; that person's nick comes first
 abbrev pub is_spoken : Kind → Bool
 is_spoken Msg = true
 is_spoken Msgm = true
@@ -108,7 +108,7 @@ is_spoken Time = false
 is_spoken Cron = false
 is_spoken timer_kind = false
 
--- who waits for what a call asks for
+-- who waits for the answer to what a call asks for
 abbrev pub asker_by : Bool → List (List ℕ) → Asker
 asker_by spoken [] = Nobody
 asker_by spoken (nick ∷ args) = if spoken then Person nick else Nobody
@@ -116,11 +116,12 @@ asker_by spoken (nick ∷ args) = if spoken then Person nick else Nobody
 abbrev pub asker_in : Call → Asker
 asker_in call = asker_by (is_spoken call.kind) call.args
 
--- one for each change that it asks for
+-- one asker for each change that the call asks for
 abbrev pub askers_of : MadeCall → List Asker
 askers_of made = replicate (asks_of made) (asker_in made.call)
 
--- Those whose changes the link took. Where it took not all, which it took is not known, and nobody waits for an answer.
+-- The askers of the changes that the link took. If the link did not take all, it is unknown which ones it took, and
+-- nobody waits for an answer.
 abbrev pub proc_askers : Report → List Asker
 proc_askers report =
     if count_by is_refused_ask report.faults == 0 then flat_map askers_of report.calls else replicate (asked_by_procs report) Nobody
@@ -139,9 +140,9 @@ asks_hub (wire.BotText from to text) = false
 abbrev pub is_request : Outgoing → Bool
 is_request outgoing = asks_hub outgoing.packet
 
--- ---- what a step tells
+-- ---- what a step says
 
--- a change waits that this one has asked for
+-- a change waits that this operator, or nobody, asked for
 abbrev pub queued : Option ℕ → LinkNote → List Asker → List Asker
 queued asker says.Queued askers = askers ++ operator_if asker ∷ []
 queued asker says.Idle askers = askers
@@ -169,15 +170,15 @@ noted asker (Some (Bound n)) askers = askers
 noted asker (Some (Unbound n)) askers = askers
 noted asker (Some (Bad fault)) askers = askers
 
--- the oldest is accepted or refused
+-- the oldest change is accepted or refused
 abbrev pub answered : Outcome → List Asker → List Asker
 answered Nothing askers = askers
 answered (Accepted n) askers = drop 1 askers
 answered (Refused fault) askers = drop 1 askers
 answered (Barred fault) askers = askers
 
--- Those of procs come first, then the one of the command that is being done; and where the step settles what waits, what was
--- answered goes.
+-- The askers of procs' changes come first, then that of the command that is being executed. If the step settles what
+-- waits, the asker of an answered change is removed.
 abbrev pub settled : Bool → Outcome → List Asker → List Asker
 settled true outcome askers = answered outcome askers
 settled false outcome askers = askers
@@ -185,8 +186,8 @@ settled false outcome askers = askers
 abbrev pub askers_after : Bool → Option ℕ → List Asker → Report → List Asker
 askers_after settles asker askers report = settled settles (told_by report) (noted asker report.note (askers ++ proc_askers report))
 
--- A leaf's changes are answered by any step. A hub's are by its pump, the last step of a turn that pumps, since it accepts
--- changes of its leaves in others.
+-- Any step of a leaf can answer its changes. A hub's changes are answered by its pump, the last step of a turn that
+-- pumps, since in the other steps the hub accepts changes of its leaves.
 abbrev pub is_last : List Report → Bool
 is_last [] = true
 is_last (report ∷ reports) = false

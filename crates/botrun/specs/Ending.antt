@@ -1,10 +1,10 @@
--- With which status a bot's process ends.
+-- The exit status of a bot's process.
 use Rattle.std.specs.Prelude.{ℕ}
 use Rattle.botrun.specs.declared.ending.RunError.{RunError}
 use Rattle.botrun.specs.declared.ending.RunError.TheVariants.{Account, NoServer, BindKind, BindProc, Bind, Config, Secret, NoNet, Listen, Folder, OtherJournal, GenerationsSpent, Control, DiskFailed, System, NoMemory}
 
--- 1 for what the configuration and the file of its secret say, and for a journal that is another bot's, lacks its net's
--- number or can't be written anew, 3 for what the machine refuses, 4 for memory
+-- 1 for the configuration, the file of its secret, and a journal that is another bot's, lacks its net's number or
+-- cannot be rewritten; 3 for what the machine refuses; 4 if out of memory
 abbrev pub status_of : RunError → ℕ
 status_of Account = 1
 status_of NoServer = 1

@@ -1,4 +1,4 @@
--- What came of a change that was asked for, by what a turn tells.
+-- The outcome of a change that was asked for, from what a turn says.
 use Rattle.std.specs.Prelude.{Bool, true, false, List, [], ◌∷◌, Option, Some, None, if◌then◌else◌}
 use Rattle.linkcalls.specs.declared.note.Note.{Note as LinkNote}
 use Rattle.linkcalls.specs.declared.error.LinkFault.{LinkFault}
@@ -14,7 +14,7 @@ use Rattle.botcore.specs.declared.report.Report.{Report}
 use Rattle.botrun.specs.declared.outcome.Outcome.{Outcome}
 use Rattle.botrun.specs.declared.outcome.Outcome.TheVariants.{Nothing, Accepted, Refused, Barred}
 
--- a change is accepted or refused by the userfile; nothing else that the link notes is the end of one
+-- the userfile accepts or rejects a change; no other note of the link ends a change
 abbrev pub of_note : LinkNote → Outcome
 of_note says.Queued = Nothing
 of_note says.Idle = Nothing
@@ -42,7 +42,7 @@ of_end (Some (Bound n)) = Nothing
 of_end (Some (Unbound n)) = Nothing
 of_end (Some (Bad fault)) = Nothing
 
--- the link refuses it; a hello of another layout is no change
+-- the link refuses the change; a hello of another layout is no change
 abbrev pub of_fault : LinkFault → Outcome
 of_fault refuses.Down = Barred refuses.Down
 of_fault (refuses.BadChange fault) = Barred (refuses.BadChange fault)
@@ -65,7 +65,7 @@ by_end Done told = of_end told
 by_end (ends_refused refusal) told = of_refusal refusal
 by_end NoMemory told = Nothing
 
--- what a step tells of a change
+-- what a step says about a change
 abbrev pub told_by : Report → Outcome
 told_by report = by_end report.end report.note
 
@@ -75,7 +75,7 @@ is_told (Accepted n) = true
 is_told (Refused fault) = true
 is_told (Barred fault) = true
 
--- the first of them that tells anything
+-- the first of them that says anything
 abbrev pub outcome_of : List Report → Outcome
 outcome_of [] = Nothing
 outcome_of (report ∷ reports) = if is_told (told_by report) then told_by report else outcome_of reports

@@ -1,4 +1,4 @@
--- What a server is told of a turn's steps.
+-- What a turn's steps send to a server.
 use Rattle.std.specs.Prelude.{ℕ, List, [], ◌∷◌, Option, option_map}
 use Rattle.botcore.specs.declared.report.Report.{Report}
 use Rattle.serverlink.specs.Told.{Talk}

@@ -4,11 +4,11 @@ use Rattle.settings.specs.declared.settings.Station.{Station}
 use Rattle.botlinks.specs.declared.links.Links.{Links}
 use Rattle.botlinks.specs.declared.links.Links.TheVariants.{Alone, Hub, Leaf}
 
--- a bot of several knows a secret, and one that is alone none
+-- a bot of a net of several knows a secret, and one that is alone knows none
 abbrev pub IsKnownWhereWanted : Station → Option (List ℕ) → Type 0
 IsKnownWhereWanted station key = MatchOption key (station.leaves ≡ 0) (λ known. 0 < station.leaves)
 
--- One without leaves is alone. Of a net of several, number 0 is the hub, and each other a leaf.
+-- A bot without leaves is alone. In a net of several, number 0 is the hub, and each other number a leaf.
 abbrev pub IsLinkedAs : Station → Links → Type 0
 IsLinkedAs station Alone = station.leaves ≡ 0
 IsLinkedAs station (Hub hub) = (0 < station.leaves) × (station.number ≡ 0)

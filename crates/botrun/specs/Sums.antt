@@ -1,4 +1,4 @@
--- When the log tells the sum of a bot's records.
+-- When the log shows the sum of a bot's records.
 use Rattle.std.specs.Prelude.{ℕ, Bool, false, ◌-◌, ◌==◌, ◌&&◌, ◌||◌, not, nat_le, Option, Some, None}
 use Rattle.botrun.specs.declared.sums.Sums.{Sums}
 use Rattle.botrun.specs.declared.sums.TheConstants.{APART}
@@ -13,6 +13,6 @@ abbrev pub is_told : Option ℕ → ℕ → Bool
 is_told (Some told) version = told == version
 is_told None version = false
 
--- The version is another than at the last time, and 5 seconds have passed since, or the bot ends.
+-- The version has changed since the last time, and either 5 seconds have passed since then, or the bot ends.
 abbrev pub is_due : Sums → ℕ → Bool → ℕ → Bool
 is_due sums version is_last now = not (is_told sums.version version) && (is_last || nat_le APART (now - sums.since))

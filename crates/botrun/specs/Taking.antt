@@ -1,4 +1,4 @@
--- A turn of a bot, and what it tells of changes.
+-- A turn of a bot, and what it says about changes.
 use Rattle.std.specs.Prelude.{◌≡◌, ℕ, Bool, List, Option}
 use Rattle.userfile.specs.declared.change.Change.{Change}
 use Rattle.procstore.specs.Promises.{Promised}
@@ -13,7 +13,8 @@ use Rattle.serverlink.specs.Told.{Talk}
 use Rattle.botrun.specs.Outcomes.{outcome_of}
 use Rattle.botrun.specs.Passing.{told_of}
 
--- A turn's steps lead from one bot to the other, and this is what they tell of changes; just their lines are told to the server.
+-- A turn's steps lead from one bot to the other, and say this about changes; only their lines are queued for the
+-- server.
 pub record TakesTurn (promised : Promised)
     (names : List (List ℕ)) (old : Bot) (held : List ℕ) (heard : Heard) (new : Bot) (after : List ℕ) (outcome : Outcome)
     (talk new_talk : Option Talk) : Type 0 where
@@ -22,7 +23,7 @@ pub record TakesTurn (promised : Promised)
   pub tells : outcome ≡ outcome_of told.reports
   pub server : new_talk ≡ told_of told.reports talk
 
--- The same of a turn in which these changes are asked for, with a pump after them or not.
+-- The same for a turn in which these changes are asked for, with a pump after them or not.
 pub record TakesChanges (promised : Promised)
     (names : List (List ℕ)) (old : Bot) (held : List ℕ) (changes : List Change) (pumps : Bool) (new : Bot) (after : List ℕ)
     (outcome : Outcome) (talk new_talk : Option Talk) : Type 0 where
@@ -31,7 +32,7 @@ pub record TakesChanges (promised : Promised)
   pub pumped : heard.pump ≡ pumps
   pub takes : TakesTurn promised names old held heard new after outcome talk new_talk
 
--- A turn of this bot hears just these bytes of its server, and the packets that are taken of these connections.
+-- A turn of this bot takes exactly these bytes from its server, and the packets that are taken from these connections.
 pub record Hears (promised : Promised) (names : List (List ℕ)) (old : Bot) (held bytes : List ℕ) (links : Links) : Type 0 where
   pub heard : Heard
   pub same : heard.bytes.items ≡ bytes

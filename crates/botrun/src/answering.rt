@@ -1,4 +1,4 @@
-// What a turn's reports mean for the other bots, and for who has asked for changes.
+// What a turn's reports mean for the other bots, and for those who asked for changes.
 ghost use Rattle.std.specs.Prelude.{◌≡◌, Bool, OnOk};
 ghost use Rattle.linkcalls.specs.Shapes.{AreGood};
 ghost use Rattle.turns.specs.Turns.{AllGood};
@@ -21,8 +21,8 @@ use serverlink::Uplink;
 use std::alloc::Global;
 
 impl Others {
-    // Leaves the packets of a turn's steps for the other bots, in order, and answers those whose changes were accepted or
-    // refused. `pumped` says whether the last step is a pump.
+    // Queues the packets of a turn's steps for the other bots, in order, and answers those whose changes were accepted
+    // or refused. `pumped` says whether the last step is a pump.
     pub(crate) fn pass_all<R: AllocGlobal + Print>(
         &mut self,
         rt: &R,
@@ -33,10 +33,10 @@ impl Others {
         now: u64,
     ) -> Result<(), NoMemory>
         requires good { AllGood reports.now }
-        // At a leaf or at a hub, the reports tell who still waits.
+        // At a leaf as at a hub, the reports determine who still waits.
         ensures asks { OnOk result ((leaf : Bool) × (self.new.asks.askers.items
             ≡ turn_askers leaf pumped self.old.asks.asker self.old.asks.askers.items reports.now)) }
-        // The server is told nothing.
+        // Nothing is queued on the connection to the server.
         ensures server { OnOk result (uplink.new.session ≡ uplink.old.session) }
     {
         let is_leaf = self.links.is_leaf();
@@ -50,7 +50,7 @@ impl Others {
         Ok(())
     }
 
-    // Leaves packets for the other bots.
+    // Queues packets for the other bots.
     fn pass(&mut self, alloc: Global, packets: &Outgoings, now: u64) -> Result<(), NoMemory>
         requires good { AreGood packets.now }
         ensures asks { self.new.asks ≡ self.old.asks }
@@ -61,7 +61,8 @@ impl Others {
         Ok(())
     }
 
-    // What a step tells of what is asked, and of what is answered where it settles that.
+    // Notes the changes that a step asked for. If the step `settles` changes, also answers the one that it accepted or
+    // refused.
     fn settle<R: AllocGlobal + Print>(
         &mut self,
         rt: &R,
@@ -94,8 +95,8 @@ impl Others {
         self.answer(rt.alloc(), operators, uplink, outcome)
     }
 
-    // A leaf's log tells of each change that is accepted or refused, and of what is refused at once where no operator's
-    // command asks for it, since that one is answered so. A hub's tells of those that it pumps.
+    // A leaf logs each change that is accepted or refused. It also logs what is refused at once, unless an operator's
+    // command asked for it, since that command's answer says so. A hub logs the changes that it pumps.
     fn log_answer<R: Print>(&self, rt: &R, outcome: Outcome, now: u64) {
         match outcome {
             Outcome::Nothing => {}
@@ -109,7 +110,7 @@ impl Others {
         }
     }
 
-    // Answers who has asked for the oldest change, where it is accepted or refused.
+    // Answers who asked for the oldest change, if that change is accepted or refused.
     fn answer(
         &mut self,
         alloc: Global,
@@ -136,7 +137,7 @@ impl Others {
     }
 }
 
-// The log tells of a leaf whose hello is refused since its journal has another layout.
+// Logs that a leaf's hello is refused since its journal has another layout.
 fn log_layout<R: Print>(rt: &R, end: End, now: u64) {
     match end {
         End::Refused(Refusal::Link(LinkFault::OtherLayout)) => log(rt, now, &Entry::OtherLayout),
@@ -144,8 +145,8 @@ fn log_layout<R: Print>(rt: &R, end: End, now: u64) {
     }
 }
 
-// What a leaf's link notes, for when it is to say hello, and for who has asked for what waits. Whether more changes wait
-// than are out is said too.
+// Handles a note of the link: a leaf decides from it when to say hello, and a change that was queued gets its asker.
+// `more` says whether more changes wait than are out.
 fn note_all(
     links: &mut Links,
     asks: &mut Asks,
@@ -166,7 +167,7 @@ fn note_all(
     Ok(())
 }
 
-// The operator whose command is done, if one is.
+// The operator whose command is being executed, if there is one.
 fn operator_if(asker: Option<u64>) -> Asker
     ensures { result ≡ operator_if asker }
 {

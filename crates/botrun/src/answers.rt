@@ -1,4 +1,4 @@
-// What an operator is answered.
+// The answers to an operator.
 use crate::checking::NoBind;
 use crate::ending::{KIND, PROC};
 use crate::outcome::Outcome;
@@ -8,7 +8,7 @@ use control::Advice;
 use std::alloc::Global;
 use std::fmt::Display;
 
-// What came of a change, as a line.
+// The outcome of a change, as a line.
 pub(crate) fn of_change(alloc: Global, outcome: Outcome) -> Result<Vec<u8>, NoMemory> {
     match outcome {
         Outcome::Nothing => Ok(Vec::from_slice(alloc, b"queued\n")?),
@@ -18,7 +18,7 @@ pub(crate) fn of_change(alloc: Global, outcome: Outcome) -> Result<Vec<u8>, NoMe
     }
 }
 
-// What came of a bind, or of taking one away, as a line.
+// The outcome of adding or removing a bind, as a line.
 pub(crate) fn of_bind(alloc: Global, report: &Report) -> Result<Vec<u8>, NoMemory> {
     match report.end {
         End::Done => of_bound(alloc, &report.note),
@@ -35,7 +35,7 @@ fn of_bound(alloc: Global, note: &Option<Note>) -> Result<Vec<u8>, NoMemory> {
     }
 }
 
-// There is no such bind to ask for.
+// Why a bind cannot be asked for, as a line.
 pub(crate) fn of_no_bind(alloc: Global, why: NoBind) -> Result<Vec<u8>, NoMemory> {
     match why {
         NoBind::Kind => fault(alloc, &KIND),
@@ -44,7 +44,7 @@ pub(crate) fn of_no_bind(alloc: Global, why: NoBind) -> Result<Vec<u8>, NoMemory
     }
 }
 
-// A command is not understood.
+// Why a command was not understood, as a line.
 pub(crate) fn of_advice(alloc: Global, advice: Advice) -> Result<Vec<u8>, NoMemory> {
     fault(alloc, &advice)
 }

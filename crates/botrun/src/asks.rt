@@ -1,4 +1,4 @@
-// Who has asked for the changes that wait at a bot.
+// Who asked for the changes that wait at a bot.
 ghost use Rattle.std.specs.Prelude.{◌≡◌, ◌∷◌, ◌++◌, [], IfOk, OnOk, drop, replicate, count_by, sum_by};
 ghost use Rattle.std.specs.List.{list_any, flat_map};
 ghost use Rattle.std.specs.VecDeque.{deque_len};
@@ -14,28 +14,28 @@ use procstore::{Action, Call, Kind};
 use std::alloc::Global;
 use std::collections::VecDeque;
 
-// Who has asked for a change.
+// Who asked for a change.
 #[derive(Drop)]
 pub(crate) enum Asker {
     // Nobody who waits for an answer.
     Nobody,
-    // The operator of this number.
+    // The operator with this number.
     Operator(u64),
-    // The person of this nick, by whose words a proc asked.
+    // The person with this nick, whose words made a proc ask.
     Person(Text),
 }
 
-// Who has asked for the changes that wait or are out, the oldest first. They are answered in this order: a leaf has all that
-// is out go by rising number, and a connection keeps the order of requests and of their answers.
+// Who asked for the changes that wait or are out, the oldest first. They are answered in this order: a leaf sends all
+// that is out by rising number, and a connection keeps the order of requests and of their answers.
 #[derive(Drop)]
 pub(crate) struct Asks {
     askers: VecDeque<Asker>,
-    // The operator whose command is being done, where the answer comes later.
+    // The operator whose command is being executed, if its answer comes later.
     pub(crate) asker: Option<u64>,
 }
 
 impl Asks {
-    // None. Takes no memory.
+    // Nobody has asked for anything yet. Allocates nothing.
     pub(crate) fn new(alloc: Global) -> Asks
         ensures { result.askers.items ≡ [] }
     {
@@ -45,21 +45,21 @@ impl Asks {
         }
     }
 
-    // How many wait or are out.
+    // The number of changes that wait or are out.
     pub(crate) fn len(&self) -> usize
         ensures { result ≡ deque_len self.now.askers }
     {
         self.askers.len()
     }
 
-    // Whether an operator has asked for one of them.
+    // Whether the operator numbered `number` asked for one of them.
     pub(crate) fn holds(&self, number: u64) -> bool
         ensures { result ≡ list_any (is_operator number) self.now.askers.items }
     {
         self.askers.iter().any(|asker| is_operator(asker, number))
     }
 
-    // Something is asked.
+    // Notes that `asker` asked for a change.
     pub(crate) fn put(&mut self, asker: Asker) -> Result<(), NoMemory>
         ensures last { OnOk result (self.new.askers.items ≡ self.old.askers.items ++ asker ∷ []) }
         ensures same { self.new.asker ≡ self.old.asker }
@@ -68,8 +68,8 @@ impl Asks {
         Ok(())
     }
 
-    // The procs of a step have asked for changes that the link took. Where it took not all, which of them it took is not
-    // known, and nobody waits for an answer.
+    // Notes that the procs of a step asked for changes that the link took. If the link did not take all, it is unknown
+    // which ones it took, and nobody waits for an answer.
     pub(crate) fn put_procs(&mut self, alloc: Global, report: &Report) -> Result<(), NoMemory>
         ensures last { OnOk result (self.new.askers.items ≡ self.old.askers.items ++ proc_askers report.now) }
         ensures same { self.new.asker ≡ self.old.asker }
@@ -80,7 +80,7 @@ impl Asks {
         self.put_callers(alloc, &report.calls)
     }
 
-    // So many changes are asked for, and nobody waits for an answer.
+    // Notes `count` changes for which nobody waits for an answer.
     pub(crate) fn put_many(&mut self, count: usize) -> Result<(), NoMemory>
         ensures last { OnOk result (self.new.askers.items ≡ self.old.askers.items ++ replicate count Nobody) }
         ensures same { self.new.asker ≡ self.old.asker }
@@ -91,7 +91,7 @@ impl Asks {
         Ok(())
     }
 
-    // Calls have asked for changes, each for whom it was made.
+    // Notes the changes that calls asked for, and the person who waits for each.
     fn put_callers(&mut self, alloc: Global, calls: &MadeCalls) -> Result<(), NoMemory>
         ensures last { OnOk result (self.new.askers.items ≡ self.old.askers.items ++ flat_map askers_of calls.now) }
         ensures same { self.new.asker ≡ self.old.asker }
@@ -112,7 +112,7 @@ impl Asks {
         Ok(())
     }
 
-    // The oldest is answered: who has asked for it.
+    // Removes the oldest change, which is answered, and returns who asked for it.
     pub(crate) fn settle(&mut self) -> Asker
         ensures first { result ≡ first_asker self.old.askers.items }
         ensures rest { self.new.askers.items ≡ drop 1 self.old.askers.items }
@@ -122,7 +122,7 @@ impl Asks {
     }
 }
 
-// Whether it is the operator of this number.
+// Whether the asker is the operator numbered `number`.
 fn is_operator(asker: &Asker, number: u64) -> bool
     ensures { result ≡ is_operator number asker.now }
 {
@@ -132,7 +132,7 @@ fn is_operator(asker: &Asker, number: u64) -> bool
     }
 }
 
-// Who waits for what a call asks for: the person whose words it was made for.
+// Who waits for the answer to what a call asks for: the person for whose words the call was made.
 fn asker_in(alloc: Global, call: &Call) -> Result<Asker, NoMemory>
     ensures { IfOk result (λ asker. asker ≡ asker_in call.now) }
 {
@@ -142,7 +142,8 @@ fn asker_in(alloc: Global, call: &Call) -> Result<Asker, NoMemory>
     }
 }
 
-// Whether a call of this kind is made for words that somebody said to the bot or on a channel, whose nick comes first.
+// Whether a call of this kind is made for words that somebody said to the bot or on a channel. That person's nick
+// comes first.
 fn is_spoken(kind: Kind) -> bool
     ensures { result ≡ is_spoken kind }
 {
@@ -164,14 +165,14 @@ fn is_spoken(kind: Kind) -> bool
     }
 }
 
-// For how many changes the procs of a step have asked that the link took.
+// The number of changes that the procs of a step asked for and the link took.
 fn asked_by_procs(report: &Report) -> usize
     ensures { result ≡ asked_by_procs report.now }
 {
     asks_in(&report.calls).saturating_sub(refused_in(&report.faults))
 }
 
-// For how many changes calls have asked.
+// The number of changes that calls asked for.
 fn asks_in(calls: &MadeCalls) -> usize
     ensures { result ≡ at_most_usize (sum_by asks_of calls.now) }
 {
@@ -182,7 +183,7 @@ fn asks_in(calls: &MadeCalls) -> usize
     count
 }
 
-// How many actions ask for a change.
+// The number of actions that ask for a change.
 fn asks_among(actions: &[Action]) -> usize
     ensures { result ≡ count_by is_ask actions.now }
 {
@@ -208,7 +209,7 @@ fn is_ask(action: &Action) -> bool
     }
 }
 
-// How many of them the link has refused.
+// The number of changes among these that the link refused.
 fn refused_in(faults: &Faults) -> usize
     ensures { result ≡ count_by is_refused_ask faults.now }
 {
@@ -219,7 +220,7 @@ fn refused_in(faults: &Faults) -> usize
         .count()
 }
 
-// Whether the link has refused a change that a proc asked for. Once it is down nothing is answered any more.
+// Whether the link refused a change that a proc asked for. Once the link is down, nothing is answered any more.
 fn is_refused_ask(fault: &Fault) -> bool
     ensures { result ≡ is_refused_ask fault.now }
 {
@@ -231,7 +232,7 @@ fn is_refused_ask(fault: &Fault) -> bool
     }
 }
 
-// Whether the link refuses a change by this, and not a text.
+// Whether the link refuses a change, and not a text, with this fault.
 fn is_ask_fault(fault: LinkFault) -> bool
     ensures { result ≡ is_ask_fault fault }
 {

@@ -1,31 +1,32 @@
-// When the journal is written anew.
+// When the journal is rewritten.
 ghost use Rattle.std.specs.Prelude.{◌≡◌};
 ghost use Rattle.botrun.specs.Bases.{begun, is_due, seen, written};
 
 use botlinks::REST;
 use upkeep::{A_BASE, is_base_due};
 
-// After so many changes the journal is written anew, though more come.
+// After this many changes the journal is rewritten even if more keep coming.
 const MOST: u32 = 10 * A_BASE;
 
-// When the journal was last written anew, and how long the bot has been at its version.
+// When the journal was last rewritten, and how long the bot has been at its version.
 //
-// A leaf that has not all changes before the hub's last base is sent all records at each hello, and not the 16 changes that
-// it lacks next. So the journal is written anew only once no change has come for 30 seconds: each leaf that is linked says
-// hello once in that time at least.
+// If a leaf lacks changes from before the hub's last base, the hub answers each of its hellos with all records, not
+// with the next 16 changes that the leaf lacks. So the journal is rewritten only after 30 seconds without a change,
+// unless very many have come: in that time each linked leaf says hello at least once.
 #[derive(Clone, Copy)]
 pub(crate) struct Bases {
-    // The version at which it was last written anew; 0 where that is not known.
+    // The version at which it was last rewritten; 0 if that is not known.
     base: u32,
-    // The version at the bot's start, or where it was written anew since.
+    // The version at the bot's start, or at which it was rewritten since.
     from: u32,
-    // The version at which the bot was last seen, and the second since which it is there; 0 where it was not seen yet.
+    // The version at which the bot was last seen, and the second at which it was first seen there; 0 if it was not
+    // seen yet.
     version: u32,
     since: u64,
 }
 
 impl Bases {
-    // Of a bot that starts at this version: its journal's base is not known.
+    // A bot starts at `version`: its journal's base is not known.
     pub(crate) fn new(version: u32) -> Bases
         ensures { result ≡ begun version }
     {
@@ -37,7 +38,7 @@ impl Bases {
         }
     }
 
-    // The bot is at this version at this second.
+    // Notes that the bot is at `version` at second `now`.
     pub(crate) fn see(&mut self, version: u32, now: u64)
         ensures { self.new ≡ seen version now self.old }
     {
@@ -48,7 +49,7 @@ impl Bases {
         self.since = now;
     }
 
-    // Whether the journal is to be written anew at this second, by what was seen.
+    // Whether the journal is to be rewritten at second `now`, from what was seen.
     pub(crate) fn is_due(self, now: u64) -> bool
         ensures { result ≡ is_due self now }
     {
@@ -57,7 +58,7 @@ impl Bases {
         is_base_due(self.base, self.version) && (is_quiet || is_long)
     }
 
-    // It is written anew at this version.
+    // Notes that the journal is rewritten at `version`.
     pub(crate) fn write(&mut self, version: u32)
         ensures { self.new ≡ written version self.old }
     {

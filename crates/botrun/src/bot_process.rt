@@ -30,16 +30,21 @@ use std::rt::Files;
 use std::time::Clock;
 use timeline::Timeline;
 
-// How many events one wait tells of.
+// The most events that one wait reports.
 const EVENTS: usize = 64;
 
-/// Runs the bot of these settings until an operator says that it is to end. Its binds call the procs of this store.
+/// Runs the bot of `settings` until an operator ends it. Its binds call the procs of `store`.
 ///
 /// # Errors
-/// What [`check`] answers, then `Secret`, before anything is opened. Then `Folder`, `System`, `Config`, `OtherJournal`,
-/// `GenerationsSpent`, `NoNet`, `Listen` and `Control` as they say, before anybody is connected or let in. Later
-/// `DiskFailed` and `System` as they say, and `Folder` where a leaf can't keep the number of its net. `NoMemory` at any
-/// time where a growth is refused. What was told as accepted was journaled before, at the hub.
+/// - Before anything is opened: the errors of [`check`], then `Secret`.
+/// - Before anybody is connected or let in: `Folder`, `System`, `Config`, `OtherJournal`, `GenerationsSpent`, `NoNet`,
+///   `Listen` and `Control`.
+/// - Later: `DiskFailed` and `System`, and `Folder` if a leaf cannot save the number of its net.
+/// - At any time: `NoMemory` if an allocation fails.
+///
+/// [`RunError`] describes them.
+///
+/// The hub journals a change before the process reports it as accepted.
 pub fn run<R, P: Promise, B: Run>(
     rt: &R,
     store: &ProcStore<P, B>,
@@ -60,7 +65,7 @@ where
     Ok(())
 }
 
-// What is waited for.
+// Creates the watch of the process's sockets.
 fn watch_of<R: AllocGlobal + Net>(rt: &R) -> Result<Watch, RunError> {
     match Watch::new(rt, EVENTS) {
         Ok(watch) => Ok(watch),
@@ -71,7 +76,7 @@ fn watch_of<R: AllocGlobal + Net>(rt: &R) -> Result<Watch, RunError> {
     }
 }
 
-// The process of the bot in a folder, which is connected to nobody yet.
+// Creates the process of the bot in a folder. It is not connected to anybody yet.
 fn begin<R>(
     rt: &R,
     watch: &Watch,
@@ -101,7 +106,7 @@ where
     })
 }
 
-// Where operators come in.
+// Opens the door for operators.
 fn door_of<R>(rt: &R, watch: &Watch, folder: &BotFolder) -> Result<Operators, RunError>
 where
     R: AllocGlobal + Net + Files<File = File>,
@@ -115,7 +120,7 @@ where
     }
 }
 
-// The changes of an earlier run that are out are answered before all that are asked for in this one.
+// Notes the changes of an earlier run that are out: they are answered before all that are asked for in this one.
 fn look_back<P: Promise, B: Run>(
     alloc: Global,
     process: &mut Process,
@@ -128,7 +133,7 @@ fn look_back<P: Promise, B: Run>(
     Ok(())
 }
 
-// Where a leaf has learned of which net it is, keeps that before it goes on.
+// If a leaf has just learned the number of its net, saves it before the leaf goes on.
 fn keep_new_net<R: AllocGlobal + Print + Files<File = File>>(
     rt: &R,
     folder: &BotFolder,
@@ -142,7 +147,7 @@ fn keep_new_net<R: AllocGlobal + Print + Files<File = File>>(
     Ok(())
 }
 
-// Makes turns until it is to end.
+// Makes turns until the process ends.
 fn go_on<R, P: Promise, B: Run>(
     rt: &R,
     watch: &mut Watch,
@@ -174,8 +179,8 @@ where
     Ok(())
 }
 
-// Waits until something may be done: not at all where there may be more at once, and at most until the next second. The
-// second then.
+// Waits until there may be something to do: not at all if there may be more at once, and at most until the next second.
+// Returns the second after the wait.
 fn wait<R: Clock>(
     rt: &R,
     watch: &mut Watch,
@@ -194,7 +199,7 @@ fn wait<R: Clock>(
     }
 }
 
-// How many milliseconds of this second are left, at least 1.
+// The milliseconds that are left of this second, at least 1.
 fn rest_of_second<R: Clock>(rt: &R) -> Result<u64, RunError> {
     match rt.since_1970() {
         Ok(since) => Ok(
@@ -206,7 +211,7 @@ fn rest_of_second<R: Clock>(rt: &R) -> Result<u64, RunError> {
     }
 }
 
-// The second that the clocks show.
+// Reads the second from the clocks.
 fn second<R: Clock>(rt: &R, timeline: &mut Timeline) -> Result<u64, RunError>
     ensures moment { IfOk result (λ now. now < MOMENTS_END) }
 {
@@ -216,7 +221,7 @@ fn second<R: Clock>(rt: &R, timeline: &mut Timeline) -> Result<u64, RunError>
     }
 }
 
-// No reading yet.
+// Starts a timeline without any reading of the second.
 fn timeline_of<R: Clock>(rt: &R) -> Result<Timeline, RunError> {
     match rt.monotonic() {
         Ok(monotonic) => Ok(Timeline::begin(monotonic.as_secs())),

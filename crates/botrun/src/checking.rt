@@ -1,4 +1,4 @@
-// What can be said of a configuration before anything is opened.
+// Checks a configuration before anything is opened.
 ghost use Rattle.std.specs.Prelude.{◌<◌, ◌≡◌, ◌≢◌, None, [], length, IfErr, OnOk};
 ghost use Rattle.botrun.specs.declared.checking.NoBind.TheVariants.{NoMemory as out_of_memory};
 ghost use Rattle.botrun.specs.declared.ending.RunError.TheVariants.{NoServer as no_server, Account as account, NoMemory as no_memory};
@@ -12,18 +12,19 @@ use procstore::{ProcStore, Promise, Run};
 use settings::{BindLine, BindWords, Settings};
 use std::alloc::Global;
 
-/// Whether a bot of these settings can run with these procs, as far as it can be said before anything is opened.
+/// Checks whether a bot with these `settings` can run with the procs of `store`, as far as that is known before
+/// anything is opened.
 ///
 /// # Errors
-/// `NoServer` and `Account` as they say; then the first bind that is refused, by `BindKind`, `BindProc` or
-/// `Bind`; `NoMemory` where a growth is refused: never where there is no bind.
+/// `NoServer` and `Account`, as [`RunError`] describes them; then the first bind that is rejected, as `BindKind`,
+/// `BindProc` or `Bind`; `NoMemory` if an allocation fails: never if there is no bind.
 pub fn check<P: Promise, B: Run>(
     alloc: Global,
     store: &ProcStore<P, B>,
     settings: &Settings,
 ) -> Result<(), RunError>
     ensures some { OnOk result (0 < length settings.now.servers) }
-    // It authenticates as nobody.
+    // The bot authenticates as nobody.
     ensures nobody { OnOk result (settings.now.account ≡ None) }
     ensures server { IfErr result (λ why. why ≡ no_server → settings.now.servers ≡ []) }
     ensures account { IfErr result (λ why. why ≡ account → settings.now.account ≢ None) }
@@ -42,7 +43,7 @@ pub fn check<P: Promise, B: Run>(
     Ok(())
 }
 
-// Makes a bind in a table.
+// Adds a bind to a table.
 fn check_bind<P: Promise, B: Run>(
     alloc: Global,
     store: &ProcStore<P, B>,
@@ -71,10 +72,10 @@ fn check_bind<P: Promise, B: Run>(
     }
 }
 
-// Why there is no such bind to ask for.
+// Why a bind cannot be asked for.
 #[derive(Clone, Copy)]
 pub(crate) enum NoBind {
-    // There is no such type.
+    // The type of bind is unknown.
     Kind,
     // The program lacks the proc.
     Proc,
@@ -89,7 +90,7 @@ impl From<NoMemory> for NoBind {
     }
 }
 
-// Why the bind of a line is none.
+// The error for a line whose bind cannot be asked for.
 pub(crate) fn of_line(line: u64, why: NoBind) -> RunError
     ensures { (result ≢ no_server) × (result ≢ account) }
 {
@@ -100,7 +101,7 @@ pub(crate) fn of_line(line: u64, why: NoBind) -> RunError
     }
 }
 
-// The bind of these words.
+// Parses these words as a bind.
 pub(crate) fn new_bind<P: Promise, B: Run>(
     alloc: Global,
     store: &ProcStore<P, B>,
@@ -120,7 +121,7 @@ pub(crate) fn new_bind<P: Promise, B: Run>(
     })
 }
 
-// The bind of these words, to be taken away.
+// Parses these words as a bind to remove.
 pub(crate) fn old_bind(words: UnbindWords) -> Result<OldBind, NoBind> {
     match BindKind::of_word(words.kind.as_bytes()) {
         Some(kind) => Ok(OldBind {

@@ -1,4 +1,4 @@
-// What a bot does for an operator, and what it answers.
+// What a bot does for an operator, and how it answers.
 ghost use Rattle.std.specs.Prelude.{◌<◌};
 ghost use Rattle.bytetext.specs.declared.moment.TheConstants.{MOMENTS_END};
 ghost use Rattle.botcore.specs.Steps.{IsGoodEvent};
@@ -20,7 +20,7 @@ use std::alloc::Global;
 use upkeep::MAX_LINE;
 use userfile::Change;
 
-// For how many seconds who has still to be told something is waited for at the end.
+// At the end, the process waits at most this many seconds for what is still unsent.
 const LAST_SECONDS: u64 = 2;
 
 impl Process {
@@ -49,7 +49,7 @@ impl Process {
         }
     }
 
-    // The version and the records, as a transcript has them.
+    // Returns the version and the records, as a transcript has them.
     pub(crate) fn show(&self, alloc: Global, settings: &Settings) -> Result<Vec<u8>, RunError> {
         let mut text = Vec::new(alloc);
         let version = Some(self.bot.version());
@@ -63,7 +63,7 @@ impl Process {
         Ok(text)
     }
 
-    // How the bot is.
+    // Returns the bot's state.
     pub(crate) fn status(&self, alloc: Global, settings: &Settings) -> Result<Vec<u8>, RunError> {
         Ok(status_of(alloc, self, settings)?)
     }
@@ -81,7 +81,7 @@ impl Process {
         }
     }
 
-    // Takes a bind away.
+    // Removes a bind.
     pub(crate) fn unbind<P: Promise, B: Run>(
         &mut self,
         alloc: Global,
@@ -106,7 +106,7 @@ impl Process {
         Ok(of_bind(alloc, &report)?)
     }
 
-    // Puts a line after those that wait for the server.
+    // Queues a line for the server, after the lines before it.
     pub(crate) fn say(&mut self, alloc: Global, line: Text) -> Result<Vec<u8>, RunError> {
         if self.uplink.session().is_none() {
             return Ok(Vec::from_slice(
@@ -121,7 +121,7 @@ impl Process {
         Ok(Vec::from_slice(alloc, b"said\n")?)
     }
 
-    // Leaves this server for the next.
+    // Disconnects from this server. The next one is tried after a wait.
     pub(crate) fn jump<R: AllocGlobal + Print>(
         &mut self,
         rt: &R,
@@ -143,7 +143,7 @@ impl Process {
         Ok(Vec::from_slice(rt.alloc(), b"jumping\n")?)
     }
 
-    // Is to end, and tells the server so.
+    // Marks the process to end, and queues a QUIT for the server.
     pub(crate) fn die<R: AllocGlobal + Print>(
         &mut self,
         rt: &R,
@@ -161,7 +161,7 @@ impl Process {
     }
 }
 
-// QUIT and a text, cut to what a line holds.
+// QUIT and a text, truncated to the length of a line.
 fn quit_line(alloc: Global, text: &[u8]) -> Result<Vec<u8>, NoMemory> {
     let mut line = Vec::from_slice(alloc, b"QUIT :")?;
     line.extend_from_slice(text)?;

@@ -1,4 +1,4 @@
-// Why a bot's process ends, and with which status.
+// Why a bot's process ends, and with which exit status.
 ghost use Rattle.std.specs.Prelude.{◌≡◌};
 ghost use Rattle.botrun.specs.Ending.{status_of};
 ghost use Rattle.botrun.specs.declared.ending.RunError.TheVariants.{NoMemory as no_memory};
@@ -16,59 +16,59 @@ use std::error::Error;
 use std::fmt;
 use std::fmt::Display;
 
-/// Why a bot's process does not run, or ends before it is told to. Each text goes on from its [`Subject`].
+/// Why a bot's process does not run, or ends before an operator ends it. Each text follows its [`Subject`].
 #[derive(Clone, Copy, Debug, PartialEq, Eq)]
 pub enum RunError {
-    /// It has a line `account`.
+    /// The configuration has a line `account`.
     Account,
-    /// It has no server.
+    /// The configuration has no line `server`.
     NoServer,
-    /// The bind of this line is of no type that there is.
+    /// The bind in this line has an unknown type.
     BindKind {
         /// The line's number, from 1.
         line: u64,
     },
-    /// The bind of this line calls a proc that the program lacks.
+    /// The bind in this line calls a proc that the program lacks.
     BindProc {
         /// The line's number, from 1.
         line: u64,
     },
-    /// The table of binds refuses the bind of this line.
+    /// The table of binds rejects the bind in this line.
     Bind {
         /// The line's number, from 1.
         line: u64,
-        /// Why.
+        /// The reason.
         fault: BindFault,
     },
     /// The configuration breaks a rule of bots.
     Config,
-    /// The folder can't be the bot's.
+    /// The folder cannot be used for the bot.
     Folder(FolderFault),
-    /// The file of the line `secret` has none.
+    /// The file of the line `secret` cannot be read, or holds no secret.
     Secret(SecretFault),
-    /// The folder holds a journal, and not the number of the bot's net.
+    /// The folder holds a journal, but not the number of the bot's net.
     NoNet,
-    /// The hub can't listen at its address.
+    /// The hub cannot listen at its address.
     Listen(DoorFault),
-    /// The folder holds another bot's journal, or none.
+    /// The folder holds another bot's journal, or none that can be read.
     OtherJournal,
-    /// The folder holds a journal of an older layout that can't be written anew, since its generations are used up.
+    /// The folder holds a journal of an older layout that cannot be rewritten, since its generations are used up.
     GenerationsSpent,
-    /// Nobody can be listened to at the socket for operators.
+    /// The process cannot listen at the socket for operators.
     Control(DoorFault),
-    /// A disk failed while the journal was written. Where one fails before, as it is made or opened, that is the
-    /// folder's fault `DiskFails`.
+    /// A disk failed while the journal was being written. If a disk fails earlier, while the journal is created or
+    /// opened, the error is the folder's fault `DiskFails`.
     DiskFailed {
-        /// The change that may count or not: one above the version.
+        /// The number of the change that may count or not: one above the version.
         change: u64,
     },
-    /// The system does not wait for sockets, tells no time, or draws no number for a net.
+    /// The system cannot wait for sockets, read the time, or draw a number for a net.
     System,
-    /// A growth was refused.
+    /// An allocation failed.
     NoMemory,
 }
 
-/// What a [`RunError`]'s text goes on from.
+/// What stands before the text of a [`RunError`].
 #[derive(Clone, Copy, Debug, PartialEq, Eq)]
 pub enum Subject {
     /// The name of the configuration file, a colon and a space.
@@ -82,9 +82,12 @@ pub enum Subject {
 }
 
 impl RunError {
-    /// The status with which a program ends: 1 for a configuration, the file of its secret, another bot's journal, one
-    /// without the number of its net, or one that can't be written anew, 3 for what the system, a folder, a socket or a
-    /// disk refuses, 4 for want of memory.
+    /// Returns the exit status of a program that ends with this error:
+    ///
+    /// - 1 for a configuration, the file of its secret, another bot's journal, a journal without the number of its
+    ///   net, or one that cannot be rewritten;
+    /// - 3 for what the system, a folder, a socket or a disk refuses;
+    /// - 4 if the program is out of memory.
     pub fn status(self) -> u8
         ensures { result ≡ status_of self }
     {
@@ -108,7 +111,7 @@ impl RunError {
         }
     }
 
-    /// What its text goes on from.
+    /// Returns what stands before the error's text.
     pub fn subject(self) -> Subject {
         match self {
             RunError::Account
@@ -172,11 +175,11 @@ impl Display for RunError {
 
 impl Error for RunError {}
 
-/// What to say instead of a bind of no type.
+/// The advice for a bind of an unknown type.
 pub(crate) const KIND: &str =
     "say a type of bind: raw, msg, msgm, notc, pub, pubm, join, part, sign, kick, nick, mode, topc, bot, time or cron";
 
-/// What to say instead of a bind of a proc that the program lacks.
+/// The advice for a bind of a proc that the program lacks.
 pub(crate) const PROC: &str = "say a proc that this program has";
 
 // The text of an error without parts; empty for the others.
@@ -230,7 +233,7 @@ impl<T: Drop> From<AllocFailed<T>> for RunError {
     }
 }
 
-// Why a folder is not the bot's.
+// The error for a folder that cannot be used for the bot.
 pub(crate) fn of_folder(error: FolderError) -> RunError {
     match error {
         Failure::Refused(fault) => RunError::Folder(fault),
@@ -238,7 +241,7 @@ pub(crate) fn of_folder(error: FolderError) -> RunError {
     }
 }
 
-// Why a bot was not made or found.
+// The error for a bot that could not be created or opened.
 pub(crate) fn of_bot(error: BotError) -> RunError {
     match error {
         Failure::Refused(BotFault::BadConfig) => RunError::Config,
@@ -247,7 +250,7 @@ pub(crate) fn of_bot(error: BotError) -> RunError {
     }
 }
 
-// What a journal's fault means. What a disk holds that failed while a journal was made or opened is not known.
+// The error for a journal's fault. If a disk failed while the journal was created or opened, what it holds is unknown.
 fn of_journal(fault: JournalFault) -> RunError {
     match fault {
         JournalFault::NotAJournal => RunError::OtherJournal,

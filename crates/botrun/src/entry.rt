@@ -1,9 +1,9 @@
-// What the log says, but of the server.
+// What the log says, except about the server.
 use serverlink::{Shown, put};
 use std::fmt;
 use std::fmt::Display;
 
-// An event that the log tells of.
+// An event that is logged.
 #[derive(Drop)]
 pub(crate) enum Entry<'a> {
     // The bot is up at this version.
@@ -12,17 +12,17 @@ pub(crate) enum Entry<'a> {
     Records(u32, &'a [u8]),
     // A proc's change was accepted under this number.
     Accepted(u32),
-    // A proc's change, the pump or a compaction was refused, by this code.
+    // A proc's change, the pump or a compaction was refused with this code.
     NotDone(&'static str),
-    // A step left something out: a word of it, and the proc that the program lacks, if that is why.
+    // A step left something out: a word for it, and the proc that the program lacks, if that is why.
     LeftOut(&'static str, &'a [u8]),
     // An operator asks for this.
     Asked(&'a [u8]),
-    // An operator that was silent is let go, since another waits.
+    // A silent operator is disconnected, since another one waits.
     GaveWay,
     // A leaf whose journal has another layout says hello.
     OtherLayout,
-    // The journal was written anew.
+    // The journal was rewritten.
     Compacted,
     // The bot ends.
     Ended,

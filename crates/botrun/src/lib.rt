@@ -1,21 +1,24 @@
-//! A bot as a process that runs until it is told to end: one that is alone, a hub with its leaves, or a leaf.
+//! A bot as a process that runs until an operator ends it: a bot that is alone, a hub with its leaves, or a leaf.
 //!
-//! [`run`] takes the bot's folder, finds or makes its journal, connects to the servers of its configuration in turn,
-//! and listens for operators at the socket `control` in the folder. Then it goes round: it waits for sockets, reads the
-//! clocks, connects what is lost and due, reads, has the bot take the turn, does up to 16 commands of each operator,
-//! writes, and lets go who is over. What the bot itself does is [`turns::take_turn`]'s, and a bind of an operator one step
-//! of it: nothing is decided here for it. The connection to its server, and what the process says there by itself, is
-//! [`serverlink`]'s; what an operator has it say, and what came of a change that a person had asked for, is put there.
+//! [`run`] takes the bot's folder, opens or creates its journal, connects to the servers of its configuration in turn,
+//! and listens for operators at the socket `control` in the folder. Then it makes turns. A turn waits for sockets,
+//! reads the clocks, connects what is lost and due, reads, has the bot take the turn, executes up to 16 commands of
+//! each operator, writes, and closes the connections that are over.
 //!
-//! A hub and its leaves are processes on any machines, connected over TCP ([`botlinks`]). A hub draws the number of its
-//! net where it is made, before its journal gets its name, and a leaf keeps it at its first handshake. A change that is
-//! asked for at a leaf is `queued`; once the hub has answered, the operator is told `accepted N` or `refused ..` on the
-//! same connection. Changes are answered in the order in which they were asked for, those of procs among them.
+//! [`turns::take_turn`] does what the bot itself does, and a bind of an operator is one step of it: nothing is decided
+//! here for the bot. [`serverlink`] keeps the connection to the server, and sends there what the process sends by
+//! itself. This crate queues there what an operator has it say, and the outcome of a change that a person asked for.
 //!
-//! The log goes to standard output, a line an event: seconds since 1970-01-01 UTC, and what happened. That it can't be
-//! written ends nothing. It tells the bot's version with the sum of its records ([`recordsum`]) as it begins, where the
-//! version has changed and 5 seconds have passed since the last time, and at its end: so the logs of two bots show whether
-//! their records were the same at each version that both tell of.
+//! A hub and its leaves are processes on any machines, connected over TCP ([`botlinks`]). A hub draws the number of
+//! its net when it is created, before its journal gets its name, and a leaf keeps that number at its first handshake.
+//! A change that an operator asks for at a leaf is `queued`; once the hub has answered, the leaf writes `accepted N`
+//! or `refused ..` to the operator on the same connection. Changes are answered in the order in which they were asked
+//! for, including those of procs.
+//!
+//! The log goes to standard output, one line for each event: seconds since 1970-01-01 UTC, and what happened. A log
+//! that cannot be written ends nothing. The log shows the bot's version with the sum of its records ([`recordsum`]) at
+//! the start, when the version has changed and 5 seconds have passed since the last time, and at the end. So the logs
+//! of two bots show whether their records were the same at each version that both logs show.
 //!
 //! ```text
 //! let settings = Settings::read(alloc, bytes)?;

@@ -1,4 +1,4 @@
-// Of which net a bot is, and how it is connected to the others.
+// Which net a bot belongs to, and how it is connected to the others.
 ghost use Rattle.std.specs.Prelude.{◌≡◌, ◌<◌, IfOk, count_by};
 ghost use Rattle.botrun.specs.Askers.{is_request};
 ghost use Rattle.botrun.specs.Stations.{IsKnownWhereWanted, IsLinkedAs};
@@ -22,7 +22,8 @@ use std::random::RandomSource;
 use std::rt::Files;
 use std::str;
 
-// A bot is made in this folder: a hub draws the number of its net, and a leaf forgets the one before.
+// Prepares the folder of a new bot: a bot with the number 0 draws the number of its net, and a leaf forgets an earlier
+// one.
 pub(crate) fn begin_net<R: AllocGlobal + Files<File = File> + RandomSource>(
     rt: &R,
     folder: &BotFolder,
@@ -40,7 +41,7 @@ pub(crate) fn begin_net<R: AllocGlobal + Files<File = File> + RandomSource>(
     }
 }
 
-// Keeps the number of the net.
+// Saves the number of the net.
 pub(crate) fn keep_net<R: AllocGlobal + Files<File = File>>(
     rt: &R,
     folder: &BotFolder,
@@ -52,7 +53,7 @@ pub(crate) fn keep_net<R: AllocGlobal + Files<File = File>>(
     }
 }
 
-// The number of the net that a bot keeps, if it keeps one.
+// Reads the number of the net that the folder keeps, if it keeps one.
 fn net_of<R: AllocGlobal + Files<File = File>>(
     rt: &R,
     folder: &BotFolder,
@@ -67,7 +68,7 @@ fn net_of<R: AllocGlobal + Files<File = File>>(
     }
 }
 
-// What both ends of a link know; none where the bot is alone.
+// Reads the secret that both ends of a link know; none if the bot is alone.
 pub(crate) fn secret_of<R: Files<File = File>>(
     rt: &R,
     settings: &Settings,
@@ -90,7 +91,7 @@ pub(crate) fn secret_of<R: Files<File = File>>(
     }
 }
 
-// A bot's connections to the others, to whom it is not connected yet. `version` is the one of its records.
+// Creates a bot's connections to the others. None is connected yet. `version` is the version of the bot's records.
 pub(crate) fn links_of<R: AllocGlobal + Net + Files<File = File>>(
     rt: &R,
     registry: &Registry,
@@ -100,7 +101,7 @@ pub(crate) fn links_of<R: AllocGlobal + Net + Files<File = File>>(
     version: u32,
 ) -> Result<Links, RunError>
     requires known { IsKnownWhereWanted settings.now.station key }
-    // It is alone, the hub or a leaf, as its number and the number of leaves say.
+    // The bot is alone, the hub or a leaf, as its number and the number of leaves say.
     ensures station { IfOk result (IsLinkedAs settings.now.station) }
 {
     let Some(key) = key else {
@@ -110,13 +111,13 @@ pub(crate) fn links_of<R: AllocGlobal + Net + Files<File = File>>(
     let number = settings.station.number;
     match net {
         Some(net) if number == 0 => open_hub(rt, registry, settings, key, net),
-        // The hub has one, and so has a leaf that holds what a hub has sent.
+        // A hub has a number of its net, and so has a leaf that holds records from a hub.
         None if number == 0 || version > 0 => Err(RunError::NoNet),
         Some(_) | None => Ok(Links::Leaf(LeafLink::new(rt.alloc(), number, key, net)?)),
     }
 }
 
-// The hub's connections.
+// Opens the hub's connections.
 fn open_hub<R: AllocGlobal + Net>(
     rt: &R,
     registry: &Registry,
@@ -138,7 +139,7 @@ fn open_hub<R: AllocGlobal + Net>(
     }
 }
 
-// Where the hub listens, if the configuration has an address of a machine.
+// The address at which the hub listens, if the configuration has one of a machine.
 fn listen_address(settings: &Settings) -> Option<SocketAddr> {
     match &settings.listen {
         Some(address) => literal(address.host.as_bytes(), address.port),
@@ -146,8 +147,8 @@ fn listen_address(settings: &Settings) -> Option<SocketAddr> {
     }
 }
 
-// How many changes of an earlier run of a leaf are out, whose answers are still to come: a pump has each go out again, and
-// nothing waits yet.
+// Returns the number of changes from an earlier run of a leaf that are out and still to be answered. A pump sends each
+// of them again, and nothing else waits yet.
 pub(crate) fn count_out<P: Promise, B: Run>(
     alloc: Global,
     bot: &mut Bot<FileDisk>,
@@ -160,7 +161,7 @@ pub(crate) fn count_out<P: Promise, B: Run>(
     }
 }
 
-// How many requests are among these packets: of a leaf's pump, all that are out.
+// The number of requests among these packets: those of a leaf's pump are all that are out.
 pub(crate) fn requests_in(packets: &[Outgoing]) -> usize
     ensures { result ≡ count_by is_request packets.now }
 {

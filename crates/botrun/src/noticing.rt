@@ -1,4 +1,4 @@
-// What a person is told of a change that was asked for by what the person said.
+// Notices to a person about a change that their words asked for.
 ghost use Rattle.std.specs.Prelude.{◌≡◌};
 
 use crate::outcome::Outcome;
@@ -6,7 +6,7 @@ use bytetext::{NoMemory, Text};
 use serverlink::Uplink;
 use std::alloc::Global;
 
-// Tells a person what came of a change. Without a server, or where too many lines wait, nobody is told.
+// Queues a notice to a person about the outcome of a change. Does nothing without a server, or if too many lines wait.
 pub(crate) fn notice(
     alloc: Global,
     uplink: &mut Uplink,
@@ -25,7 +25,7 @@ pub(crate) fn notice(
     uplink.own.put(Text::new(line))
 }
 
-// What came of a change, as a person is told.
+// The outcome of a change, as a notice words it.
 fn words_of(alloc: Global, outcome: Outcome) -> Result<Vec<u8>, NoMemory> {
     let words = match outcome {
         Outcome::Nothing => format!(in alloc; "it waits")?,

@@ -1,4 +1,4 @@
-// What operators ask for.
+// The commands of operators.
 ghost use Rattle.std.specs.Prelude.{◌<◌, length, IfSome};
 ghost use Rattle.bytetext.specs.declared.moment.TheConstants.{MOMENTS_END};
 
@@ -12,14 +12,15 @@ use control::Command;
 use procstore::{ProcStore, Promise, Run};
 use settings::Settings;
 
-// The most commands of each operator that a turn does. The changes of a turn go to each other bot in one write, and 16 are
-// all that a hub answers to one hello. All operators have a turn do 128 at most, half as many as it takes packets: so the
-// server and the other bots wait no longer for operators than for each other.
+// The most commands of each operator that one turn executes. The changes of a turn go to each other bot in one write,
+// and 16 changes are all that a hub sends in answer to one hello. For all operators a turn executes at most 128
+// commands, half as many as it takes packets: so the server and the other bots wait no longer for operators than for
+// each other.
 const MAX_COMMANDS: usize = 16;
 
 impl Process {
-    // Does what operators ask for, in rounds of a command of each, so that none waits for all that another asks for. No
-    // other round is begun once the bot is to end or is down. Whether there was a command.
+    // Executes the operators' commands, in rounds of one command of each, so that no operator waits for all commands
+    // of another. Begins no further round once the bot is to end or is down. Returns whether there was a command.
     pub(crate) fn obey_all<R: AllocGlobal + Print, P: Promise, B: Run>(
         &mut self,
         rt: &R,
@@ -40,7 +41,7 @@ impl Process {
         Ok(true)
     }
 
-    // Does what each operator asks for, a command of each. Whether there was one.
+    // Executes one command of each operator. Returns whether there was one.
     fn obey_each<R: AllocGlobal + Print, P: Promise, B: Run>(
         &mut self,
         rt: &R,
@@ -63,7 +64,8 @@ impl Process {
         Ok(obeyed)
     }
 
-    // The operator at a place, where what a command asks for is answered later: at a leaf, since the hub accepts its changes.
+    // Returns the number of the operator at `place` if its changes are answered later: at a leaf, since the hub
+    // accepts them.
     fn later_asker(&self, place: usize) -> Option<u64> {
         if self.others.links.is_leaf() {
             self.operators.number(place)
@@ -72,7 +74,7 @@ impl Process {
         }
     }
 
-    // Does what a line asks for. What is answered.
+    // Executes the command in a line, and returns the answer.
     fn obey_line<R: AllocGlobal + Print, P: Promise, B: Run>(
         &mut self,
         rt: &R,
@@ -119,7 +121,7 @@ impl Process {
     }
 }
 
-// Whether the log tells that a command was given: not where it only asks how the bot is.
+// Whether a command is logged: not if it only asks for the bot's state.
 fn is_logged(command: &Command) -> bool {
     match command {
         Command::Show | Command::Status => false,
@@ -133,7 +135,7 @@ fn is_logged(command: &Command) -> bool {
     }
 }
 
-// What stands before the first space.
+// The bytes before the first space.
 fn first_word(line: &[u8]) -> &[u8] {
     match first_space(line) {
         Some(end) => &line[..end],

@@ -1,4 +1,4 @@
-// Operators, at the socket in the bot's folder.
+// Operators at the socket in the bot's folder.
 ghost use Rattle.std.specs.Prelude.{◌<◌, length, vec_len, IfSome};
 
 use crate::asks::Asks;
@@ -13,26 +13,26 @@ use std::rt::Files;
 use streams::{Given, Taken};
 use wire::{Bounds, Wire};
 
-/// The most operators at once. Where another waits, the one that has said nothing for the longest time gives way, if
-/// that is 30 seconds at least and nothing waits for it: no command of its own, no byte of an answer, and no change that
-/// the hub has still to answer. Where there is none, the other waits.
+/// The most operators at once. If another one waits, the operator that has been silent for longest is disconnected, if
+/// it was silent for at least 30 seconds and nothing waits for it: no command of its own, no byte of an answer, and no
+/// change that the hub has still to answer. If there is no such operator, the new one waits.
 pub const MAX_OPERATORS: usize = 8;
 
-/// The most bytes of answers that wait for an operator; one for whom more would wait is let go.
+/// The most unsent bytes of answers for an operator; an operator for which more would wait is disconnected.
 pub const MAX_UNSENT: usize = 16_777_216;
 
-// Above so many bytes of answers that wait no more commands of an operator are taken.
+// While more than this many bytes of answers are unsent, no further command of an operator is taken.
 const SLOW: usize = 65_536;
 
-// How long one has said nothing that may have to give way, in seconds.
+// An operator that has been silent for this many seconds may have to give way.
 const SILENCE: u64 = 30;
 
-// Under which the door is watched, and who comes in by it.
+// The token under which the door is watched, and the one of the operators that it lets in.
 const DOOR: usize = 2;
 
 const TOKEN: usize = 3;
 
-// A command with its line feed, and answers.
+// The longest command with its line feed, and the most unsent bytes of answers.
 const BOUNDS: Bounds = Bounds {
     heard: MAX_COMMAND + 1,
     unsent: MAX_UNSENT,
@@ -41,17 +41,17 @@ const BOUNDS: Bounds = Bounds {
 // One operator.
 struct Operator {
     wire: Wire<UnixSocket>,
-    // Whether it is let go once it has all answers.
+    // Whether the operator is disconnected once it has all answers.
     is_last: bool,
-    // Which of all that have come it is.
+    // The operator's number among all that have connected.
     number: u64,
-    // The second at which it last said something, or came.
+    // The second at which the operator last sent something, or connected.
     spoke: u64,
-    // Whether it may have something to give: it stalled, and no event has named operators since, where not.
+    // False after a read that would block, until an event names operators again.
     may_give: bool,
 }
 
-// By hand, so that this is proved once, and not in each function in which an operator ends.
+// Written by hand, so that the drop is proved once, and not in each function that drops one.
 impl Drop for Operator {
     fn drop(self) {
         let Operator {
@@ -64,20 +64,19 @@ impl Drop for Operator {
     }
 }
 
-// Where operators come in, and those that are there.
+// The door for operators, and the operators that are connected.
 pub(crate) struct Operators {
     door: UnixDoor,
     seats: Vec<Operator>,
-    // How many have come.
+    // The number of operators that have connected so far.
     count: u64,
-    // Whether somebody may wait at the door: nobody did when it was last asked, and no event has named it since, where
-    // not.
+    // Whether somebody may wait at the door: false after a poll that found nobody, until an event names the door again.
     may_come: bool,
-    // The second at which the door was last asked.
+    // The second at which the door was last polled.
     asked: u64,
 }
 
-// By hand, so that this is proved once, and not in each function in which operators end.
+// Written by hand, so that the drop is proved once, and not in each function that drops one.
 impl Drop for Operators {
     fn drop(self) {
         let Operators {
@@ -91,7 +90,7 @@ impl Drop for Operators {
 }
 
 impl Operators {
-    // Listens at a path, where there is no file.
+    // Listens at `path`, where no file may exist.
     pub(crate) fn open<R: AllocGlobal + Net + Files>(
         rt: &R,
         registry: &Registry,
@@ -109,7 +108,8 @@ impl Operators {
         }
     }
 
-    // Those that tokens name may have something to say: the door that somebody waits, and operators, who share a token.
+    // Notes what `tokens` name: the door, at which somebody may wait, or operators, which share a token and may have
+    // sent something.
     pub(crate) fn wake(&mut self, tokens: &[usize]) {
         if tokens.contains(&DOOR) {
             self.may_come = true;
@@ -125,9 +125,9 @@ impl Operators {
         }
     }
 
-    // Lets in who waits, as long as there are places or one gives way. The door is asked where somebody may wait there,
-    // until nobody does, since an event names it once for all who came before. It is also asked once a second: at the limit
-    // of open files nobody seems to wait, and no event tells that there is a file again.
+    // Accepts waiting operators, as long as there are places or an operator gives way. Polls the door if somebody may
+    // wait there, until nobody does, since one event names it for all that came before. Also polls it once a second:
+    // at the limit of open files nobody seems to wait, and no event announces that a file is free again.
     pub(crate) fn let_in<R: AllocGlobal + Print>(
         &mut self,
         rt: &R,
@@ -158,7 +158,7 @@ impl Operators {
         self.seats.len() >= MAX_OPERATORS
     }
 
-    // The place of the one that gives way where all places are taken, if one does.
+    // The place of the operator that gives way if all places are taken, if one does.
     fn silent(&self, asks: &Asks, now: u64) -> Option<usize>
         ensures within { IfSome result (λ place. place < vec_len self.now.seats) }
     {
@@ -174,7 +174,7 @@ impl Operators {
         found
     }
 
-    // Where all places are taken, lets go the one that gives way.
+    // If all places are taken, disconnects the operator that gives way.
     fn make_way<R: Print>(&mut self, rt: &R, asks: &Asks, now: u64) {
         if !self.is_full() {
             return;
@@ -185,7 +185,7 @@ impl Operators {
         }
     }
 
-    // One more comes in.
+    // Adds an operator.
     fn seat(&mut self, alloc: Global, socket: UnixSocket, now: u64) -> Result<(), NoMemory> {
         self.seats.push(Operator {
             wire: Wire::new(alloc, socket, BOUNDS),
@@ -198,12 +198,12 @@ impl Operators {
         Ok(())
     }
 
-    // How many there are.
+    // The number of connected operators.
     pub(crate) fn len(&self) -> usize {
         self.seats.len()
     }
 
-    // Hears each. Whether a byte came.
+    // Reads from each operator. Returns whether a byte arrived.
     pub(crate) fn read(&mut self, now: u64) -> Result<bool, NoMemory> {
         let mut came = false;
         for seat in self.seats.iter_mut() {
@@ -214,7 +214,8 @@ impl Operators {
         Ok(came)
     }
 
-    // The command of the one at a place, without its line feed, if there is a whole one and it takes its answers.
+    // Takes a command of the operator at `place`, without its line feed, if it has sent a whole one and takes its
+    // answers.
     pub(crate) fn take_command(
         &mut self,
         alloc: Global,
@@ -226,7 +227,7 @@ impl Operators {
         }
     }
 
-    // Leaves an answer for the one at a place, with the line that ends it.
+    // Queues an answer for the operator at `place`, followed by the line that ends it.
     pub(crate) fn tell(&mut self, place: usize, answer: &[u8]) -> Result<(), NoMemory> {
         match self.seats.get_mut(place) {
             Some(seat) => seat.tell(answer),
@@ -234,12 +235,12 @@ impl Operators {
         }
     }
 
-    // The number of the one at a place.
+    // The number of the operator at `place`.
     pub(crate) fn number(&self, place: usize) -> Option<u64> {
         Some(self.seats.get(place)?.number)
     }
 
-    // Leaves an answer for the one of this number, with the line that ends it, if it is still there.
+    // Queues an answer for the operator numbered `number`, followed by the line that ends it, if it is still connected.
     pub(crate) fn tell_one(&mut self, number: u64, answer: &[u8]) -> Result<(), NoMemory> {
         for seat in self.seats.iter_mut() {
             if seat.number == number {
@@ -249,12 +250,12 @@ impl Operators {
         Ok(())
     }
 
-    // Whether all have their answers.
+    // Whether all operators have their answers.
     pub(crate) fn are_answered(&self) -> bool {
         self.seats.iter().all(|seat| seat.wire.unsent.is_empty())
     }
 
-    // How many bytes wait for them.
+    // The number of unsent bytes of answers.
     pub(crate) fn unsent(&self) -> usize {
         let mut sum = 0usize;
         for seat in self.seats.iter() {
@@ -263,7 +264,8 @@ impl Operators {
         sum
     }
 
-    // Offers each what is unsent, and lets go who is gone. Whether one took a byte.
+    // Offers each operator its unsent bytes, and drops the connections that are over. Returns whether an operator took
+    // a byte.
     pub(crate) fn send(&mut self) -> bool {
         let mut moved = false;
         for seat in self.seats.iter_mut() {
@@ -277,7 +279,7 @@ impl Operators {
 }
 
 impl Operator {
-    // Hears what has come, where there may be any. Whether a byte came.
+    // Reads what has arrived, if there may be any. Returns whether a byte arrived.
     fn read(&mut self, now: u64) -> Result<bool, NoMemory> {
         if !self.may_give || self.wire.is_over || self.is_last || self.wire.is_full() {
             return Ok(false);
@@ -295,12 +297,12 @@ impl Operator {
         }
     }
 
-    // Whether no command of its own waits, and no byte of an answer.
+    // Whether no command of the operator waits, and no byte of an answer is unsent.
     fn is_idle(&self) -> bool {
         self.wire.unsent.is_empty() && line_end(self.wire.heard.as_slice()).is_none()
     }
 
-    // The first line that was heard whole. One that does not end is cut where it is too long, and the last.
+    // Takes the first whole line. A line that does not end is cut once it is too long; it is the operator's last.
     fn take_command(&mut self, alloc: Global) -> Result<Option<Vec<u8>>, NoMemory> {
         if self.is_last || self.wire.unsent.len() > SLOW {
             return Ok(None);
@@ -325,7 +327,7 @@ impl Operator {
         Ok(())
     }
 
-    // Offers what is unsent, once. Whether it took a byte.
+    // Offers the unsent bytes, once. Returns whether the operator took a byte.
     fn send(&mut self) -> bool {
         if self.wire.unsent.is_empty() {
             if self.is_last {
@@ -340,7 +342,7 @@ impl Operator {
     }
 }
 
-// Where the first line feed stands.
+// The place of the first line feed.
 fn line_end(bytes: &[u8]) -> Option<usize>
     ensures within { IfSome result (λ end. end < length bytes.now) }
 {

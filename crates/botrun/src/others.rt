@@ -1,4 +1,4 @@
-// The other bots, and who has asked for the changes that wait at a leaf.
+// The other bots, and who asked for the changes that wait at a leaf.
 ghost use Rattle.std.specs.Prelude.{◌≡◌, [], IfOk};
 ghost use Rattle.std.specs.List.{AllByRecursion};
 ghost use Rattle.linkcalls.specs.Shapes.{HasGoodRecords};
@@ -10,13 +10,13 @@ use bytetext::NoMemory;
 use std::alloc::Global;
 use turns::Heard;
 
-// The connections to the other bots, and who has asked for what waits here.
+// The connections to the other bots, and who asked for the changes that wait here.
 pub(crate) struct Others {
     pub(crate) links: Links,
     pub(crate) asks: Asks,
 }
 
-// By hand, so that this is proved once, and not in each function in which they end.
+// Written by hand, so that the drop is proved once, and not in each function that drops one.
 impl Drop for Others {
     fn drop(self) {
         let Others { links: _, asks: _ } = self;
@@ -24,7 +24,7 @@ impl Drop for Others {
 }
 
 impl Others {
-    // Nobody has asked for anything yet. Takes no memory.
+    // Nobody has asked for anything yet. Allocates nothing.
     pub(crate) fn new(alloc: Global, links: Links) -> Others
         ensures links { result.links ≡ links }
         ensures nobody { result.asks.askers.items ≡ [] }
@@ -35,7 +35,7 @@ impl Others {
         }
     }
 
-    // What is heard in a turn, of the server and of the other bots.
+    // Collects what a turn has read from the server and the other bots.
     pub(crate) fn hear(
         &mut self,
         alloc: Global,

@@ -1,4 +1,4 @@
-// What came of a change.
+// The outcome of a change.
 ghost use Rattle.std.specs.Prelude.{◌≡◌};
 ghost use Rattle.botrun.specs.Outcomes.{is_told, of_end, of_fault, of_note, of_refusal, outcome_of, told_by};
 
@@ -6,20 +6,20 @@ use botcore::{End, Note, Refusal, Report};
 use linkcalls::LinkFault;
 use userfile::ChangeFault;
 
-// What came of a change that was asked for, or of a pump.
+// The outcome of a change that was asked for, or of a pump.
 #[derive(Clone, Copy)]
 pub(crate) enum Outcome {
-    // Nothing waits, or it still does.
+    // Nothing waits, or it still waits.
     Nothing,
     // A change was accepted under this number.
     Accepted(u32),
-    // The userfile refuses the change.
+    // The userfile rejects the change.
     Refused(ChangeFault),
-    // The link refuses it.
+    // The link rejects it.
     Barred(LinkFault),
 }
 
-// What came of a change, by the reports of a turn: the first of them that tells anything.
+// The outcome of a change from the reports of a turn: the first of them that says anything.
 pub(crate) fn outcome_of(reports: &[Report]) -> Outcome
     ensures { result ≡ outcome_of reports.now }
 {
@@ -33,7 +33,7 @@ pub(crate) fn outcome_of(reports: &[Report]) -> Outcome
 }
 
 impl Outcome {
-    // Whether it tells anything.
+    // Whether it says anything.
     fn is_told(self) -> bool
         ensures { result ≡ is_told self }
     {
@@ -44,7 +44,7 @@ impl Outcome {
     }
 }
 
-// What a step tells of a change.
+// What a step says about a change.
 pub(crate) fn told_by(report: &Report) -> Outcome
     ensures { result ≡ told_by report.now }
 {
@@ -55,7 +55,7 @@ pub(crate) fn told_by(report: &Report) -> Outcome
     }
 }
 
-// What a step that is refused tells of a change.
+// What a refused step says about a change.
 fn of_refusal(refusal: Refusal) -> Outcome
     ensures { result ≡ of_refusal refusal }
 {
@@ -65,7 +65,7 @@ fn of_refusal(refusal: Refusal) -> Outcome
     }
 }
 
-// What a refusal by the link tells of a change: nothing where a hello of another layout came.
+// What the link's refusal says about a change: nothing for a hello of another layout.
 fn of_fault(fault: LinkFault) -> Outcome
     ensures { result ≡ of_fault fault }
 {
@@ -83,7 +83,7 @@ fn of_fault(fault: LinkFault) -> Outcome
     }
 }
 
-// What a step that is done tells of a change.
+// What a step that was done says about a change.
 fn of_end(note: &Option<Note>) -> Outcome
     ensures { result ≡ of_end note.now }
 {

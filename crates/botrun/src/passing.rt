@@ -1,4 +1,4 @@
-// What the bot tells its server.
+// What the bot sends to its server.
 ghost use Rattle.std.specs.Prelude.{◌≡◌, OnOk};
 ghost use Rattle.serverlink.specs.Talks.{talk_in};
 ghost use Rattle.botrun.specs.Passing.{told_all, told_of};
@@ -10,7 +10,7 @@ use bytetext::NoMemory;
 use serverlink::Uplink;
 use settings::Settings;
 
-// Leaves the lines of a turn's steps for the server, in order, and logs what they left out.
+// Queues the lines of a turn's steps for the server, in order, and logs what the steps left out.
 pub(crate) fn pass_all<R: AllocGlobal + Print>(
     rt: &R,
     uplink: &mut Uplink,

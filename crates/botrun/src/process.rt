@@ -18,22 +18,22 @@ use sockets::Registry;
 use std::net::Net;
 use std::random::RandomSource;
 
-// A bot, its connections, and how far it has come.
+// A bot, its connections, and the state of its process.
 pub(crate) struct Process {
     pub(crate) bot: Bot<FileDisk>,
     pub(crate) lines: LineReader,
     pub(crate) uplink: Uplink,
     pub(crate) operators: Operators,
     pub(crate) others: Others,
-    // When the journal is written anew.
+    // When the journal is rewritten.
     pub(crate) bases: Bases,
-    // When the log tells the sum of the records.
+    // When the log shows the sum of the records.
     pub(crate) sums: Sums,
-    // The second until which it waits for who has still to be told something, once it is to end.
+    // Once the process is to end: the second until which it waits for what is still unsent.
     pub(crate) until: Option<u64>,
 }
 
-// By hand, so that this is proved once, and not in each function in which a process ends.
+// Written by hand, so that the drop is proved once, and not in each function that drops one.
 impl Drop for Process {
     fn drop(self) {
         let Process {
@@ -49,34 +49,39 @@ impl Drop for Process {
     }
 }
 
-// How a turn leaves a process.
+// The state in which a turn leaves a process.
 #[derive(Clone, Copy, PartialEq, Eq)]
 pub(crate) enum Turned {
     // There may be more to do at once.
     Busy,
-    // It rests until an event names a socket, and until the next second at most.
+    // The process rests until an event names a socket, and at most until the next second.
     //
-    // No event is lost. A wait names a socket once, when something comes or room for more does. So each that was named is
-    // asked, in this turn or a busy one after it, until nothing is left to ask it for: the server and the other bots are
-    // read until they stall, as are operators, unless they have first to take answers, which is named too; the door is
-    // asked until nobody waits or no place is left, and again at the next second. Bytes that are unsent are offered until
-    // all are taken or none is: then room is named. A turn is busy after each command, packet and connection that began,
-    // and where a hello got due in it, since what these leave to be done no event names. All else comes by the clock.
+    // No event is lost. A wait names a socket once, when something arrives or when there is room for more. So the
+    // process asks each named socket, in this turn or a busy one after it, until there is nothing left to ask for:
+    //
+    // - It reads the server and the other bots until a read would block. It reads operators so too, unless they have
+    //   first to take answers; an event announces that they do.
+    // - It polls the door until nobody waits or no place is left, and again at the next second.
+    // - It offers unsent bytes until all are taken or none is; then an event announces room for more.
+    // - A turn is busy if it executed a command, took a packet or began a connection to a server, or if a hello got due
+    //   in it. No readiness event will announce the work that these leave, so the next turn starts at once.
+    //
+    // Everything else waits for the clock.
     Rests,
-    // It has ended as it was told.
+    // The process has ended, as an operator asked.
     Ended,
 }
 
 impl Process {
-    // Those that the tokens of a wait name may have something to say.
+    // Notes that the sockets that `tokens`, those of a wait, name may have something to read.
     pub(crate) fn wake(&mut self, tokens: &[usize]) {
         self.uplink.wake(tokens);
         self.operators.wake(tokens);
         self.others.links.wake(tokens);
     }
 
-    // Makes a turn: connects what is lost and due, lets in who waits, reads, steps, writes, lets go who is over, and logs the
-    // sum of the records where that is due.
+    // Makes a turn: connects what is lost and due, accepts waiting connections, reads, steps, writes, closes the
+    // connections that are over, and logs the sum of the records if that is due.
     pub(crate) fn turn<R: AllocGlobal + Net + Print + RandomSource, P: Promise, B: Run>(
         &mut self,
         rt: &R,
@@ -101,7 +106,7 @@ impl Process {
         }
     }
 
-    // Connects, lets in, reads and steps. Whether there may be more at once.
+    // Connects, accepts, reads and steps. Returns whether there may be more at once.
     fn take_in<R: AllocGlobal + Net + Print + RandomSource, P: Promise, B: Run>(
         &mut self,
         rt: &R,
@@ -119,7 +124,8 @@ impl Process {
         Ok(began || more || said || obeyed)
     }
 
-    // Looks after the connection to the server, writes, and lets go who is over. Whether more may go at once.
+    // Keeps up the connection to the server, writes, and closes the connections that are over. Returns whether more
+    // may be sent at once.
     fn give_out<R: AllocGlobal + Print>(
         &mut self,
         rt: &R,
@@ -136,7 +142,8 @@ impl Process {
         Ok(sent)
     }
 
-    // Connects what is lost and due, unless it is to end, and lets in who waits. Whether a server is being connected.
+    // Accepts operators. Unless the process is to end, also connects what is lost and due, and accepts other bots.
+    // Returns whether a connection to a server began.
     fn connect<R: AllocGlobal + Net + Print + RandomSource>(
         &mut self,
         rt: &R,
@@ -154,7 +161,7 @@ impl Process {
         self.uplink.connect(rt, registry, settings, now)
     }
 
-    // Hears each. Whether there may be more at once.
+    // Reads from each connection. Returns whether there may be more at once.
     fn read<R: AllocGlobal + Print>(&mut self, rt: &R, now: u64) -> Result<bool, NoMemory> {
         let server = self.uplink.read(now)?;
         let operators = self.operators.read(now)?;
@@ -162,7 +169,8 @@ impl Process {
         Ok(server || operators || links)
     }
 
-    // Offers each what is unsent. Whether one may take more at once, or is to be let go, or done more for.
+    // Offers each connection its unsent bytes. Returns whether another turn is due at once: one may take more, is to be
+    // disconnected, or has more to be done for it.
     fn send(&mut self) -> bool {
         let server = self.uplink.send();
         let operators = self.operators.send();
@@ -170,7 +178,7 @@ impl Process {
         server || operators || links
     }
 
-    // A bot whose disk failed does not go on: its journal tells what counts when it is opened again.
+    // A bot whose disk failed does not go on: when its journal is opened again, the journal shows what counts.
     fn stay_up(&self) -> Result<(), RunError> {
         if self.bot.is_down() {
             Err(RunError::DiskFailed {
@@ -181,7 +189,8 @@ impl Process {
         }
     }
 
-    // Whether it was told to end, and nobody has still to be told anything, or has had long enough.
+    // Whether the process is to end, and either the wait is over, or the server is gone and the operators have their
+    // answers.
     fn has_ended(&self, now: u64) -> bool {
         match self.until {
             Some(until) => {

@@ -1,4 +1,4 @@
-// How a bot is found in its folder, or made there.
+// Opens the bot in its folder, or creates it there.
 ghost use Rattle.botfolder.specs.Folders.{AreReady};
 
 use crate::checking::{new_bind, of_line};
@@ -30,7 +30,7 @@ pub(crate) fn folder_of<R: AllocGlobal + Files<File = File>>(
     }
 }
 
-// The bot whose journal a folder holds, which is made where there is none.
+// Opens the bot whose journal the folder holds, or creates it if there is none.
 pub(crate) fn bot_of<R: AllocGlobal + Files<File = File> + RandomSource>(
     rt: &R,
     folder: &BotFolder,
@@ -47,7 +47,7 @@ pub(crate) fn bot_of<R: AllocGlobal + Files<File = File> + RandomSource>(
     }
 }
 
-// The bot of a journal that is there.
+// Opens the bot of an existing journal.
 fn found(alloc: Global, config: Config, disks: Pair) -> Result<Bot<FileDisk>, RunError>
     requires ready { AreReady disks }
 {
@@ -58,7 +58,7 @@ fn found(alloc: Global, config: Config, disks: Pair) -> Result<Bot<FileDisk>, Ru
     }
 }
 
-// A new bot, whose journal is found from now on.
+// Creates a bot. Its journal is found from now on.
 fn made<R: AllocGlobal + Files<File = File>>(
     rt: &R,
     folder: &BotFolder,
@@ -78,7 +78,7 @@ fn made<R: AllocGlobal + Files<File = File>>(
     }
 }
 
-// What the bot is told before it is made.
+// The configuration with which the bot is opened or created.
 fn config_of(alloc: Global, settings: &Settings) -> Result<Config, NoMemory> {
     Ok(Config {
         number: settings.station.number,

@@ -1,4 +1,4 @@
-// How a bot is, as lines.
+// A bot's state, as lines.
 use crate::process::Process;
 use botlinks::put_status;
 use bytetext::NoMemory;
@@ -7,7 +7,7 @@ use serverlink::Session;
 use settings::Settings;
 use std::alloc::Global;
 
-// The lines that tell how a bot is.
+// The lines that describe a bot's state.
 pub(crate) fn status_of(
     alloc: Global,
     process: &Process,
@@ -29,7 +29,7 @@ pub(crate) fn status_of(
     Ok(text)
 }
 
-// The server, and since when, or when the next is tried.
+// Appends the server, and since when it is connected, or when the next one is tried.
 fn put_server(text: &mut Vec<u8>, process: &Process, settings: &Settings) -> Result<(), NoMemory> {
     match process.uplink.session() {
         Some(session) => {
@@ -40,7 +40,7 @@ fn put_server(text: &mut Vec<u8>, process: &Process, settings: &Settings) -> Res
     }
 }
 
-// The server at a place of the list.
+// Appends the server at a place of the list.
 fn put_name(text: &mut Vec<u8>, place: usize, settings: &Settings) -> Result<(), NoMemory> {
     if let Some(server) = settings.servers.as_slice().get(place) {
         put(text, b"server ")?;
@@ -50,7 +50,7 @@ fn put_name(text: &mut Vec<u8>, place: usize, settings: &Settings) -> Result<(),
     Ok(())
 }
 
-// The connection.
+// Appends the connection.
 fn put_session(text: &mut Vec<u8>, session: &Session) -> Result<(), NoMemory> {
     put_count(text, b"since ", session.began())?;
     put(text, b"nick ")?;
@@ -62,7 +62,7 @@ fn put_session(text: &mut Vec<u8>, session: &Session) -> Result<(), NoMemory> {
     put_count(text, b"unsent ", session.unsent() as u64)
 }
 
-// The channel at a place, and whether the bot is on it.
+// Appends the channel at a place, and whether the bot is on it.
 fn put_channel(text: &mut Vec<u8>, process: &Process, place: usize) -> Result<(), NoMemory> {
     if let Some(seat) = process.uplink.channels.get(place) {
         put(text, b"channel ")?;

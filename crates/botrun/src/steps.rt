@@ -20,8 +20,8 @@ use turns::{Heard, TurnEnd, take_turn};
 use userfile::Change;
 
 impl Process {
-    // Has the bot take what its server and the other bots said, and all that waits then, and has the journal written
-    // anew where due. Whether there may be more at once: another bot said something, or a hello got due.
+    // Has the bot take what its server and the other bots sent, and then all that waits, and has the journal rewritten
+    // if that is due. Returns whether there may be more at once: another bot sent something, or a hello got due.
     pub(crate) fn hear<R: AllocGlobal + Print, P: Promise, B: Run>(
         &mut self,
         rt: &R,
@@ -31,7 +31,7 @@ impl Process {
         now: u64,
     ) -> Result<bool, RunError>
         requires moment { now < MOMENTS_END }
-        // The first turn hears all that was heard of the server, and packets that wait.
+        // The first turn takes all that was read from the server, and packets that wait.
         ensures hears { OnOk result (Hears P.promised store.now self.old.bot self.old.lines
             (heard_in (talk_in self.old.uplink.session)) self.old.others.links) }
     {
@@ -49,12 +49,13 @@ impl Process {
         if self.bases.is_due(now) {
             self.compact(rt, store, settings, now)?;
         }
-        // A proc may have had a leaf ask for a change. Where this turn pumped and more is due at once, the link took bytes, so
-        // that the next turn comes at once too.
+        // A proc may have had a leaf ask for a change. If this turn pumped and more is due at once, the link took
+        // bytes, so the next turn comes at once too.
         Ok(said || (!pumped && self.others.links.is_pump_due(now)))
     }
 
-    // Pumps until nothing waits. The last pump's outcome is the first that is told.
+    // Pumps until nothing waits, or the link refuses. Logs each outcome, beginning with `first`, the one of the pump
+    // before.
     fn pump<R: AllocGlobal + Print, P: Promise, B: Run>(
         &mut self,
         rt: &R,
@@ -74,7 +75,7 @@ impl Process {
         Ok(())
     }
 
-    // Has the journal written anew.
+    // Has the journal rewritten.
     pub(crate) fn compact<R: AllocGlobal + Print, P: Promise, B: Run>(
         &mut self,
         rt: &R,
@@ -91,7 +92,7 @@ impl Process {
         Ok(outcome)
     }
 
-    // Has the bot take a change that was asked for, as nothing waits.
+    // Has the bot take a change that was asked for, while nothing waits.
     pub(crate) fn ask<R: AllocGlobal + Print, P: Promise, B: Run>(
         &mut self,
         rt: &R,
@@ -100,7 +101,7 @@ impl Process {
         change: Change,
         now: u64,
     ) -> Result<Outcome, RunError>
-        // What comes of it is what a turn of the bot tells in which this change alone is asked for, and pumped.
+        // The outcome is what a turn of the bot says in which this change alone is asked for, and pumped.
         ensures turn { IfOk result (λ outcome. TakesChanges P.promised store.now self.old.bot self.old.lines
             (change ∷ []) true self.new.bot self.new.lines outcome (talk_in self.old.uplink.session) (talk_in self.new.uplink.session)) }
     {
@@ -109,7 +110,7 @@ impl Process {
         self.take(rt, store, settings, heard)
     }
 
-    // Has the bot take a turn, and leaves its lines for the server. What it tells of changes.
+    // Has the bot take a turn, and queues its lines for the server. Returns what the turn says about changes.
     fn take<R: AllocGlobal + Print, P: Promise, B: Run>(
         &mut self,
         rt: &R,
@@ -118,7 +119,8 @@ impl Process {
         heard: Heard,
     ) -> Result<Outcome, RunError>
         requires good { AllByRecursion HasGoodRecords heard.packets.items }
-        // The bot takes one turn, and this is what it tells of changes. Just its lines are told to the server.
+        // The bot takes one turn, and this is what the turn says about changes. Only its lines are queued for the
+        // server.
         ensures turn { IfOk result (λ outcome. TakesTurn P.promised store.now self.old.bot self.old.lines heard
             self.new.bot self.new.lines outcome (talk_in self.old.uplink.session) (talk_in self.new.uplink.session)) }
     {
@@ -142,7 +144,7 @@ impl Process {
     }
 }
 
-// What is heard of a server in a turn, and a pump.
+// What a turn has read from a server, with a pump, and without packets or changes.
 fn heard_of(alloc: Global, connected: bool, bytes: Vec<u8>, now: u64) -> Heard
     ensures good { AllByRecursion HasGoodRecords result.packets.items }
     ensures changes { result.changes.items ≡ [] }
@@ -159,7 +161,7 @@ fn heard_of(alloc: Global, connected: bool, bytes: Vec<u8>, now: u64) -> Heard
     }
 }
 
-// Logs what came of a change that a proc asked for. Whether there was one.
+// Logs the outcome of a change that a proc asked for. Returns whether there was one.
 fn note_outcome<R: Print>(rt: &R, outcome: Outcome, now: u64) -> bool {
     match outcome {
         Outcome::Nothing => false,

@@ -1,4 +1,4 @@
-// When the log tells the sum of the records.
+// When the log shows the sum of the records.
 ghost use Rattle.std.specs.Prelude.{◌≡◌};
 ghost use Rattle.botrun.specs.Sums.{is_due, told_at, untold};
 
@@ -8,19 +8,19 @@ use crate::process::Process;
 use bytetext::NoMemory;
 use recordsum::sum_of;
 
-// So many seconds pass between two lines of a bot that goes on, so that what they cost is bounded.
+// At least this many seconds pass between two of these lines, except at the bot's end, so that their cost is bounded.
 const APART: u64 = 5;
 
-// At which version the log last told the sum of the records, and when.
+// The version at which the log last showed the sum of the records, and when.
 #[derive(Clone, Copy)]
 pub(crate) struct Sums {
-    // None where it has told none.
+    // None before the first such line.
     version: Option<u32>,
     since: u64,
 }
 
 impl Sums {
-    // None is told yet: the first is due at once.
+    // The log has shown no sum yet: the first is due at once.
     pub(crate) fn new() -> Sums
         ensures { result ≡ untold }
     {
@@ -30,7 +30,8 @@ impl Sums {
         }
     }
 
-    // Whether the sum of the records at this version is to be told at this second, which may be the bot's last.
+    // Whether the log is to show the sum of the records at `version`, at second `now`. `is_last` says whether the bot
+    // ends.
     pub(crate) fn is_due(self, version: u32, is_last: bool, now: u64) -> bool
         ensures { result ≡ is_due self version is_last now }
     {
@@ -40,7 +41,7 @@ impl Sums {
         }
     }
 
-    // It is told.
+    // Notes that the log has shown the sum.
     pub(crate) fn tell(&mut self, version: u32, now: u64)
         ensures { self.new ≡ told_at version now }
     {
@@ -50,7 +51,7 @@ impl Sums {
 }
 
 impl Process {
-    // Logs the sum of the bot's records where that is due at this second, which may be its last.
+    // Logs the sum of the bot's records if that is due at second `now`. `is_last` says whether the bot ends.
     pub(crate) fn tell_sum<R: AllocGlobal + Print>(
         &mut self,
         rt: &R,

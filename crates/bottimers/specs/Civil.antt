@@ -11,8 +11,8 @@ use Rattle.bottimers.specs.declared.calendar.CivilMinute.{CivilMinute}
 abbrev pub IsOffset : ℤ → Type 0
 IsOffset = IsBetween (neg_ℤ MAX_OFFSET) MAX_OFFSET
 
--- The minute shows a date of the calendar, a time of the clock, and the weekday of that date from 0 for Sunday. From
--- the start of 1 January 1970 it is so many minutes away, where a day has 1,440 minutes.
+-- The minute has a date of the calendar, a time of the clock, and the weekday of that date from 0 for Sunday. It
+-- begins `number` minutes after the start of 1 January 1970, with 1,440 minutes in each day.
 pub record IsCalendarMinute (number : ℤ) (c : CivilMinute) : Type 0 where
   pub date : Date
   pub shown : IsYmd c.year (pos c.month) (pos c.day) date

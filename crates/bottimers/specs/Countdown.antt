@@ -36,7 +36,7 @@ held_of timers last spent room = record { timers = timers; last = last; spent = 
 abbrev pub held : Inside → Held
 held t = held_of (map (λ e. e.timer) t.entries.items) t.last t.spent t.room
 
--- each timer runs, and there is the room that was promised
+-- each timer runs, and the promised room exists
 pub record IsSound (t : Inside) : Type 0 where
   pub running : All (IsRunningAt t.last) t.entries.items
   pub room : vec_len t.entries + t.room ≤ vec_capacity t.entries

@@ -16,7 +16,7 @@ pub record Sets : Type 0 where
   pub weekdays : ℕ
   pub either : Bool
 
--- day and weekday agree: one of them where that is enough, or else both
+-- day and weekday agree: one of them if that is enough, or else both
 abbrev pub days_agree : Bool → Bool → Bool → Bool
 days_agree either day weekday = if either then day || weekday else day && weekday
 

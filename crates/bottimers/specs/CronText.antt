@@ -1,5 +1,5 @@
--- The grammar of a cron mask, and the numbers that its fields mean (crontab(5), without names; that `n/s` runs from n to the
--- maximum, and that last fields may be left out, is our own choice).
+-- The grammar of a cron mask, and the numbers that its fields mean (crontab(5), without names; that `n/s` runs from n
+-- to the maximum, and that fields at the end may be missing, is our own choice).
 use Rattle.std.specs.Prelude.{ℕ, ◌+◌, ◌-◌, ◌*◌, ◌%◌, Bool, true, false, ◌&&◌, ◌==◌, nat_lt, nat_le, if◌then◌else◌}
 use Rattle.std.specs.Prelude.{Option, Some, None, is_some, option_and_then}
 use Rattle.std.specs.Prelude.{List, [], ◌∷◌, length, filter, fold, codes, slice_index}
@@ -13,7 +13,7 @@ use Rattle.bottimers.specs.declared.span.Span.{Span}
 abbrev pub has_byte : ℕ → List ℕ → Bool
 has_byte c text = nat_lt (position_or_len (λ b. b == c) text) (length text)
 
--- what stands before its first place, or the whole text, and what stands after that place
+-- what comes before its first place, or the whole text, and what comes after that place
 abbrev pub before : ℕ → List ℕ → List ℕ
 before c text = before_first (λ b. b == c) text
 
@@ -38,7 +38,7 @@ abbrev pub number_in : ℕ → ℕ → List ℕ → Option ℕ
 number_in low high text =
     if is_number text && nat_le low (decimal text) && nat_le (decimal text) high then Some (decimal text) else None
 
--- ---- an item of a list: `*`, `n` or `a-b`, each with `/s` at will
+-- ---- an item of a list: `*`, `n` or `a-b`, each with an optional `/s`
 
 abbrev pub is_star : List ℕ → Bool
 is_star text = (length text == 1) && (slice_index text 0 == 42)
@@ -56,7 +56,7 @@ ends_in low high stepped base =
     else (if has_byte 45 base then range_in low high (before 45 base) (after 45 base)
     else option_map (λ n. (n, if stepped then high else n)) (number_in low high base))
 
--- with the step: 1, or what stands after `/`, from 1 to high
+-- with the step: 1, or the number after `/`, from 1 to high
 abbrev pub span_of : ℕ → ℕ → List ℕ → Option Span
 span_of low high item =
     if has_byte 47 item
@@ -72,7 +72,7 @@ abbrev pub in_span_if_any : Option Span → ℕ → Bool
 in_span_if_any None n = false
 in_span_if_any (Some s) n = in_span s n
 
--- ---- a field: a list of items by commas
+-- ---- a field: a list of items, separated by commas
 
 abbrev pub items_of : List ℕ → List (List ℕ)
 items_of field = slice_split (λ b. b == 44) field
@@ -84,12 +84,12 @@ is_field low high field = list_all (λ item. is_some (span_of low high item)) (i
 abbrev pub in_field : ℕ → ℕ → List ℕ → ℕ → Bool
 in_field low high field n = list_any (λ item. in_span_if_any (span_of low high item) n) (items_of field)
 
--- ---- a mask: up to five fields by spaces
+-- ---- a mask: up to five fields, separated by spaces
 
 abbrev pub fields_of : List ℕ → List (List ℕ)
 fields_of mask = filter (λ field. nat_lt 0 (length field)) (slice_split (λ b. b == 32) mask)
 
--- the first of the fields, and those after it; a field that is left out is `*`
+-- the first of the fields, and those after it; a missing field is `*`
 abbrev pub first_field : List (List ℕ) → List ℕ
 first_field [] = codes "*"
 first_field (field ∷ fields) = field

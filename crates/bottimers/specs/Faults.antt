@@ -1,4 +1,4 @@
--- The letters of a fault, and what a call was refused for.
+-- The letters of a fault, and why a call was refused.
 use Rattle.std.specs.Prelude.{◌≡◌, ℕ, List, codes, Option, Some, None, Result, Ok, Err}
 use Rattle.bytetext.specs.declared.failure.Failure.{Failure}
 use Rattle.bytetext.specs.declared.failure.Failure.TheVariants.{Refused, NoMemory}
@@ -12,13 +12,13 @@ letters_of Full = codes "C3"
 letters_of NoSuchTimer = codes "C2"
 letters_of BadZone = codes "C5"
 
--- the call was refused for this fault and no other, and where there is none, only out of memory
+-- the call was refused for this fault and no other; if there is none, it failed only for lack of memory
 abbrev pub RefusedFor : {T : Type 0} → Option ClockFault → Result T (Failure ClockFault) → Type 0
 RefusedFor fault (Ok v) = fault ≡ None
 RefusedFor fault (Err (Refused f)) = fault ≡ Some f
 RefusedFor fault (Err NoMemory) = fault ≡ None
 
--- the same of a call that takes no memory
+-- the same of a call that does not allocate
 abbrev pub RefusedBy : {T : Type 0} → Option ClockFault → Result T ClockFault → Type 0
 RefusedBy fault (Ok v) = fault ≡ None
 RefusedBy fault (Err f) = fault ≡ Some f

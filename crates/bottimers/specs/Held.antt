@@ -14,8 +14,8 @@ use Rattle.bottimers.specs.declared.timer.TimerKind.TheVariants.{Minutes, Second
 use Rattle.bottimers.specs.declared.status.TimerStatus.{TimerStatus}
 use Rattle.bottimers.specs.Occurrences.{is_due_of, is_kept, units_left, repeats_left}
 
--- The timers with an occurrence to come, in the order of making; the last second given; the last id given; and how many
--- timers more there is room for.
+-- The timers with an occurrence to come, in the order of making; the last second given; the last id given; and for how
+-- many more timers room is reserved.
 pub record Held : Type 0 where
   pub timers : List Timer
   pub last : Option ℕ
@@ -44,7 +44,7 @@ add_fault h interval (Some t) =
     if interval == 0 || nat_lt MAX_INTERVAL interval then Some BadInterval
     else (if nat_le MAX_TIMERS (length (timers_at t h)) || (h.spent == MAX_ID) then Some Full else None)
 
--- a new timer stands last; those whose last occurrence was skipped are gone; it takes one place of the room, if any
+-- a new timer is appended; timers whose last occurrence was skipped are gone; it takes one place of the room, if any
 abbrev pub with_timer : Held → Timer → Held
 with_timer h m = record { timers = timers_at m.made h ++ m ∷ []; last = Some m.made; spent = m.id; room = h.room - 1 }
 

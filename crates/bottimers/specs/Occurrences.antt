@@ -1,5 +1,5 @@
--- When a timer is due, by where and how it was made (Eggdrop's Tcl commands, at `timer` and `utimer`). Nothing here counts
--- down.
+-- When a timer is due, by when and how it was made (Eggdrop's Tcl commands, at `timer` and `utimer`). Nothing here
+-- counts down.
 use Rattle.std.specs.Prelude.{◌≡◌, ℕ, ◌+◌, ◌-◌, ◌*◌, ◌/◌, ◌<◌, ◌≤◌, ◌⊎◌}
 use Rattle.std.specs.Prelude.{Bool, true, false, ◌&&◌, ◌||◌, ◌==◌, nat_lt, nat_le}
 use Rattle.bottimers.specs.declared.timer.TimerKind.{TimerKind}
@@ -28,11 +28,11 @@ HasOccurrence m k = (0 < k) × ((m.count ≡ 0) ⊎ (k ≤ m.count))
 abbrev pub FallsDue : Timer → ℕ → Type 0
 FallsDue m t = (k : ℕ) × HasOccurrence m k × (occurrence m k ≡ t)
 
--- how many units lie between the making and a second
+-- how many units lie between the making of the timer and a second
 abbrev pub age : Timer → ℕ → ℕ
 age m t = unit_of m.kind t - unit_of m.kind m.made
 
--- how many occurrences lie at or before a second, were there no count: run or skipped, they are used up
+-- how many occurrences lie at or before a second if the count is ignored: run or skipped, they are used up
 abbrev pub used : Timer → ℕ → ℕ
 used m t = age m t / m.interval
 

@@ -14,11 +14,11 @@ IsMoment t = t < MOMENTS_END
 abbrev pub reading_fault : ℕ → Option ClockFault
 reading_fault now = if nat_lt now MOMENTS_END then None else Some BadMoment
 
--- the whole seconds from the first to the last, none where the last is below the first
+-- the whole seconds from the first to the last, none if the last is below the first
 abbrev pub seconds_between : ℕ → ℕ → List ℕ
 seconds_between first last = range_with_len first (last + 1 - first)
 
--- what runs at a reading: nothing at the first one, then every second passed, of which only the last 600
+-- what runs at a reading: nothing at the first one, then every second that has passed, but only the last 600
 abbrev pub seconds_run : Option ℕ → ℕ → List ℕ
 seconds_run None now = []
 seconds_run (Some last) now = seconds_between (max (last + 1) (now - (MAX_SECONDS - 1))) now

@@ -1,6 +1,6 @@
--- How far ahead of UTC a clock is that follows a rule of POSIX (IEEE Std 1003.1, Base Definitions 8.3, under TZ; RFC 9636
--- has times of a rule from -167 to 167 hours). What a rule says, and which texts are rules, stands in jiff_tz's
--- definitions: `TzText`, `read_whole` and, for the days that a rule names, `rule_day`.
+-- How far ahead of UTC a clock is that follows a POSIX rule (IEEE Std 1003.1, Base Definitions 8.3, under TZ; RFC 9636
+-- has times of a rule from -167 to 167 hours). The definitions of jiff_tz say what a rule means and which texts are
+-- rules: `TzText`, `read_whole` and, for the days that a rule names, `rule_day`.
 use Rattle.std.specs.Prelude.{ℕ, ◌/◌, ◌&&◌, ◌||◌, not, Bool, nat_le, ℤ, pos, ◌+ℤ◌, ◌-ℤ◌, ◌*ℤ◌, int_le, int_lt}
 use Rattle.std.specs.Prelude.{Option, None, Some, List, length, codes, if◌then◌else◌}
 use Rattle.std.specs.Int.{int_div_euclid}
@@ -19,7 +19,7 @@ use Rattle.bottimers.specs.declared.limits.TheConstants.{MAX_ZONE}
 abbrev pub rule_in : List ℕ → Option TzText
 rule_in text = if nat_le 1 (length text) && nat_le (length text) MAX_ZONE then read_whole text else None
 
--- standard time alone, so many minutes ahead of UTC
+-- standard time alone, by this number of minutes ahead of UTC
 abbrev pub fixed_rule : ℤ → TzText
 fixed_rule minutes = record {
   std_name = codes "UTC";
@@ -41,23 +41,24 @@ year_of t = year_of_day (pos (t / 86_400))
 
 -- ---- the changes of a year
 
--- A change comes so many seconds after the midnight that begins its day, on the clock that was in force until then, which
--- is so many seconds ahead of UTC. One that would lie outside of its year in UTC comes where the year begins or ends, and
--- one on day 365 of a year that has none where it ends.
+-- The moment of a change in the year `y`, a number of seconds after the midnight that begins its day. The midnight is
+-- that of the clock in force until then, which is `ahead` seconds ahead of UTC. A change that would lie outside its
+-- year in UTC comes when the year begins or ends. A change on day 365 of a year without such a day comes when the year
+-- ends.
 abbrev pub change_in : ℤ → ℤ → Day × ℤ → ℤ
 change_in y ahead change = match_some (rule_day y change.0) (year_ends y) (λ day.
     clamp_to (year_begins y) (year_ends y) (day *ℤ pos 86_400 +ℤ change.1 -ℤ ahead))
 
--- the change to daylight saving time, by the clock of standard time
+-- the change to daylight saving time, on the clock of standard time
 abbrev pub dst_begins : ℤ → ℤ → DstText → ℤ
 dst_begins y standard dst = change_in y standard dst.start
 
--- the change back, by the clock of daylight saving time
+-- the change back, on the clock of daylight saving time
 abbrev pub change_back : ℤ → DstText → ℤ
 change_back y dst = change_in y dst.seconds dst.finish
 
--- Daylight saving time that begins with the year, and whose change back isn't in the year on the clock of standard time,
--- is in force all the year.
+-- Daylight saving time is in force all the year if it begins with the year and its change back, on the clock of
+-- standard time, isn't in the year.
 abbrev pub is_all_year : ℤ → ℤ → DstText → Bool
 is_all_year y standard dst =
     int_le (dst_begins y standard dst) (year_begins y)
@@ -68,7 +69,7 @@ dst_ends y standard dst = if is_all_year y standard dst then year_ends y else ch
 
 -- ---- the offset at a moment
 
--- from one moment on, and before another; where the other comes first, before it or from the one on
+-- from `begins` on and before `ends`; if `ends` comes first, before `ends` or from `begins` on
 abbrev pub is_in_force : ℤ → ℤ → ℤ → Bool
 is_in_force begins ends t =
     if int_le begins ends then int_le begins t && int_lt t ends else not (int_le ends t && int_lt t begins)

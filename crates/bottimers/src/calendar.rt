@@ -9,7 +9,7 @@ use crate::zone::Zone;
 use bytetext::{MOMENTS_END, NoMemory, TryCopy};
 use std::alloc::Global;
 
-/// A minute of the calendar. [`civil`] gives the ranges that stand beside the fields.
+/// A minute of the calendar. [`civil`] returns values within the ranges that the fields state.
 #[derive(Clone, Copy, Debug, PartialEq, Eq)]
 pub struct CivilMinute {
     /// The year, 1969 to 3000.
@@ -27,7 +27,7 @@ pub struct CivilMinute {
 }
 
 impl TryCopy for CivilMinute {
-    // Takes no memory.
+    // Does not allocate.
     fn copy(&self, _alloc: Global) -> Result<CivilMinute, NoMemory>
         ensures equal { IfOk result (λ twin. twin ≡ self.now) }
         ensures needs_none { IsOk result }
@@ -36,18 +36,19 @@ impl TryCopy for CivilMinute {
     }
 }
 
-/// The minute that the calendar and the clock show at a moment in a zone. It takes no memory.
+/// Returns the minute that the calendar and the clock show in `zone` at `moment`, in seconds since 1970-01-01 UTC. It
+/// does not allocate.
 ///
-/// Where a zone's clock is set forward no moment has the minutes that it skips, and where it is set back two moments have
-/// the same minute.
+/// When the clock of a zone is set forward, no moment has the minutes that it skips. When it is set back, two moments
+/// have the same minute.
 ///
 /// # Errors
-/// `BadMoment` where the seconds are no moment.
+/// `BadMoment` if `moment` is after the year 2999.
 pub fn civil(moment: u64, zone: &Zone) -> Result<CivilMinute, ClockFault>
     ensures moments { IsOk result ↔ IsMoment moment }
-    // The moment plus the offset that the rule has then, in whole minutes.
+    // The minute is the moment plus the offset that the rule has then, in whole minutes.
     ensures minute { IfOk result (IsCalendarMinute (minute_at zone.now moment)) }
-    // The rule is asked for the year in which the moment lies, in UTC.
+    // The rule is evaluated for the year of the moment in UTC.
     ensures year { IfOk result (λ _. IsInYear moment (year_of moment)) }
     ensures fault { IfErr result (λ fault. fault ≡ ClockFault.BadMoment) }
 {

@@ -34,14 +34,14 @@ impl Model for Clock {
 }
 
 impl Clock {
-    /// A clock that has seen no second.
+    /// Creates a clock that has seen no second.
     pub fn new() -> Clock
         ensures { result ≡ None }
     {
         Clock { last: None }
     }
 
-    /// A clock that has seen this second last. Takes no memory.
+    /// Creates a clock that has seen `second` last. Does not allocate.
     pub fn at(second: u64) -> Clock
         requires { second < MOMENTS_END }
         ensures { result ≡ Some second }
@@ -49,19 +49,20 @@ impl Clock {
         Clock { last: Some(second) }
     }
 
-    /// The last second seen.
+    /// Returns the last second that the clock has seen.
     pub fn last(&self) -> Option<u64>
         ensures { result ≡ self.now }
     {
         self.last
     }
 
-    /// Takes a reading, and answers the seconds that run, in order. The first reading runs none, nor does one at or
-    /// below the last second, which changes nothing. Of a longer gap only the last 600 seconds run.
+    /// Advances the clock to the reading `now` and returns the seconds that run, in order. The first reading runs
+    /// none. A reading at or before the last second runs none and changes nothing. Of a longer gap only the last 600
+    /// seconds run.
     ///
     /// # Errors
-    /// `Refused(BadMoment)` where the reading is no moment, then `NoMemory` where some second runs and room for the list
-    /// is refused. The clock is as before.
+    /// `Refused(BadMoment)` if `now` is after the year 2999, then `NoMemory` if a second runs and the list can't be
+    /// allocated. The clock is unchanged.
     pub fn advance(&mut self, alloc: Global, now: u64) -> Result<Vec<u64>, ClockError>
         ensures refused { RefusedFor (reading_fault now) result }
         ensures seconds { IfOk result (λ seconds. seconds.items ≡ seconds_run self.old now) }
@@ -87,7 +88,7 @@ impl Clock {
 }
 
 impl TryCopy for Clock {
-    // Takes no memory.
+    // Does not allocate.
     fn copy(&self, _alloc: Global) -> Result<Clock, NoMemory>
         ensures equal { IfOk result (λ twin. twin ≡ self.now) }
         ensures needs_none { IsOk result }
@@ -96,7 +97,7 @@ impl TryCopy for Clock {
     }
 }
 
-// The seconds from the first to the last.
+// Returns the seconds from `first` to `last`.
 fn seconds_from(alloc: Global, first: u64, last: u64) -> Result<Vec<u64>, NoMemory>
     requires { (first ≤ last) × (last < MOMENTS_END) × (last < first + MAX_SECONDS) }
     ensures { IfOk result (λ seconds. seconds.items ≡ seconds_between first last) }

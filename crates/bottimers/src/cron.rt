@@ -13,12 +13,13 @@ use bytetext::{NoMemory, TryCopy};
 use std::alloc::Global;
 use std::marker::Model;
 
-/// A cron mask, as the sets of numbers that its fields are (crontab(5); Eggdrop's bind type CRON). It holds no memory.
+/// A cron mask, as the sets of numbers that its fields mean (crontab(5); Eggdrop's bind type CRON). It does not
+/// allocate.
 ///
 /// A mask has up to five fields separated by spaces: minute 0 to 59, hour 0 to 23, day 1 to 31, month 1 to 12, weekday
-/// 0 to 7, where 0 and 7 are Sunday. Last fields that are left out are `*`. A field is a list by commas of `*`, `n` or
-/// `a-b` with a at most b, each with `/s` at will, where s is from 1 to the field's maximum; `n/s` runs from n to the
-/// maximum. Numbers may have leading zeros.
+/// 0 to 7, where 0 and 7 are Sunday. Fields that are missing at the end are `*`. A field is a list, separated by
+/// commas, of `*`, `n` or `a-b` with a at most b. Each of them may end in a step `/s`, from 1 to the field's maximum;
+/// `n/s` runs from n to the maximum. Numbers may have leading zeros.
 ///
 /// ```text
 /// let mask = Cron::parse(b"0 0 13 * 5")?;      // midnight on the 13th or any Friday
@@ -59,10 +60,10 @@ impl Model for Cron {
 }
 
 impl Cron {
-    /// Reads a mask. It takes no memory.
+    /// Parses `mask`. It does not allocate.
     ///
     /// # Errors
-    /// `BadCron` where the text is no mask.
+    /// `BadCron` if the text is not a cron mask.
     pub fn parse(mask: &[u8]) -> Result<Cron, CronFault>
         ensures accepted { IsOk result ↔ IsTrue (is_mask mask.now) }
         ensures sets { IfOk result
@@ -83,8 +84,8 @@ impl Cron {
         }
     }
 
-    /// Whether the mask matches this minute: minute, hour and month are in their sets, and so are day and weekday, of
-    /// which one is enough where neither field is the text `*`.
+    /// Returns whether the mask matches the minute `at`: minute, hour and month are in their sets, and so are day and
+    /// weekday. If neither of these two fields is the text `*`, one of the two is enough.
     pub fn matches(&self, at: &CivilMinute) -> bool
         ensures { result ≡ sets_match self.now at.now }
     {
@@ -102,7 +103,7 @@ impl Cron {
 }
 
 impl TryCopy for Cron {
-    // Takes no memory.
+    // Does not allocate.
     fn copy(&self, _alloc: Global) -> Result<Cron, NoMemory>
         ensures equal { IfOk result (λ twin. twin ≡ self.now) }
         ensures needs_none { IsOk result }
@@ -111,7 +112,7 @@ impl TryCopy for Cron {
     }
 }
 
-// The sets of five fields.
+// Returns the sets of five fields.
 fn read(minute: &[u8], hour: &[u8], day: &[u8], month: &[u8], weekday: &[u8]) -> Option<Cron>
     ensures accepted { is_some result
         ≡ are_fields minute.now hour.now day.now month.now weekday.now }
@@ -134,7 +135,7 @@ fn read(minute: &[u8], hour: &[u8], day: &[u8], month: &[u8], weekday: &[u8]) ->
     })
 }
 
-// The set of the weekday field, with Sunday as 0.
+// Returns the set of the weekday field, with Sunday as 0.
 fn weekday_set(weekday: &[u8]) -> Option<u64>
     ensures accepted { is_some result ≡ is_field 0 7 weekday.now }
     ensures set { IfSome result (λ set. (n : ℕ) → has set n ≡ in_weekdays weekday.now n) }

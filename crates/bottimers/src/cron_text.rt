@@ -7,7 +7,7 @@ ghost use Rattle.bottimers.specs.CronText.{fields_of, first_field, other_fields}
 
 use crate::span::{Span, union};
 
-// What stands before the first such byte, and what stands after it if there is one.
+// Splits `text` at the first byte `at`. There is no second part if the text lacks that byte.
 fn cut(text: &[u8], at: u8) -> (&[u8], Option<&[u8]>)
     ensures front { result.0.now ≡ before at text.now }
     ensures back { option_copied result.1
@@ -19,17 +19,17 @@ fn cut(text: &[u8], at: u8) -> (&[u8], Option<&[u8]>)
     }
 }
 
-// The place of the first such byte.
+// Returns the place of the first byte `at`.
 fn place(text: &[u8], at: u8) -> Option<usize>
     ensures { result ≡ position (λ b. b == at) text.now }
 {
     text.iter().position(|b| *b == at)
 }
 
-// Numbers past this are all too large.
+// Every number from this one on is too large.
 const TOO_LARGE: u32 = 1000;
 
-// The number that the text is, if it is one from `low` to `high`.
+// Returns the number that the text means, if it is one from `low` to `high`.
 fn number(text: &[u8], low: u8, high: u8) -> Option<u8>
     ensures value { result ≡ number_in low high text.now }
     ensures within { IfSome result (λ n. (low ≤ n) × (n ≤ high)) }
@@ -51,7 +51,7 @@ fn number(text: &[u8], low: u8, high: u8) -> Option<u8>
     }
 }
 
-// The number with one digit more, as far as it matters.
+// Appends one digit to the number, which stays at `TOO_LARGE` once it is that large.
 fn shifted(value: u32, digit: u8) -> u32
     requires { (value ≤ TOO_LARGE) × (48 ≤ digit) × (digit ≤ 57) }
     ensures { result ≡ min TOO_LARGE (value * 10 + (digit - 48)) }
@@ -66,7 +66,7 @@ pub(crate) fn is_star(text: &[u8]) -> bool
     text.len() == 1 && text[0] == b'*'
 }
 
-// Where an item without its step begins and ends.
+// Returns the first and the last number of an item without its step.
 fn ends(base: &[u8], low: u8, high: u8, stepped: bool) -> Option<(u8, u8)>
     ensures value { result ≡ ends_in low high stepped base.now }
     ensures within { IfSome result (λ e. e.1 ≤ high) }
@@ -92,7 +92,7 @@ fn ends(base: &[u8], low: u8, high: u8, stepped: bool) -> Option<(u8, u8)>
     }
 }
 
-// The numbers of one item.
+// Returns the numbers of one item.
 fn span(item: &[u8], low: u8, high: u8) -> Option<Span>
     ensures value { result ≡ span_of low high item.now }
     ensures within { IfSome result (λ s. (0 < s.step) × (s.last ≤ high)) }
@@ -115,7 +115,7 @@ fn span(item: &[u8], low: u8, high: u8) -> Option<Span>
     }
 }
 
-// The set of one field, whose numbers are from `low` to `high`.
+// Returns the set of one field, with numbers from `low` to `high`.
 pub(crate) fn field(text: &[u8], low: u8, high: u8) -> Option<u64>
     requires { high < 64 }
     ensures accepted { is_some result ≡ is_field low high text.now }
@@ -134,7 +134,7 @@ pub(crate) fn field(text: &[u8], low: u8, high: u8) -> Option<u64>
     Some(set)
 }
 
-// The first field of a mask, and the mask after it, if there is a field.
+// Returns the first field of a mask and the rest of the mask, if there is a field.
 pub(crate) fn take_field(mask: &[u8]) -> Option<(&[u8], &[u8])>
     ensures { MatchOption result (fields_of mask.now ≡ [])
         (λ p. fields_of mask.now ≡ p.0.now ∷ fields_of p.1.now) }
@@ -153,7 +153,7 @@ pub(crate) fn take_field(mask: &[u8]) -> Option<(&[u8], &[u8])>
     }
 }
 
-// The same, where a field that is left out is `*`.
+// Returns the first field and the rest, with `*` for a missing field.
 pub(crate) fn next_field(mask: &[u8]) -> (&[u8], &[u8])
     ensures first { result.0.now ≡ first_field (fields_of mask.now) }
     ensures others { fields_of result.1.now ≡ other_fields (fields_of mask.now) }

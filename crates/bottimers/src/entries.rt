@@ -13,7 +13,7 @@ use crate::timer::TimerKind;
 use bytetext::{NoMemory, TryCopy};
 use std::alloc::Global;
 
-// How many have an occurrence to come after the second `to`.
+// Counts the timers that have an occurrence after the second `to`.
 pub(crate) fn count_kept(entries: &[Entry], from: u64, to: u64) -> usize
     requires { All (λ e. IsRunning from e × (from ≤ to)) entries.now }
     ensures { result ≡ length (filter (λ e. is_kept to e.timer) entries.now) }
@@ -27,7 +27,7 @@ pub(crate) fn count_kept(entries: &[Entry], from: u64, to: u64) -> usize
     count
 }
 
-// The calls of those with an occurrence at the second `to`, utimers first.
+// Returns the calls of the timers with an occurrence at the second `to`, utimers first.
 pub(crate) fn due_of(
     alloc: Global,
     entries: &[Entry],
@@ -45,7 +45,7 @@ pub(crate) fn due_of(
     Ok(calls)
 }
 
-// Whether one has an occurrence at the second `to`.
+// Whether a timer has an occurrence at the second `to`.
 pub(crate) fn is_any_due(entries: &[Entry], from: u64, to: u64) -> bool
     requires { All (λ e. IsRunning from e × (from < to)) entries.now }
     ensures { result ≡ list_any (λ e. is_due to e.timer) entries.now }
@@ -58,7 +58,7 @@ pub(crate) fn is_any_due(entries: &[Entry], from: u64, to: u64) -> bool
     false
 }
 
-// Puts the calls of those of one kind with an occurrence at the second `to` after the calls so far.
+// Appends the calls of the timers of one kind that have an occurrence at the second `to`.
 fn push_due(
     alloc: Global,
     calls: &mut Vec<TimerCall>,
@@ -79,7 +79,7 @@ fn push_due(
     Ok(())
 }
 
-// Lets the time from the one second to the other pass.
+// Lets the time from `from` to `to` pass.
 pub(crate) fn pass(entries: &mut Vec<Entry>, from: u64, to: u64)
     requires { All (λ e. IsRunning from e × (from ≤ to)) entries.old.items }
     ensures items { entries.new.items
@@ -91,7 +91,7 @@ pub(crate) fn pass(entries: &mut Vec<Entry>, from: u64, to: u64)
     drop_ended(entries);
 }
 
-// Counts each down.
+// Counts each timer down.
 fn count_down(entries: &mut [Entry], from: u64, to: u64)
     requires { All (λ e. IsRunning from e × (from ≤ to)) entries.old }
     ensures { entries.new ≡ map (counted to) entries.old }
@@ -101,7 +101,7 @@ fn count_down(entries: &mut [Entry], from: u64, to: u64)
     }
 }
 
-// Takes away those that have counted down to their last occurrence.
+// Drops the timers that have counted down to their last occurrence.
 fn drop_ended(entries: &mut Vec<Entry>)
     ensures items { entries.new.items ≡ filter (λ e. e.timer.count == 0 || nat_lt 0 e.repeats) entries.old.items }
     ensures room { vec_capacity entries.new ≡ vec_capacity entries.old }
@@ -110,14 +110,14 @@ fn drop_ended(entries: &mut Vec<Entry>)
     entries.retain(|entry| entry.timer.count == 0 || entry.repeats > 0);
 }
 
-// Whether one has this id.
+// Whether a timer has this id.
 pub(crate) fn has_id(entries: &[Entry], id: u32) -> bool
     ensures { result ≡ list_any (λ e. e.timer.id == id) entries.now }
 {
     entries.iter().any(|entry| entry.timer.id == id)
 }
 
-// Takes away what has this id.
+// Drops the timer with this id.
 pub(crate) fn remove_id(entries: &mut Vec<Entry>, id: u32)
     ensures items { entries.new.items ≡ filter (λ e. not (e.timer.id == id)) entries.old.items }
     ensures room { vec_capacity entries.new ≡ vec_capacity entries.old }
@@ -126,7 +126,7 @@ pub(crate) fn remove_id(entries: &mut Vec<Entry>, id: u32)
     entries.retain(|entry| entry.timer.id != id);
 }
 
-// The place of the first that calls this proc with this text.
+// Returns the place of the first timer that calls `proc` with `text`.
 pub(crate) fn place_named(entries: &[Entry], proc: &[u8], text: &[u8]) -> Option<usize>
     ensures { result ≡ position (λ e. is_named proc.now text.now e.timer) entries.now }
 {
@@ -135,7 +135,7 @@ pub(crate) fn place_named(entries: &[Entry], proc: &[u8], text: &[u8]) -> Option
         .position(|entry| entry.timer.is_named(proc, text))
 }
 
-// How each stands at a second.
+// Returns the status of each timer at a second.
 pub(crate) fn statuses_of(
     alloc: Global,
     entries: &[Entry],
@@ -152,7 +152,7 @@ pub(crate) fn statuses_of(
     Ok(list)
 }
 
-// How one stands at the second to which it has counted down.
+// Returns the status of one timer at the second to which it has counted down.
 fn status(alloc: Global, entry: &Entry) -> Result<TimerStatus, NoMemory>
     ensures { (at : ℕ) → IsRunning at entry.now → IfOk result (λ status. status ≡ status_of at entry.now.timer) }
 {

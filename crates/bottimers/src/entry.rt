@@ -6,7 +6,7 @@ use crate::timer::{Timer, TimerKind};
 use bytetext::{NoMemory, TryCopy};
 use std::alloc::Global;
 
-// `left` units are left to the next occurrence, and `repeats` occurrences are to come, or 0 for ever.
+// `left` units remain until the next occurrence, and `repeats` occurrences are to come, or 0 for ever.
 #[derive(Drop)]
 pub(crate) struct Entry {
     pub(crate) timer: Timer,
@@ -17,7 +17,7 @@ pub(crate) struct Entry {
 impl Entry {
     ghost use Rattle.bottimers.specs.Countdown.{IsRunning, counted};
 
-    // Nothing has passed yet.
+    // Creates the entry of a new timer, for which no time has passed yet.
     pub(crate) fn new(timer: Timer) -> Entry
         requires { 0 < timer.interval }
         ensures timer { result.timer ≡ timer }
@@ -31,7 +31,7 @@ impl Entry {
         }
     }
 
-    // How many occurrences lie after the one second, up to the other.
+    // Counts the occurrences after `from`, up to `to`.
     fn fallen(&self, from: u64, to: u64) -> u64
         requires { IsRunning from self.now × (from ≤ to) }
         ensures { result + used self.now.timer from ≡ used self.now.timer to }
@@ -44,7 +44,7 @@ impl Entry {
         )
     }
 
-    // Whether an occurrence is at the second `to`.
+    // Whether the timer has an occurrence at the second `to`.
     pub(crate) fn is_due(&self, from: u64, to: u64) -> bool
         requires { IsRunning from self.now × (from < to) }
         ensures { result ≡ is_due to self.now.timer }
@@ -56,7 +56,7 @@ impl Entry {
             && (self.repeats == 0 || fallen <= self.repeats as u64)
     }
 
-    // Whether the timer is of this kind, and an occurrence is at the second `to`.
+    // Whether the timer is of this kind and has an occurrence at the second `to`.
     pub(crate) fn is_due_of(&self, kind: TimerKind, from: u64, to: u64) -> bool
         requires { IsRunning from self.now × (from < to) }
         ensures { result ≡ is_due_of kind to self.now.timer }
@@ -64,7 +64,7 @@ impl Entry {
         self.timer.kind.is_same(kind) && self.is_due(from, to)
     }
 
-    // Whether an occurrence is to come after the second `to`.
+    // Whether the timer has an occurrence after the second `to`.
     pub(crate) fn is_kept(&self, from: u64, to: u64) -> bool
         requires { IsRunning from self.now × (from ≤ to) }
         ensures { result ≡ is_kept to self.now.timer }
@@ -72,7 +72,7 @@ impl Entry {
         self.repeats == 0 || self.fallen(from, to) < self.repeats as u64
     }
 
-    // The units left at the second `to`.
+    // Returns the units left at the second `to`.
     fn left_at(&self, from: u64, to: u64) -> u32
         requires { IsRunning from self.now × (from ≤ to) }
         ensures { result ≡ units_left self.now.timer to }
@@ -85,7 +85,7 @@ impl Entry {
         )
     }
 
-    // Counts down from the one second to the other.
+    // Counts down from `from` to `to`.
     pub(crate) fn count_down(&mut self, from: u64, to: u64)
         requires { IsRunning from self.old × (from ≤ to) }
         ensures { self.new ≡ counted to self.old }
@@ -107,7 +107,7 @@ impl TryCopy for Entry {
     }
 }
 
-// The minute that a second lies in, or the second itself.
+// Returns the minute that a second lies in, or the second itself.
 fn unit(kind: TimerKind, second: u64) -> u64
     ensures { result ≡ unit_of kind second }
 {
@@ -127,7 +127,7 @@ fn starts_unit(kind: TimerKind, second: u64) -> bool
     }
 }
 
-// How many occurrences lie within the units that have passed, where the first is `left` units off.
+// Counts the occurrences within `passed` units when the first is `left` units off.
 fn fallen(left: u32, interval: u32, passed: u64) -> u64
     requires { (0 < interval) × (0 < left) }
     ensures { result ≡ (if nat_lt passed left then 0 else (passed - left) / interval + 1) }
@@ -140,7 +140,7 @@ fn fallen(left: u32, interval: u32, passed: u64) -> u64
     }
 }
 
-// The units left to the next one after that.
+// Returns the units left to the first occurrence after those.
 fn left_after(left: u32, interval: u32, passed: u64) -> u32
     requires { 0 < interval }
     ensures { result ≡ (if nat_lt passed left then left - passed else interval - (passed - left) % interval) }

@@ -1,4 +1,4 @@
-// What a clock, a timer, a zone or a cron mask can be refused for.
+// Why a clock, a timer, a zone or a cron mask is refused.
 ghost use Rattle.std.specs.Prelude.{◌≡◌, codes};
 ghost use Rattle.bottimers.specs.Faults.{letters_of};
 
@@ -8,25 +8,25 @@ use thiserror::Error;
 /// Why a call was refused, in the order in which the causes are tested.
 #[derive(Clone, Copy, Debug, PartialEq, Eq, Error)]
 pub enum ClockFault {
-    /// No reading was taken yet, or the moment lies after the year 2999.
+    /// There was no reading yet, or the moment is after the year 2999.
     #[error("no such moment: read the clock first, at 0 to 32503679999 seconds")]
     BadMoment,
     /// A timer's interval is not from 1 to 1,000,000.
     #[error("bad interval: choose 1 to 1000000")]
     BadInterval,
-    /// 200 timers are held, or every id was given once.
+    /// The bot has 200 timers, or every id was used once.
     #[error("no room for a timer: kill one first")]
     Full,
     /// No timer has this id, or none calls this proc with this text.
     #[error("no such timer: look it up in the list")]
     NoSuchTimer,
-    /// A zone's minutes are not from -1,439 to 1,439, or its text is no rule of POSIX of 1 to 100 bytes.
+    /// A zone's minutes are not from -1,439 to 1,439, or its text is not a POSIX rule of 1 to 100 bytes.
     #[error("bad zone: choose -1439 to 1439 minutes, or write a rule as 'CET-1CEST,M3.5.0,M10.5.0/3'")]
     BadZone,
 }
 
 impl ClockFault {
-    /// The short letters that a transcript prints: `C4`, `C1`, `C3`, `C2`, `C5`.
+    /// Returns the short letters that a transcript prints: `C4`, `C1`, `C3`, `C2`, `C5`.
     pub fn code(self) -> &'static str
         ensures { result.now ≡ letters_of self }
     {
@@ -40,20 +40,20 @@ impl ClockFault {
     }
 }
 
-/// Why a reading was not taken or a timer not made: a fault, or out of memory where there is none. Whoever answers it is
-/// as before the call.
+/// Why a reading was rejected or a timer not made: a fault, or out of memory if there is no fault. The clock or the
+/// timers are as before the call.
 pub type ClockError = Failure<ClockFault>;
 
 /// Why a cron mask was refused.
 #[derive(Clone, Copy, Debug, PartialEq, Eq, Error)]
 pub enum CronFault {
-    /// The text is no cron mask.
+    /// The text is not a cron mask.
     #[error("bad cron mask: write up to five fields, as '0-30/10 8,20 * * 1-5'")]
     BadCron,
 }
 
 impl CronFault {
-    /// The short letters that a transcript prints: `B3`.
+    /// Returns the short letters that a transcript prints: `B3`.
     pub fn code(self) -> &'static str
         ensures { result.now ≡ codes "B3" }
     {

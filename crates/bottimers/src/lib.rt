@@ -1,17 +1,18 @@
-//! The bot's clock, its timers, civil time and cron masks, as Eggdrop 1.9 has them (its Tcl commands document, at `timer`,
+//! The bot's clock, its timers, civil time and cron masks, as in Eggdrop 1.9 (its Tcl commands document, at `timer`,
 //! `utimer`, `timers`, `killtimer` and the bind types TIME and CRON).
 //!
-//! Nothing here reads a clock: the caller takes readings, and each call says what they mean.
+//! Nothing here reads the system's clock: the caller reads it, and each call says what a reading means.
 //!
-//! - A [`Clock`] turns readings into the seconds that run: none at the first reading, then every second passed, but of a
-//!   long gap only the last 600.
-//! - [`Timers`] says at each of those seconds which timers are due, utimers before timers. A timer that was made in the
-//!   minute or second s with the interval i and the count q is due in the minutes or seconds s + i, s + 2i and so on, q
-//!   times or with 0 for ever; what falls into seconds that aren't run is lost and used up. It calls a proc with a text,
-//!   and is killed by its id or by the two.
-//! - A [`Zone`] says how far a clock is ahead of UTC at a moment, and [`civil`] gives the minute that such a clock and a
-//!   calendar show then. It is the one place that knows of zones. [`time_text`], [`time_args`] and [`cron_args`] write it.
-//! - A [`Cron`] mask is read once and then tried on minutes.
+//! - A [`Clock`] turns readings into the seconds that run: none at the first reading, then every second that has
+//!   passed, but only the last 600 of a long gap.
+//! - [`Timers`] says at each of those seconds which timers are due, utimers before timers. A timer that was made in
+//!   the minute or second s with the interval i and the count q is due in the minutes or seconds s + i, s + 2i and so
+//!   on, q times, or for ever if q is 0. Occurrences in seconds that don't run are lost and count as used. A timer
+//!   calls a proc with a text, and is killed by its id or by its proc and text.
+//! - A [`Zone`] says how far a clock is ahead of UTC at a moment, and [`civil`] returns the minute that this clock and
+//!   the calendar show then. No other function knows of zones. [`time_text`], [`time_args`] and [`cron_args`] write
+//!   that minute.
+//! - A [`Cron`] mask is parsed once and then tried on minutes.
 //!
 //! ```text
 //! let mut clock = Clock::new();

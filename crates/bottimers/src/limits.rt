@@ -1,19 +1,19 @@
 // The limits of clocks and timers. All are our own choice, since Eggdrop states none.
 
-/// How many seconds one reading of the clock runs at most.
+/// The most seconds that one reading of the clock runs.
 pub const MAX_SECONDS: u64 = 600;
 
-/// How many timers there may be at once, utimers among them.
+/// The most timers that a bot has at once, utimers included.
 pub const MAX_TIMERS: usize = 200;
 
 /// The longest interval of a timer, in minutes or seconds.
 pub const MAX_INTERVAL: u32 = 1_000_000;
 
-/// The last id that a timer may have.
+/// The last id that a timer can have.
 pub const MAX_ID: u32 = 4_294_967_295;
 
-/// How many whole minutes a clock may be ahead of UTC or after it, where that never changes.
+/// The most whole minutes by which a clock of a fixed offset is ahead of UTC or behind it.
 pub const MAX_OFFSET: i32 = 1_439;
 
-/// How many bytes the text of a zone's rule has at most.
+/// The most bytes in the text of a zone's rule.
 pub const MAX_ZONE: usize = 100;

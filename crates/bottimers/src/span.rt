@@ -13,7 +13,7 @@ pub(crate) struct Span {
 impl Span {
     ghost use Rattle.bottimers.specs.CronText.{in_span};
 
-    // The bits of these numbers.
+    // Returns these numbers as bits.
     pub(crate) fn bits(&self) -> u64
         requires { (0 < self.now.step) × (self.now.last < 64) }
         ensures { (n : ℕ) → has result n ≡ in_span self.now n }
@@ -28,14 +28,14 @@ impl Span {
     }
 }
 
-// Whether the set has this number.
+// Whether the set has the number `n`.
 pub(crate) fn contains(set: u64, n: u8) -> bool
     ensures { result ≡ has set n }
 {
     n < 64 && (set >> n) & 1 == 1
 }
 
-// The numbers of either set.
+// Returns the numbers that are in either set.
 pub(crate) fn union(a: u64, b: u64) -> u64
     ensures { (n : ℕ) → has result n ≡ (has a n || has b n) }
 {

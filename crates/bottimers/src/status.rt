@@ -1,15 +1,15 @@
-// How a timer stands.
+// The status of a timer.
 use crate::timer::TimerKind;
 use bytetext::{NoMemory, Text, TryCopy};
 use std::alloc::Global;
 
-/// How a timer stands, as Eggdrop's `timers` and `utimers` show it: what is left until it is due, and how often it will
-/// be.
+/// The status of a timer, as Eggdrop's `timers` and `utimers` show it: the time until it is due, and how often it will
+/// be due.
 #[derive(Debug)]
 pub struct TimerStatus {
     /// What `left` counts.
     pub kind: TimerKind,
-    /// Minutes from the minute, or seconds from the second, last given to the next due one.
+    /// Minutes from the last minute given, or seconds from the last second given, to the next occurrence.
     pub left: u32,
     /// The proc that it calls.
     pub proc: Text,
@@ -17,11 +17,11 @@ pub struct TimerStatus {
     pub text: Text,
     /// Its id.
     pub id: u32,
-    /// How many occurrences are to come, or 0 for ever.
+    /// The number of occurrences to come, or 0 for ever.
     pub repeats: u32,
 }
 
-// By hand, so that this is proved once, and not in each function in which one ends.
+// Written by hand, so that it is proved once and not in each function that drops one.
 impl Drop for TimerStatus {
     fn drop(self) {
         let TimerStatus {

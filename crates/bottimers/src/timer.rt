@@ -9,14 +9,14 @@ use std::alloc::Global;
 /// Whether a timer counts minutes or seconds.
 #[derive(Clone, Copy, Debug, PartialEq, Eq)]
 pub enum TimerKind {
-    /// A timer: minutes of the clock, whichever second of its minute it was made in.
+    /// A timer, which counts minutes of the clock, whichever second of its minute it was made in.
     Minutes,
-    /// A utimer: seconds.
+    /// A utimer, which counts seconds.
     Seconds,
 }
 
 impl TimerKind {
-    // Whether both are the same.
+    // Whether both kinds are the same.
     pub(crate) fn is_same(self, other: TimerKind) -> bool
         ensures { result ≡ is_same_kind self other }
     {
@@ -38,7 +38,7 @@ pub struct Timer {
     pub made: u64,
     /// Minutes or seconds from one occurrence to the next.
     pub interval: u32,
-    /// How many occurrences it has, or 0 for one after another without end.
+    /// The number of occurrences, or 0 for occurrences without end.
     pub count: u32,
     /// The proc that it calls.
     pub proc: Text,
@@ -46,7 +46,7 @@ pub struct Timer {
     pub text: Text,
 }
 
-// By hand, so that this is proved once, and not in each function in which one ends.
+// Written by hand, so that it is proved once and not in each function that drops one.
 impl Drop for Timer {
     fn drop(self) {
         let Timer {
@@ -64,7 +64,7 @@ impl Drop for Timer {
 impl Timer {
     ghost use Rattle.bottimers.specs.Held.{call_of, is_named};
 
-    // What it calls.
+    // Returns what the timer calls.
     pub(crate) fn call(&self, alloc: Global) -> Result<TimerCall, NoMemory>
         ensures { IfOk result (λ call. call ≡ call_of self.now) }
     {
@@ -75,7 +75,7 @@ impl Timer {
         })
     }
 
-    // Whether it calls this proc with this text.
+    // Whether the timer calls `proc` with `text`.
     pub(crate) fn is_named(&self, proc: &[u8], text: &[u8]) -> bool
         ensures { result ≡ is_named proc.now text.now self.now }
     {

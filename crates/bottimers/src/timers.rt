@@ -32,7 +32,7 @@ use std::marker::Model;
 /// timers.kill(1)?
 /// ```
 ///
-/// Who must not fail half-way asks for room first:
+/// A caller that must not fail half-way reserves room first:
 ///
 /// ```text
 /// timers.reserve(2)?;                                                // all that may want memory
@@ -63,7 +63,7 @@ impl Timers {
     ghost use Rattle.bottimers.specs.Held.{Held, IsAbove, IsNotBelow, add_fault, with_timer, holds, holds_named};
     ghost use Rattle.bottimers.specs.Held.{without, without_named, calls_at, passed, statuses};
 
-    /// No timer, and room for none. Takes no memory.
+    /// Creates an empty set of timers with no room reserved. Does not allocate.
     pub fn new(alloc: Global) -> Timers
         ensures { result ≡ record { timers = []; last = None; spent = 0; room = 0 } }
     {
@@ -75,12 +75,12 @@ impl Timers {
         }
     }
 
-    /// Makes room for just `count` timers, so that as many calls of [`add`](Timers::add) or
-    /// [`add_reserved`](Timers::add_reserved) take no memory. Nothing else that is seen changes. `reserve(0)` gives the
-    /// room up.
+    /// Reserves room for exactly `count` timers, so that the next `count` calls of [`add`](Timers::add) or
+    /// [`add_reserved`](Timers::add_reserved) do not allocate. Nothing else that callers see changes. `reserve(0)`
+    /// gives the room up.
     ///
     /// # Errors
-    /// `NoMemory` where room is refused, never where there was as much. The timers are as before.
+    /// `NoMemory` if the allocation fails, never if the timers already had room for `count`. The timers are unchanged.
     pub fn reserve(&mut self, count: usize) -> Result<(), NoMemory>
         ensures ready { OnOk result (self.new ≡ record self.old { room = count }) }
         ensures unchanged { OnErr result (self.new ≡ self.old) }
@@ -91,14 +91,15 @@ impl Timers {
         Ok(())
     }
 
-    /// Makes a timer that calls `proc` with `text` every `interval` minutes or seconds, counted from the minute or second
-    /// `last`, `count` times or with 0 for ever, and answers its id. Ids rise from 1 and are never used again. `last` is the
-    /// clock's last second, not below any second given before; timers whose last occurrence it has passed are gone.
+    /// Creates a timer that calls `proc` with `text` every `interval` minutes or seconds, as `kind` says, and returns
+    /// its id. The timer counts from the minute or second `last` and is due `count` times, or for ever if `count` is
+    /// 0. Ids rise from 1 and are never used again. `last` is the clock's last second and must not be below any second
+    /// given before. The call drops timers whose last occurrence `last` has passed.
     ///
     /// # Errors
-    /// `Refused(BadMoment)` where there was no reading yet, then `Refused(BadInterval)` where the interval is not from 1
-    /// to 1,000,000, then `Refused(Full)` where 200 timers have an occurrence to come or 4,294,967,295 ids were given,
-    /// then `NoMemory`, never where there was room. The timers are as before.
+    /// `Refused(BadMoment)` if there was no reading yet, then `Refused(BadInterval)` if `interval` is not from 1 to
+    /// 1,000,000, then `Refused(Full)` if 200 timers have an occurrence to come or 4,294,967,295 ids were used, then
+    /// `NoMemory`, never if there was room. The timers are unchanged.
     pub fn add(
         &mut self,
         kind: TimerKind,
@@ -132,10 +133,11 @@ impl Timers {
         Ok(self.push(kind, interval, count, proc, text, now))
     }
 
-    /// The same where there is room: it takes no memory.
+    /// Creates a timer as [`add`](Timers::add) does, with the same `kind`, `interval`, `count`, `proc`, `text` and
+    /// `last`, in room that was reserved. It does not allocate.
     ///
     /// # Errors
-    /// `BadMoment`, `BadInterval` and `Full`, as at [`add`](Timers::add). The timers and the room are as before.
+    /// `BadMoment`, `BadInterval` and `Full`, as at [`add`](Timers::add). The timers and the room are unchanged.
     pub fn add_reserved(
         &mut self,
         kind: TimerKind,
@@ -170,7 +172,7 @@ impl Timers {
         }
     }
 
-    // Why no timer of this interval can be made at this second.
+    // Returns why a timer of this interval can't be made at the second `now`.
     fn refusal_of(&self, interval: u32, now: u64) -> Option<ClockFault>
         requires { IsNotBelow self.now.last (Some now) }
         ensures refusal { result ≡ add_fault self.now interval (Some now) }
@@ -186,7 +188,7 @@ impl Timers {
         None
     }
 
-    // Puts a timer that isn't refused into the room, and answers its id.
+    // Adds a timer that isn't refused, in reserved room, and returns its id.
     fn push(
         &mut self,
         kind: TimerKind,
@@ -228,10 +230,10 @@ impl Timers {
         id
     }
 
-    /// Takes the timer with this id away. Takes no memory.
+    /// Removes the timer `id`. Does not allocate.
     ///
     /// # Errors
-    /// `NoSuchTimer` where none has it; the timers are as before.
+    /// `NoSuchTimer` if no timer has this id; the timers are unchanged.
     pub fn kill(&mut self, id: u32) -> Result<(), ClockFault>
         ensures held { IsOk result ↔ IsTrue (holds self.old id) }
         ensures killed { OnOk result (self.new ≡ without self.old id) }
@@ -245,10 +247,10 @@ impl Timers {
         Ok(())
     }
 
-    /// Takes away the oldest timer that calls this proc with this text, both the same byte for byte. Takes no memory.
+    /// Removes the oldest timer that calls `proc` with `text`, both equal byte for byte. Does not allocate.
     ///
     /// # Errors
-    /// `NoSuchTimer` where there is none; the timers are as before.
+    /// `NoSuchTimer` if there is none; the timers are unchanged.
     pub fn kill_named(&mut self, proc: &[u8], text: &[u8]) -> Result<(), ClockFault>
         ensures held { IsOk result ↔ IsTrue (holds_named self.old proc.now text.now) }
         ensures killed { OnOk result (self.new ≡ without_named self.old proc.now text.now) }
@@ -262,10 +264,10 @@ impl Timers {
         Ok(())
     }
 
-    /// How each timer stands at the last second given, in the order of making.
+    /// Returns the status of each timer at the last second given, in the order of making.
     ///
     /// # Errors
-    /// `NoMemory` where there are timers and room for the list is refused.
+    /// `NoMemory` if there are timers and the list can't be allocated.
     pub fn list(&self, alloc: Global) -> Result<Vec<TimerStatus>, NoMemory>
         ensures list { IfOk result (λ list. list.items ≡ statuses self.now) }
         ensures needs_none { self.now.timers ≡ [] → IsOk result }
@@ -273,7 +275,7 @@ impl Timers {
         statuses_of(alloc, self.entries.as_slice(), self.last.unwrap_or(0))
     }
 
-    /// Whether some timer is due at this second. Takes no memory.
+    /// Returns whether a timer is due at `second`. Does not allocate.
     pub fn is_due(&self, second: u64) -> bool
         requires { IsAbove self.now.last second }
         ensures { result ≡ list_any (is_due second) self.now.timers }
@@ -281,8 +283,8 @@ impl Timers {
         is_any_due(self.entries.as_slice(), self.last.unwrap_or(0), second)
     }
 
-    /// Lets this second pass without its calls: what is due then and what was due at seconds that were skipped is used up;
-    /// a timer with no occurrence to come is gone. Takes no memory.
+    /// Lets `second` pass without its calls. Occurrences at it and at seconds that were skipped are used up, and a
+    /// timer with no occurrence to come is dropped. Does not allocate.
     pub fn pass(&mut self, second: u64)
         requires { IsAbove self.old.last second }
         ensures { self.new ≡ passed second self.old }
@@ -291,13 +293,13 @@ impl Timers {
         self.last = Some(second);
     }
 
-    /// The calls of the timers that are due at this second: the utimers in the order of making, and then, at the
-    /// first second of a minute, the timers in the order of making. What is due then and what was due at seconds that
-    /// were skipped is used up; a timer with no occurrence to come is gone.
+    /// Returns the calls of the timers that are due at `second`: the utimers in the order of making, and then, at the
+    /// first second of a minute, the timers in the order of making. Occurrences at it and at seconds that were skipped
+    /// are used up, and a timer with no occurrence to come is dropped.
     ///
     /// # Errors
-    /// `NoMemory` where some timer is due and room for the list is refused. The timers are as before, and the second may
-    /// be given again.
+    /// `NoMemory` if a timer is due and the list can't be allocated. The timers are unchanged, and the caller may
+    /// retry the same second.
     pub fn due(&mut self, alloc: Global, second: u64) -> Result<Vec<TimerCall>, NoMemory>
         requires { IsAbove self.old.last second }
         ensures calls { IfOk result (λ calls. calls.items ≡ calls_at second self.old) }

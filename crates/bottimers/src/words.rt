@@ -6,10 +6,11 @@ use crate::calendar::CivilMinute;
 use bytetext::{NoMemory, Text, Texts};
 use std::alloc::Global;
 
-/// The text that a time mask is tried on: `mm hh dd MM yyyy`, with the month from `00` for January to `11`.
+/// Returns the text that a time mask is tried on at the minute `at`: `mm hh dd MM yyyy`, with the month from `00` for
+/// January to `11`.
 ///
 /// # Errors
-/// `NoMemory` where room for the text is refused.
+/// `NoMemory` if the text can't be allocated.
 pub fn time_text(alloc: Global, at: &CivilMinute) -> Result<Text, NoMemory>
     ensures { IfOk result (λ text. text ≡ time_line at.now) }
 {
@@ -22,10 +23,10 @@ pub fn time_text(alloc: Global, at: &CivilMinute) -> Result<Text, NoMemory>
     Text::from_slice(alloc, &[m, n, s, h, i, s, d, e, s, o, p, s, y, z, a, b])
 }
 
-/// The arguments of a time call: the five words of the time text.
+/// Returns the arguments of a time call at the minute `at`: the five words of the time text.
 ///
 /// # Errors
-/// `NoMemory` where room for them is refused.
+/// `NoMemory` if they can't be allocated.
 pub fn time_args(alloc: Global, at: &CivilMinute) -> Result<Texts, NoMemory>
     ensures { IfOk result (λ texts. texts ≡ time_words at.now) }
 {
@@ -37,10 +38,11 @@ pub fn time_args(alloc: Global, at: &CivilMinute) -> Result<Texts, NoMemory>
     Ok(Texts::new(vec![in alloc; minute, hour, day, month, year]?))
 }
 
-/// The arguments of a cron call: minute, hour, day, the month from `01`, weekday from `00` for Sunday, of two digits each.
+/// Returns the arguments of a cron call at the minute `at`: minute, hour, day, the month from `01`, weekday from `00`
+/// for Sunday, of two digits each.
 ///
 /// # Errors
-/// `NoMemory` where room for them is refused.
+/// `NoMemory` if they can't be allocated.
 pub fn cron_args(alloc: Global, at: &CivilMinute) -> Result<Texts, NoMemory>
     ensures { IfOk result (λ texts. texts ≡ cron_words at.now) }
 {
@@ -52,7 +54,7 @@ pub fn cron_args(alloc: Global, at: &CivilMinute) -> Result<Texts, NoMemory>
     Ok(Texts::new(vec![in alloc; minute, hour, day, month, weekday]?))
 }
 
-// The last two decimal digits.
+// Returns the last two decimal digits.
 fn two(n: u8) -> [u8; 2]
     ensures { result ≡ two_digits n }
 {
@@ -60,14 +62,14 @@ fn two(n: u8) -> [u8; 2]
     [digit(n / 10), digit(n)]
 }
 
-// The last four.
+// Returns the last four decimal digits.
 fn four(n: u16) -> [u8; 4]
     ensures { result ≡ four_digits n }
 {
     [digit(n / 100 / 10), digit(n / 100), digit(n / 10), digit(n)]
 }
 
-// The last one.
+// Returns the last decimal digit.
 fn digit(n: u16) -> u8
     ensures { result ≡ 48 + n % 10 }
 {

@@ -12,8 +12,8 @@ use jiff_tz::posix::TimeZone;
 use std::alloc::Global;
 use std::marker::Model;
 
-/// How far a clock is ahead of UTC at each moment: by whole minutes that never change, or by a rule of POSIX, which names
-/// standard time and, where there is one, daylight saving time and its two changes in a year. It holds no memory.
+/// How far a clock is ahead of UTC at each moment: by a fixed number of whole minutes, or by a POSIX rule. A rule
+/// names standard time and, if there is one, daylight saving time and its two changes a year. It does not allocate.
 ///
 /// ```text
 /// let berlin = Zone::posix(b"CET-1CEST,M3.5.0,M10.5.0/3")?;      // the last Sundays of March and October
@@ -40,10 +40,10 @@ impl Zone {
     ghost use Rattle.bottimers.specs.Seconds.{IsMoment};
     ghost use Rattle.bottimers.specs.Zones.{ahead_at, fixed_rule, rule_in};
 
-    /// A clock that is always so many minutes ahead of UTC. It takes no memory.
+    /// Creates the zone of a clock that is always `minutes` ahead of UTC. It does not allocate.
     ///
     /// # Errors
-    /// `BadZone` (C5) where the minutes aren't -1,439 to 1,439.
+    /// `BadZone` (C5) if `minutes` is not from -1,439 to 1,439.
     pub fn fixed(minutes: i32) -> Result<Zone, ClockFault>
         ensures accepted { IsOk result ↔ IsOffset minutes }
         ensures rule { IfOk result (λ zone. zone ≡ fixed_rule minutes) }
@@ -63,12 +63,13 @@ impl Zone {
         })
     }
 
-    /// A clock that follows a rule of POSIX, as `CET-1CEST,M3.5.0,M10.5.0/3`, which is the value of `TZ` without a colon
-    /// (IEEE Std 1003.1, Base Definitions 8.3). A name has 3 to 15 bytes, an offset at most 24 hours, the time of a change
-    /// -167 to 167 hours (RFC 9636), and a rule with daylight saving time says when it changes. It takes no memory.
+    /// Parses `text`, a POSIX rule such as `CET-1CEST,M3.5.0,M10.5.0/3`, which is the value of `TZ` without a colon
+    /// (IEEE Std 1003.1, Base Definitions 8.3). A name has 3 to 15 bytes, an offset is at most 24 hours, the time of a
+    /// change is from -167 to 167 hours (RFC 9636), and a rule with daylight saving time says when it changes. It does
+    /// not allocate.
     ///
     /// # Errors
-    /// `BadZone` (C5) where the text hasn't 1 to 100 bytes or is no such rule.
+    /// `BadZone` (C5) if `text` has not 1 to 100 bytes or is not such a rule.
     pub fn posix(text: &[u8]) -> Result<Zone, ClockFault>
         ensures reads { result_ok result ≡ rule_in text.now }
         ensures fault { IfErr result (λ fault. fault ≡ ClockFault.BadZone) }
@@ -82,7 +83,7 @@ impl Zone {
         }
     }
 
-    // What the clock shows at a moment.
+    // Returns what the clock shows at a moment.
     pub(crate) fn shown_at(&self, moment: u64) -> DateTime
         requires { IsMoment moment }
         ensures { civil_nanos result ≡ (pos moment +ℤ ahead_at self.now moment) *ℤ pos 1_000_000_000 }
@@ -93,7 +94,7 @@ impl Zone {
 }
 
 impl TryCopy for Zone {
-    // Takes no memory.
+    // Does not allocate.
     fn copy(&self, _alloc: Global) -> Result<Zone, NoMemory>
         ensures equal { IfOk result (λ twin. twin ≡ self.now) }
         ensures needs_none { IsOk result }

@@ -1,4 +1,4 @@
--- Which procs a step calls, as two bots are compared.
+-- The procs that a step calls, to compare two bots.
 use Rattle.std.specs.Prelude.{◌≡◌, ℕ, List, map, slice_get, Option, None, Some, Result, Ok, Err}
 use Rattle.userfile.specs.Records.{Records}
 use Rattle.chanstate.specs.declared.state.ChanState.{ChanState}
@@ -21,7 +21,7 @@ use Rattle.botworld.specs.declared.outcome.Outcome.{Outcome}
 use Rattle.botworld.specs.declared.outcome.Outcome.TheVariants.{Report as reported, NoSuchBot, NoSuchPacket}
 use Rattle.botworld.specs.Net.{Net, part_of}
 
--- a call, whichever bind it was made for
+-- a call, without the bind for which it was made
 pub record ProcCall : Type 0 where
   pub proc : List ℕ
   pub call : Call
@@ -30,8 +30,8 @@ pub record ProcCall : Type 0 where
 abbrev pub proc_call : MadeCall → ProcCall
 proc_call made = record { proc = made.proc; call = made.call; code = made.reply.code }
 
--- a step that is done: the bot as it was, what happened to call procs (the events of a message, a text of another bot, or the timers
--- and minutes of the seconds that ran), and the calls
+-- a step that is done: the bot as it was, what happened to call procs (the events of a message, a text of another bot,
+-- or the timers and minutes of the seconds that ran), and the calls
 pub record Calling : Type 0 where
   pub bot : Bot
   pub happenings : List Happening
@@ -52,28 +52,28 @@ calling_in w (Ok part) NoSuchBot = None
 calling_in w (Ok part) NoSuchPacket = None
 calling_in w (Err missing) outcome = None
 
--- what a step from this net calls, where a bot takes part and is done
+-- what a step from this net calls, if a bot takes part and is done
 abbrev pub calling : Net → Step → Outcome → Option Calling
 calling w step outcome = calling_in w (part_of w step) outcome
 
--- what a bind was asked to be: all of it but its number
+-- a bind as it was requested: all of it but its number
 abbrev pub asked_in : Bind → Asked
 asked_in bind = record { kind = bind.kind; flags = bind.flags; mask = bind.mask; proc = bind.proc }
 
--- bots that are alike in what calls depend on but for their channels, to which the same happens
+-- bots with the same events that are alike in everything that calls depend on, except for their channels
 pub record IsAlikeButChannels (a b : Calling) : Type 0 where
   pub happenings : a.happenings ≡ b.happenings
   pub binds : map asked_in a.bot.binds.binds ≡ map asked_in b.bot.binds.binds
   pub exclusive : a.bot.config.exclusive ≡ b.bot.config.exclusive
   pub version : link_version a.bot.link ≡ link_version b.bot.link
 
--- bots that are alike in all that calls depend on: a promised code may depend on the records, which are those of the version, and on the
--- channels, which are the bot's nick and what it knows of each channel that it is on
+-- bots that are alike in everything that calls depend on: a promised code can depend on the records, which are those
+-- of the version, and on the channels, which are the bot's nick and what it knows of each channel that it is on
 pub record IsAlike (a b : Calling) : Type 0 where
   pub others : IsAlikeButChannels a b
   pub channels : a.bot.channels ≡ b.bot.channels
 
--- the promised codes are the same whatever the channels are
+-- the promised codes do not depend on the channels
 abbrev pub IgnoresChannels : Promised → Type 0
 IgnoresChannels promised = (name : List ℕ) (call : Call) (records : Records) (one other : ChanState)
     → code_at promised (record { records = records; channels = one }) name call

@@ -1,4 +1,4 @@
--- What a world is to a contract, and what one step makes of it.
+-- A world as contracts see it, and what one step does to it.
 use Rattle.std.specs.Prelude.{◌≡◌, ℕ, zero, suc, ◌+◌, nat_lt, Bool, true, false, ◌&&◌, if◌then◌else◌, List, [], ◌∷◌, ◌++◌, length, slice_get, slice_set}
 use Rattle.std.specs.Prelude.{Option, None, Some, Result, Ok, Err, IsOk}
 use Rattle.std.specs.Option.{option_map}
@@ -20,25 +20,25 @@ use Rattle.botworld.specs.declared.outcome.Report.{Report}
 use Rattle.botworld.specs.declared.outcome.Outcome.{Outcome}
 use Rattle.botworld.specs.declared.outcome.Outcome.TheVariants.{Report as reported, NoSuchBot, NoSuchPacket}
 
--- the bots, the hub first, every packet ever sent, the first of them first, and the names of the procs
+-- the bots, the hub first, every packet ever sent, in the order of sending, and the names of the procs
 pub record Net : Type 0 where
   pub bots : List Bot
   pub packets : List Sent
   pub store : List (List ℕ)
 
--- the records of each part are of good shape
+-- the records of each part are well-formed
 abbrev pub AllGood : List Sent → Type 0
 AllGood [] = Unit {0}
 AllGood (sent ∷ packets) = HasGoodRecords sent.packet × AllGood packets
 
 -- ---- who takes part in a step
 
--- the packet of this number, from 1
+-- the packet with this number, from 1
 abbrev pub packet_at : List Sent → ℕ → Option Sent
 packet_at packets zero = None
 packet_at packets (suc place) = slice_get packets place
 
--- whether there is a bot of this number
+-- whether a bot has this number
 abbrev pub is_bot : Net → ℕ → Bool
 is_bot w bot = nat_lt bot (length w.bots)
 
@@ -46,11 +46,11 @@ abbrev pub is_packet : Event → Bool
 is_packet (Receive packet) = true
 is_packet other = false
 
--- the part of the bot of this number, if it is there
+-- the part of the bot with this number, if there is one
 abbrev pub part_at : Net → ℕ → Event → Result Part Outcome
 part_at w bot event = if is_bot w bot then Ok (record { bot = bot; event = event }) else Err NoSuchBot
 
--- a bot may be told anything but a packet: a packet that nobody sent reaches nobody
+-- a bot may handle anything but a packet: a packet that nobody sent reaches nobody
 abbrev pub told_at : Net → ℕ → Event → Result Part Outcome
 told_at w bot event = if is_bot w bot && is_packet event then Err NoSuchPacket else part_at w bot event
 
@@ -59,7 +59,7 @@ abbrev pub delivered : Net → Option Sent → Result Part Outcome
 delivered w None = Err NoSuchPacket
 delivered w (Some sent) = part_at w sent.to (Receive sent.packet)
 
--- which bot takes part in a step, and what it is told; or the outcome, where none does
+-- the bot that takes part in a step and its event; or the outcome, if none does
 abbrev pub part_of : Net → Step → Result Part Outcome
 part_of w (At bot event) = told_at w bot event
 part_of w (Deliver packet) = delivered w (packet_at w.packets packet)
@@ -68,14 +68,14 @@ part_of w (Deliver packet) = delivered w (packet_at w.packets packet)
 abbrev pub TakesPartAt : Net → List Step → ℕ → Type 0
 TakesPartAt w steps place = (step : Step) × (slice_get steps place ≡ Some step) × IsOk (part_of w step)
 
--- ---- what a step makes
+-- ---- what a step does
 
 -- packets with their sender
 abbrev pub posted : ℕ → List Outgoing → List Sent
 posted from [] = []
 posted from (o ∷ os) = record { from = from; to = o.to; packet = o.packet } ∷ posted from os
 
--- what a bot reports, as an outcome: the packets are told by their numbers, which go on from this one
+-- a bot's report, as an outcome: it gives the numbers of its packets, which continue from this one
 abbrev pub report_of : ℕ → ℕ → BotReport → Report
 report_of bot first report = record {
   bot = bot;
@@ -89,7 +89,7 @@ report_of bot first report = record {
   logged = report.logged;
 }
 
--- a bot takes its own step, and its packets are on the network after those that were
+-- a bot makes its own step, and its packets are on the network after the earlier ones
 pub record TakesPart (promised : Promised)
     (old : Net) (part : Part) (outcome : Outcome) (new : Net) : Type 0 where
   pub was : Bot
@@ -116,7 +116,7 @@ NetStep promised old step outcome new = Comes promised old (part_of old step) ou
 
 -- ---- what a bot shows
 
--- the version of a bot, and its records; none where there is no such bot
+-- the version of a bot, and its records; none if there is no such bot
 abbrev pub shown_version : Net → ℕ → Option ℕ
 shown_version w bot = option_map (λ (b : Bot). link_version b.link) (slice_get w.bots bot)
 

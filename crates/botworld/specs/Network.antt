@@ -58,7 +58,8 @@ all_sent (sent ∷ packets) = sent_as sent ∷ all_sent packets
 abbrev pub AllNew : List Bot → Type 0
 AllNew bots = (place : ℕ) (b : Bot) → slice_get bots place ≡ Some b → b ≡ new_bot b.config b.link.device
 
--- a bot at its place among so many: its number is the place, and it knows of a leaf for each bot but the hub
+-- a bot at its place among this number of bots: its number is the place, and it knows of a leaf for each bot but the
+-- hub
 pub record IsNumberedAt (bots place : ℕ) (b : Bot) : Type 0 where
   pub number : b.config.number ≡ place
   pub leaves : b.config.leaves + 1 ≡ bots
@@ -68,7 +69,7 @@ pub record AreNumbered (bots : List Bot) : Type 0 where
   pub hub : 0 < length bots
   pub each : (place : ℕ) (b : Bot) → slice_get bots place ≡ Some b → IsNumberedAt (length bots) place b
 
--- how many bots there are beside the first
+-- the number of bots other than the first
 abbrev pub leaf_count : List Bot → ℕ
 leaf_count [] = 0
 leaf_count (hub ∷ leaves) = length leaves
@@ -87,23 +88,23 @@ pub record IsStart (s : State) : Type 0 where
 
 -- ---- what holds at each moment
 
--- a bot's end is that of its place, in a net of so many leaves
+-- a bot's end is that of its place, in a net with this number of leaves
 pub record IsPlacedAt (count place : ℕ) (b : Bot) : Type 0 where
   pub number : b.link.number ≡ place
   pub leaves : b.link.leaves ≡ count
 
--- the ends of the bots and the packets stand for what happened, in which all that the links promise holds
+-- the ends of the bots and the packets stand for what happened, and all promises of the links hold of it
 pub record IsSound (s : State) : Type 0 where
   pub links : IsMoment (ends_of s.net.bots) (all_sent s.net.packets) s.links
   pub placed : (place : ℕ) (b : Bot) → slice_get s.net.bots place ≡ Some b → IsPlacedAt s.links.count place b
 
--- a packet that was sent is true of what happened: a change is the accepted one of its number, a part is one of the records at
--- its version, a request is what the leaf asked under its number, and an answer is the hub's
+-- a packet that was sent is true of what happened: a change is the accepted change of its number, a part is one of the
+-- records at its version, a request is what the leaf asked under its number, and an answer is the hub's
 abbrev pub IsTruePacket : State → Sent → Type 0
 IsTruePacket s sent = IsTrue s.links.hub.kept (asked_of s.links.leaves) (from_wire sent.packet)
 
--- all that the links promise of a moment: above all that a request is accepted at most once, that its change is the one that
--- the leaf asked for, and that it is told under its number and never as refused
+-- all promises of the links at a moment: above all that a request is accepted at most once, that its change is the one
+-- that the leaf asked for, and that it is reported under its number and never as refused
 pub record KeepsPromises (s : State) : Type 0 where
   pub links : LinkNet
   pub ends : ends_of s.net.bots ≡ ends_in links
@@ -116,7 +117,7 @@ pub record KeepsPromises (s : State) : Type 0 where
 abbrev pub NeverBack : Net → Net → Type 0
 NeverBack old new = (bot u : ℕ) → shown_version old bot ≡ Some u → (v : ℕ) × (shown_version new bot ≡ Some v) × (u ≤ v)
 
--- what happened stays and more comes to it, no version goes back, and the bots and the procs stay
+-- what happened stays and more is added, no version goes back, and the bots and the procs stay
 pub record Follows (old new : State) : Type 0 where
   pub links : Grows old.links new.links
   pub packets : (more : List Sent) × (new.net.packets ≡ old.net.packets ++ more)
@@ -130,7 +131,7 @@ IsDone (reported report) = report.end ≡ Done
 IsDone NoSuchBot = ⊥
 IsDone NoSuchPacket = ⊥
 
--- the step was made: it did not end for want of memory
+-- the step was made: it did not end out of memory
 abbrev pub IsMade : Outcome → Type 0
 IsMade (reported report) = report.end ≢ NoMemory
 IsMade NoSuchBot = Unit {0}
@@ -157,7 +158,7 @@ abbrev pub waiting_at : Option Bot → List Change
 waiting_at None = []
 waiting_at (Some b) = end_asks b.link.end
 
--- an oldest ask that the records take, and that a done pump of the hub takes, is accepted under the next number
+-- the oldest ask, if the records allow it and a pump of the hub is done, is accepted under the next number
 abbrev pub AcceptsNext : State → Step → Outcome → State → Type 0
 AcceptsNext old step outcome new = (change : Change) (rest : List Change) → step ≡ At 0 Pump → waiting_at (slice_get old.net.bots 0) ≡ change ∷ rest
     → refusal (records_of (accepted_by old) (length (accepted_by old))) change ≡ None → IsDone outcome
@@ -173,8 +174,9 @@ IsFine (reported report) = IsFineEnd report.end
 IsFine NoSuchBot = Unit {0}
 IsFine NoSuchPacket = Unit {0}
 
--- the accepted changes grow by one where the hub tells that it accepted a change, whose number is then their count; by one or
--- none where the hub tells that it was restarted, at the version that is then their count; and nowhere else
+-- The accepted changes grow by one if the hub reports that it accepted a change, whose number is then their count.
+-- They grow by one or none if the hub reports that it was restarted, at the version that is then their count.
+-- Otherwise they do not grow.
 abbrev pub GrowsByNote : ℕ → Option Note → List AcceptedChange → List AcceptedChange → Type 0
 GrowsByNote bot None old new = new ≡ old
 GrowsByNote bot (Some (link_note note)) old new = MovesAsTold old new bot (Ok (note_of note))

@@ -16,7 +16,7 @@ pub enum WorldFault {
 }
 
 impl WorldFault {
-    /// The letter and number of the refusal.
+    /// Returns the letter and number of the refusal.
     pub fn code(self) -> &'static str
         ensures { result.now ≡ fault_code self }
     {
@@ -26,7 +26,7 @@ impl WorldFault {
     }
 }
 
-/// Bots of which no world was made, with their store, as they were handed in.
+/// The bots and the store that the caller passed, of which no world was made.
 #[derive(Drop)]
 pub struct RefusedWorld<P: Promise, D: Disk, B: Run = Body> {
     /// Why no world was made.

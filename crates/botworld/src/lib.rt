@@ -1,17 +1,22 @@
 //! A whole botnet in memory: the hub, its leaves, the procs that their binds call, and every packet ever sent.
 //!
-//! A [`World`] makes any list of [`Step`]s: a bot is told an [`Event`](botcore::Event), or a packet is delivered. A
-//! packet may be delivered never, once or often, and in any order, which is all that a network can do. A bot's disks may
-//! fail at any call; what was being journaled then counts or doesn't, which its restart finds out. Each step has an
-//! [`Outcome`], and [`World::run`] promises of every list of steps that two bots at the same version hold the same
-//! records, those after the hub's first so many accepted changes; that no bot's version goes back, restarts included; and
-//! that two bots equal in version, binds, `exclusive` and channels call the same procs in the same order for the same
-//! events, also at two different moments. A proc that looks at its bot sees its records, which are those of the version,
-//! and its channels; where no promised code depends on the channels, they need not be equal.
+//! A [`World`] makes any list of [`Step`]s: a bot handles an [`Event`](botcore::Event), or a packet is delivered. A
+//! packet may be delivered never, once or often, and in any order, which is all that a network can do. A bot's disks
+//! may fail at any call. The record that was being written is then in the journal or not, as the next restart finds.
+//! Each step has an [`Outcome`].
 //!
-//! The promise is made of a history that no bot holds: every change that was accepted, every request and every answer. A
-//! world stands for such a history by its bots' ends of the link and by the packets that were sent (`specs/Network`), and
-//! each step leads to one that it stands for.
+//! [`World::run`] promises for every list of steps:
+//!
+//! - Two bots at the same version hold the same records: those that the hub's first accepted changes make, as many as
+//!   the version says.
+//! - No bot's version goes back, restarts included.
+//! - Two bots equal in version, binds, `exclusive` and channels call the same procs in the same order for the same
+//!   events, also at two different moments. A proc that looks at its bot sees its records, which are those of the
+//!   version, and its channels. If no promised code depends on the channels, they need not be equal.
+//!
+//! These promises are stated of a history that no bot holds: every change that was accepted, every request and every
+//! answer. A world stands for such a history by its bots' ends of the link and by the packets that were sent
+//! (`specs/Network`). Each step leads to a history for which the world then stands.
 //!
 //! ```text
 //! let hub = Bot::create(alloc, config(0), disk(), disk())?;      // each with `leaves: 1`

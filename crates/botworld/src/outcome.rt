@@ -1,4 +1,4 @@
-// What came of steps.
+// The outcomes of steps.
 ghost use Rattle.std.specs.Prelude.{◌≡◌, IfOk};
 ghost use Rattle.std.specs.Option.{option_copied};
 ghost use Rattle.botworld.specs.Codes.{outcome_code};
@@ -8,25 +8,25 @@ use botcore::{End, Faults, Note};
 use bytetext::{NoMemory, Seq, Texts, TryCopy};
 use std::alloc::Global;
 
-/// A bot's part in a step: what the bot reports, with its packets told by their numbers.
+/// A bot's part in a step: the bot's report, with the numbers of its packets.
 #[derive(Drop)]
 pub struct Report {
     /// The bot's number.
     pub bot: u16,
     /// How its part ended.
     pub end: End,
-    /// What came of it.
+    /// What came of the step.
     pub note: Option<Note>,
-    /// The calls that were made, in order. Out of memory they are the first of those that would be made.
+    /// The calls that were made, in order. Out of memory, they are the first of those that were due.
     pub calls: MadeCalls,
     /// The number of the first packet that the step sent, or would have sent.
     pub first: u64,
-    /// How many packets the step sent.
+    /// The number of packets that the step sent.
     pub count: usize,
     /// The lines that the step sent to the server, in order, each without its CR LF.
     pub lines: Texts,
-    /// The binds that were left out since the store lacks their procs, then the actions that were refused, and then the lines
-    /// of the bot's own that were refused.
+    /// The binds that were left out because the store lacks their procs, then the refused actions, and then the
+    /// refused lines of the bot's own.
     pub faults: Faults,
     /// Whether the line is logged.
     pub logged: bool,
@@ -61,19 +61,19 @@ fn copy_of_note(alloc: Global, note: &Option<Note>) -> Result<Option<Note>, NoMe
     }
 }
 
-/// What came of a step.
+/// The outcome of a step.
 #[derive(Drop)]
 pub enum Outcome {
     /// A bot took part.
     Report(Report),
-    /// O2: there is no such bot; nothing changed.
+    /// O2: no bot has this number; nothing changed.
     NoSuchBot,
-    /// O3: there is no such packet, or a bot was told a packet that was not delivered; nothing changed.
+    /// O3: no packet has this number, or the step gives a bot a packet without a delivery; nothing changed.
     NoSuchPacket,
 }
 
 impl Outcome {
-    /// The letter and number of an outcome in which no bot took part; none for a report.
+    /// Returns the letter and number of an outcome in which no bot took part; none for a report.
     pub fn code(&self) -> Option<&'static str>
         ensures { option_copied result ≡ outcome_code self.now }
     {
@@ -98,15 +98,15 @@ impl TryCopy for Outcome {
 /// Outcomes in the order of their steps.
 pub type Outcomes = Seq<Outcome>;
 
-/// What came of a list of steps.
+/// The outcomes of a list of steps.
 pub struct Transcript {
     /// An outcome for each step that was made.
     pub outcomes: Outcomes,
-    /// Whether the run stopped early, since room for the next step was refused. The steps before it stand.
+    /// Whether the run stopped early because the allocation for the next step failed. The steps before it are kept.
     pub cut: bool,
 }
 
-// By hand, so that this is proved once, and not in each function in which one ends.
+// Written by hand, so that it is proved once and not in each function that drops one.
 impl Drop for Transcript {
     fn drop(self) {
         let Transcript {

@@ -1,4 +1,4 @@
-// What may happen in a world.
+// The steps of a world.
 use botcore::Event;
 use bytetext::{NoMemory, TryCopy};
 use std::alloc::Global;
@@ -6,15 +6,16 @@ use std::alloc::Global;
 /// One step of a world.
 #[derive(Drop)]
 pub enum Step {
-    /// An event at a bot: 0 is the hub, and leaves are numbered from 1. A packet reaches a bot only by a delivery: told
-    /// here, it is O3.
+    /// An event at a bot: 0 is the hub, and leaves are numbered from 1. A packet reaches a bot only by a delivery: as
+    /// an event here it is O3.
     At {
         /// The bot's number.
         bot: u16,
-        /// What it is told.
+        /// The event that the bot handles.
         event: Event,
     },
-    /// The packet of this number, from 1 in the order of sending, reaches its addressee, perhaps once more.
+    /// Delivers the packet with this number, from 1 in the order of sending, to its addressee, perhaps not for the
+    /// first time.
     Deliver {
         /// The packet's number.
         packet: u64,
@@ -38,6 +39,6 @@ impl TryCopy for Step {
 pub(crate) struct Part {
     // The bot's number.
     pub bot: u16,
-    // What it is told.
+    // The event that the bot handles.
     pub event: Event,
 }

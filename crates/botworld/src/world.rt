@@ -19,7 +19,7 @@ use std::marker::Model;
 use storage::Disk;
 use userfile::Userfile;
 
-/// Room that is made for the packets of a step: one to each of 1,000 leaves, and an answer.
+/// The room that is reserved for the packets of a step: one to each of 1,000 leaves, and an answer.
 const MOST_SENT: usize = 1001;
 
 /// Bots over journals, the hub first; the procs that their binds call; and every packet ever sent.
@@ -29,7 +29,7 @@ pub struct World<P: Promise, D: Disk, B: Run = Body> {
     store: ProcStore<P, B>,
 }
 
-// By hand, so that this is proved once, and not in each crate in which a world ends.
+// Written by hand, so that it is proved once and not in each crate that drops a world.
 impl<P: Promise, D: Disk, B: Run> Drop for World<P, D, B> {
     fn drop(self) {
         let World {
@@ -47,7 +47,7 @@ impl<P: Promise, D: Disk, B: Run> Model for World<P, D, B> {
 
     ghost view = { λ w. record { bots = w.bots.items; packets = w.packets.items; store = w.store } };
 
-    // The records of each part that was ever sent are of good shape.
+    // The records of each part that was ever sent are well-formed.
     ghost invariant = { λ w. AllGood w.packets.items };
 }
 
@@ -66,11 +66,11 @@ impl<P: Promise, D: Disk, B: Run> World<P, D, B> {
     ghost use Rattle.botworld.specs.Standing.{NeverBackAlways, AreAtVersion, AlwaysAtVersion, SameCalls, SameCallsIgnoringChannels};
     ghost use Rattle.botworld.specs.Calling.{IgnoresChannels};
 
-    /// A world of these bots, each of which is as [`Bot::create`] left it. Takes no memory.
+    /// Creates a world of these `bots`, each as [`Bot::create`] left it, with the procs of `store`. Does not allocate.
     ///
     /// # Errors
-    /// `BadWorld` (O1) where the bots aren't numbered 0 to N in order, one has other than N leaves, or there is none.
-    /// Bots, with their disks, and store are handed back.
+    /// `BadWorld` (O1) if the bots aren't numbered 0 to N in order, one has a number of leaves other than N, or there
+    /// is none. The error returns the bots, with their disks, and the store.
     pub fn new(
         alloc: Global,
         bots: Vec<Bot<D>>,
@@ -97,7 +97,7 @@ impl<P: Promise, D: Disk, B: Run> World<P, D, B> {
         })
     }
 
-    /// The version that a bot shows, also while it is down; none where there is no such bot. Takes no memory.
+    /// Returns the version of `bot`, also while it is down; none if no bot has this number. Does not allocate.
     pub fn version(&self, bot: u16) -> Option<u32>
         ensures { result ≡ shown_version self.now bot }
     {
@@ -105,7 +105,7 @@ impl<P: Promise, D: Disk, B: Run> World<P, D, B> {
         Some(bot.version())
     }
 
-    /// The userfile of a bot at its version; none where there is no such bot. Takes no memory.
+    /// Returns the userfile of `bot` at its version; none if no bot has this number. Does not allocate.
     pub fn userfile(&self, bot: u16) -> Option<&Userfile>
         ensures shown { option_copied result ≡ shown_records self.now bot }
         ensures at_version { (past : Past) → Stands P.promised self.now past → (v : ℕ)
@@ -114,59 +114,61 @@ impl<P: Promise, D: Disk, B: Run> World<P, D, B> {
         self.shown(bot)
     }
 
-    /// The packet of this number, from 1 in the order of sending; none where there is none. Takes no memory.
+    /// Returns the packet with this `number`, from 1 in the order of sending; none if there is none. Does not
+    /// allocate.
     pub fn packet(&self, number: u64) -> Option<&Sent>
         ensures lent { option_copied result ≡ packet_at self.now.packets number }
-        // A change is the accepted one of its number, a part is one of the records at its version, a request is what its leaf
-        // asked under that number, and an answer is the hub's to that request.
+        // A change is the accepted change of its number, a part is one of the records at its version, a request is
+        // what its leaf asked under that number, and an answer is the hub's to that request.
         ensures true_packet { (past : Past) → Stands P.promised self.now past
             → IfSome (option_copied result) (λ sent. IsTruePacket past.now sent) }
     {
         self.lent(number)
     }
 
-    /// Makes steps in order, and tells the outcome of each. Where room for the next step is refused, it is not made,
-    /// the run is `cut` there, and the steps before it stand. Room for all outcomes is made before the first step; a
-    /// step in which no bot takes part needs no more.
+    /// Makes `steps` in order, and returns the outcome of each. If the allocation for the next step fails, that step
+    /// is not made, the run is `cut` there, and the steps before it are kept. Room for all outcomes is reserved before
+    /// the first step; a step in which no bot takes part allocates nothing more.
     pub fn run(&mut self, alloc: Global, steps: &[Step]) -> Transcript
-        // The steps and outcomes are a run of the network, and go on from any past that the world had.
+        // The steps and outcomes are a run of the network, and continue any past that the world had.
         ensures leads { (past : Past) → Stands P.promised self.old past
             → LeadsTo P.promised past (take (length result.outcomes) steps.now) result.outcomes self.new }
-        // It is cut exactly where outcomes are fewer than steps, and they are never more.
+        // The run is cut if and only if there are fewer outcomes than steps; there are never more.
         ensures whole { result.cut ≡ nat_lt (length result.outcomes) (length steps.now) }
         ensures at_most { length result.outcomes ≤ length steps.now }
-        // It is cut before the first step, or at a step in which a bot takes part.
+        // The cut comes before the first step, or at a step in which a bot takes part.
         ensures cut_at { result.cut ≡ true
             → (length result.outcomes ≡ 0) ⊎ TakesPartAt self.new steps.now (length result.outcomes) }
-        // Two bots that show one version, the one before the run and the other after it, hold the same records.
+        // Two bots with the same version, one before the run and the other after it, hold the same records.
         ensures same_records { (past : Past) → Stands P.promised self.old past → SameRecords self.old self.new }
-        // So do two bots that show one version after the run.
+        // So do two bots with the same version after the run.
         ensures same_now { (past : Past) → Stands P.promised self.old past → SameRecords self.new self.new }
-        // And so did any two, before the first step or after any two steps so far.
+        // So did any two, before the first step or after any two steps so far.
         ensures same_always { (past : Past) → Stands P.promised self.new past → SameAlways past }
-        // The records of a bot are those of its version: what the first so many of the accepted changes make.
+        // The records of a bot are those of its version: the version says how many of the accepted changes, from the
+        // first on, make them.
         ensures at_version { (past : Past) → Stands P.promised self.new past → AreAtVersion past self.new }
         // So they were before the first step and after each step so far.
         ensures always_at_version { (past : Past) → Stands P.promised self.new past → AlwaysAtVersion past }
-        // No version goes back, also where a bot is restarted.
+        // No version goes back, even when a bot restarts.
         ensures never_back { (past : Past) → Stands P.promised self.old past → NeverBack self.old self.new }
-        // Nor did one between any two steps so far.
+        // No version went back between any two steps so far.
         ensures never_back_always { (past : Past) → Stands P.promised self.new past → NeverBackAlways past }
-        // All that the links promise of what happened so far holds: a leaf's request is accepted at most once, with the change
-        // that the leaf asked for, and is told under its number and never as refused; each change that was ever sent is the
-        // accepted one of its number, and each part is one of the records at its version.
+        // All promises of the links about what happened so far hold: a leaf's request is accepted at most once, with
+        // the change that the leaf asked for, and is reported under its number and never as refused. Each change that
+        // was ever sent is the accepted change of its number, and each part is one of the records at its version.
         ensures promises { (past : Past) → Stands P.promised self.new past → KeepsPromises past.now }
-        // In any two steps so far, be they of lines, texts of other bots or readings of the clock, bots equal in version,
-        // binds, `exclusive` and channels called the same procs in the same order for the same events.
+        // At any two steps so far, whether of lines, texts of other bots or readings of the clock, bots equal in
+        // version, binds, `exclusive` and channels called the same procs in the same order for the same events.
         ensures same_calls { (past : Past) → Stands P.promised self.new past → SameCalls past.history }
-        // Where the promised codes ignore the channels, these need not be equal.
+        // If the promised codes ignore the channels, these need not be equal.
         ensures same_calls_ignoring_channels { IgnoresChannels P.promised → (past : Past) → Stands P.promised self.new past
             → SameCallsIgnoringChannels past.history }
     {
         self.run_all(alloc, steps)
     }
 
-    // As `userfile`, of the net alone.
+    // As `userfile`, for the net alone.
     fn shown(&self, bot: u16) -> Option<&Userfile>
         ensures { option_copied result ≡ shown_records self.now bot }
     {
@@ -174,7 +176,7 @@ impl<P: Promise, D: Disk, B: Run> World<P, D, B> {
         Some(bot.userfile())
     }
 
-    // As `packet`, of the net alone.
+    // As `packet`, for the net alone.
     fn lent(&self, number: u64) -> Option<&Sent>
         ensures { option_copied result ≡ packet_at self.now.packets number }
     {
@@ -216,7 +218,7 @@ impl<P: Promise, D: Disk, B: Run> World<P, D, B> {
         }
     }
 
-    // Makes a step, or nothing where room for it is refused. A step in which no bot takes part needs none.
+    // Makes a step, or nothing if its allocation fails. A step in which no bot takes part does not allocate.
     fn make(&mut self, alloc: Global, step: &Step) -> Result<Outcome, NoMemory>
         ensures { MatchResult result (λ o. NetStep P.promised self.old step.now o self.new)
             (λ _. IsOk (part_of self.old step.now) × (self.new ≡ self.old)) }
@@ -227,7 +229,7 @@ impl<P: Promise, D: Disk, B: Run> World<P, D, B> {
         }
     }
 
-    // The outcome of a step in which no bot takes part; none where one does.
+    // Returns the outcome of a step in which no bot takes part; none if one does.
     fn missing(&self, step: &Step) -> Option<Outcome>
         ensures { result ≡ result_err (part_of self.now step.now) }
     {
@@ -245,7 +247,7 @@ impl<P: Promise, D: Disk, B: Run> World<P, D, B> {
         }
     }
 
-    // The outcome of a step at this bot, where there is no such bot.
+    // Returns the outcome of a step at a bot that does not exist.
     fn missing_bot(&self, bot: u16) -> Option<Outcome>
         ensures { result ≡ (if is_bot self.now bot then None else Some NoSuchBot) }
     {
@@ -262,7 +264,7 @@ impl<P: Promise, D: Disk, B: Run> World<P, D, B> {
         (bot as usize) < self.bots.len()
     }
 
-    // A bot's part in a step, or nothing where room for it is refused.
+    // Makes a bot's part in a step, or nothing if its allocation fails.
     fn take_part(&mut self, alloc: Global, step: &Step) -> Result<Outcome, NoMemory>
         requires { IsOk (part_of self.old step.now) }
         ensures { MatchResult result (λ o. NetStep P.promised self.old step.now o self.new)
@@ -274,7 +276,7 @@ impl<P: Promise, D: Disk, B: Run> World<P, D, B> {
         Ok(post(&mut self.packets, bot, report))
     }
 
-    // Which bot takes part in a step, and what it is told; the records of a packet are of good shape.
+    // Returns the bot that takes part in a step and its event; the records of a packet are well-formed.
     fn part(&self, alloc: Global, step: &Step) -> Result<Part, NoMemory>
         requires { IsOk (part_of self.now step.now) }
         ensures part { IfOk result (λ part. part_of self.now step.now ≡ Ok part) }
@@ -308,7 +310,7 @@ fn are_numbered<D: Disk>(bots: &[Bot<D>]) -> bool
     !bots.is_empty()
 }
 
-// Whether a bot has the number of its place, and as many leaves as there are after the hub.
+// Whether a bot has the number of its place, and as many leaves as there are bots after the hub.
 fn is_numbered_at<D: Disk>(bots: usize, place: usize, bot: &Bot<D>) -> bool
     ensures { IsTrue result ↔ IsNumberedAt bots place bot.now }
 {
@@ -333,7 +335,7 @@ fn is_packet(event: &Event) -> bool
     }
 }
 
-// Puts the packets of a report on the network, in the room that was made, and tells it as an outcome.
+// Adds the packets of a report to the network, in the reserved room, and returns the report as an outcome.
 fn post(packets: &mut Vec<Sent>, bot: u16, report: BotReport) -> Outcome
     requires room { vec_len packets.old + MOST_SENT ≤ vec_capacity packets.old }
     requires few { length report.packets ≤ MAX_LEAVES + 1 }
@@ -358,7 +360,7 @@ fn post(packets: &mut Vec<Sent>, bot: u16, report: BotReport) -> Outcome
     })
 }
 
-// Puts packets on the network, in the room that was made.
+// Adds packets to the network, in the reserved room.
 fn send_all(packets: &mut Vec<Sent>, bot: u16, outgoing: Vec<Outgoing>)
     requires { vec_len packets.old + length outgoing.items ≤ vec_capacity packets.old }
     ensures { packets.new.items ≡ packets.old.items ++ posted bot outgoing.items }
@@ -368,7 +370,7 @@ fn send_all(packets: &mut Vec<Sent>, bot: u16, outgoing: Vec<Outgoing>)
     }
 }
 
-// A packet with its sender.
+// Creates a packet with its sender.
 fn sent_by(from: u16, outgoing: Outgoing) -> Sent
     ensures { result ≡ record { from = from; to = outgoing.to; packet = outgoing.packet } }
 {

@@ -1,4 +1,4 @@
--- A gate is one byte, open where it is 1. What stands after a closed gate doesn't count, so a text is written after a
+-- A gate is one byte, open when it is 1. What stands after a closed gate doesn't count, so a text is written after a
 -- closed gate and is on the disk before the gate is opened.
 use Rattle.std.specs.Prelude.{◌≡◌, ◌⊎◌, Bool, true, if◌then◌else◌, ℕ, ◌+◌, List, ◌∷◌, ◌++◌, length, take, drop}
 
@@ -6,8 +6,8 @@ use Rattle.std.specs.Prelude.{◌≡◌, ◌⊎◌, Bool, true, if◌then◌else
 abbrev pub with_gate : List ℕ → ℕ → List ℕ → ℕ → List ℕ
 with_gate file at text gate = take at file ++ (gate ∷ (text ++ drop (at + 1 + length text) file))
 
--- what a crash may leave while a text is written after a gate and the gate is opened: the gate and what is before it
--- as they were, or the whole text after any gate
+-- what a crash may leave while a text is written after a gate and the gate is opened: either the gate and what is
+-- before it as they were, or the whole text after any gate
 abbrev pub IsHalfWritten : List ℕ → ℕ → List ℕ → List ℕ → Type 0
 IsHalfWritten file at text image = (take (at + 1) image ≡ take (at + 1) file) ⊎ ((gate : ℕ) × (image ≡ with_gate file at text gate))
 
@@ -15,12 +15,12 @@ IsHalfWritten file at text image = (take (at + 1) image ≡ take (at + 1) file) 
 abbrev pub with_first : List ℕ → ℕ → List ℕ
 with_first file gate = gate ∷ drop 1 file
 
--- the file with its first gate closed, where it stood open
+-- the file with its first gate closed, if it was open
 abbrev pub closed_first : Bool → List ℕ → List ℕ
 closed_first is_open file = if is_open then with_first file 0 else file
 
--- what a crash may leave while a file is replaced: another first gate, where it stood open, or the file with that gate
--- closed and the text half written
+-- what a crash may leave while a file is replaced: either the old file with another first gate, if the gate was open,
+-- or the file with that gate closed and the text half written
 abbrev pub IsHalfReplaced : Bool → List ℕ → List ℕ → List ℕ → Type 0
 IsHalfReplaced is_open file text image = ((gate : ℕ) × (is_open ≡ true) × (image ≡ with_first file gate))
     ⊎ IsHalfWritten (closed_first is_open file) 0 text image

@@ -10,7 +10,8 @@ use Rattle.bytejournal.specs.Meaning.{Contents, held, meaning, added, rebased, I
 use Rattle.bytejournal.specs.Meaning.Held.{Open}
 use Rattle.bytejournal.specs.Writing.{IsSame}
 
--- beside an active disk of this generation the other one doesn't count: its first gate is closed, or it is older
+-- beside an active disk of this generation the other disk doesn't count: its first gate is closed, or its generation is
+-- older
 abbrev pub IdleIs : Bool → ℕ → List ℕ → Type 0
 IdleIs false generation bytes = (0 < length bytes) × (slice_index bytes 0 ≢ 1)
 IdleIs true generation bytes = (older : Contents) × (held bytes ≡ Open older) × (older.generation < generation)
@@ -19,8 +20,8 @@ IdleIs true generation bytes = (older : Contents) × (held bytes ≡ Open older)
 abbrev pub Holds : List ℕ → List ℕ → Contents → Type 0
 Holds first second contents = (held first ≡ Open contents) ⊎ (held second ≡ Open contents)
 
--- Two images mean the one or the other, and all their gates are there. What they hold, whether it counts or not, is what
--- some disk held before, or is what is meant after.
+-- Two images mean `before` or `after`, and all their gates exist. The contents that an image holds, whether they count
+-- or not, are contents that some disk held before, or those of `after`.
 pub record IsEither (Held : Contents → Type 0) (before after : Option Contents) (first second : List ℕ) : Type 0 where
   pub means : (meaning first second ≡ before) ⊎ (meaning first second ≡ after)
   pub nothing_else : (contents : Contents) → Holds first second contents → Held contents ⊎ (after ≡ Some contents)
@@ -35,7 +36,7 @@ module _ {D : Type 0} where
   abbrev pub second_disk : Journal D → D
   second_disk journal = if journal.swapped then journal.active else journal.idle
 
--- What a crash at any moment may leave on two disks has P: any image of the one beside any image of the other.
+-- What a crash at any moment may leave on the two disks has `P`: any image of the first beside any image of the second.
 pub record EachMoment (first second first' second' : State) (P : List ℕ → List ℕ → Type 0) : Type 0 where
   pub first_later : moment first ≤ moment first'
   pub second_later : moment second ≤ moment second'
@@ -54,8 +55,8 @@ module _ {D : Type 0} (state : D → State) where
   abbrev pub HoldsOne : Journal D → Contents → Type 0
   HoldsOne journal contents = Holds (state journal.active).seen (state journal.idle).seen contents
 
-  -- Between two calls: a closed gate ends the active disk's entries, the other disk doesn't count, all gates are there
-  -- and nothing is pending.
+  -- Between two calls: a closed gate ends the active disk's entries, the other disk doesn't count, all gates exist and
+  -- nothing is pending.
   pub record IsAtRest (journal : Journal D) : Type 0 where
     pub contents : Contents
     pub front : IsFront (take journal.gate (state journal.active).seen) contents
@@ -81,7 +82,7 @@ module _ {D : Type 0} (state : D → State) where
   abbrev pub SameDisks : Journal D → Journal D → Type 0
   SameDisks old new = IsSame (state (first_disk old)) (state (first_disk new)) × IsSame (state (second_disk old)) (state (second_disk new))
 
-  -- Appending an entry, by cases on the answer.
+  -- Appending an entry, by cases on the result.
   abbrev pub Appends : Journal D → List ℕ → Result (Unit {0}) (Failure JournalFault) → Journal D → Type 0
   Appends old entry (Ok _) new = (old.spent ≡ false) × (new.spent ≡ false) × (contents_of new ≡ option_map (added entry) (contents_of old))
   Appends old entry (Err (Refused DiskFault)) new = (old.spent ≡ false) × (new.spent ≡ true) × DiskFailed old new
@@ -90,7 +91,7 @@ module _ {D : Type 0} (state : D → State) where
   Appends old entry (Err (Refused GenerationsSpent)) new = ⊥
   Appends old entry (Err NoMemory) new = (old.spent ≡ false) × (new.spent ≡ false) × SameDisks old new × (contents_of new ≡ contents_of old)
 
-  -- Putting another base in place, spelled by a layout, by cases on the answer.
+  -- Replacing the base by another one, spelled by a layout, by cases on the result.
   abbrev pub Rebases : Journal D → ℕ → List ℕ → Result (Unit {0}) (Failure JournalFault) → Journal D → Type 0
   Rebases old layout base (Ok _) new = (old.spent ≡ false) × (new.spent ≡ false) × (new.layout ≡ layout) × (new.generation ≡ old.generation + 1)
       × (contents_of new ≡ option_map (rebased layout base) (contents_of old))

@@ -1,9 +1,9 @@
 -- What the bytes of two disks mean as a journal. The format is our own.
 --
--- A disk is a gate, the letters EGGJ, a byte that says by which layout the texts are spelled, a generation and a base's
--- length (four bytes each, the highest first), the base, and entries, each a gate, a length (four bytes) and as many
--- bytes. A gate is open where it is 1. The entries end at the first gate that is closed or missing, and what follows that
--- doesn't count. Any layout is read: what a text means is for those above to say.
+-- A disk is a gate, the letters EGGJ, a byte that names the layout by which the texts are spelled, a generation and a
+-- base's length (four bytes each, the most significant first), the base, and entries. Each entry is a gate, a length
+-- (four bytes) and that number of bytes. A gate is open when it is 1. The entries end at the first gate that is closed
+-- or missing, and what follows that gate doesn't count. Any layout is read: the layers above say what a text means.
 use Rattle.std.specs.Prelude.{◌≡◌, ◌==◌, ◌+◌, ℕ, zero, suc, Option, None, Some, List, [], ◌∷◌, ◌++◌, length, take, drop, nat_le, nat_lt, if◌then◌else◌}
 use Rattle.std.specs.Int.{w32, from_be_bytes}
 use Rattle.std.specs.Str.{bytes_eq}
@@ -12,7 +12,7 @@ use Rattle.std.specs.Str.{bytes_eq}
 abbrev pub numbered : List ℕ → Option (ℕ × List ℕ)
 numbered bytes = if nat_le 4 (length bytes) then Some (from_be_bytes w32 (take 4 bytes), drop 4 bytes) else None
 
--- as many bytes, and what follows them
+-- this number of bytes, and what follows them
 abbrev pub counted_out : Option (ℕ × List ℕ) → Option (List ℕ × List ℕ)
 counted_out None = None
 counted_out (Some n) = if nat_le n.0 (length n.1) then Some (take n.0 n.1, drop n.0 n.1) else None
@@ -26,12 +26,12 @@ abbrev pub entry_before : List ℕ → Option (List (List ℕ)) → Option (List
 entry_before entry None = None
 entry_before entry (Some entries) = Some (entry ∷ entries)
 
--- a first entry, and those in what follows it
+-- the first entry, and the entries in what follows it
 abbrev pub entries_from : (List ℕ → Option (List (List ℕ))) → Option (List ℕ × List ℕ) → Option (List (List ℕ))
 entries_from others None = None
 entries_from others (Some first) = entry_before first.0 (others first.1)
 
--- The entries up to the first gate that is closed or missing, where there are at most `limit`. None where one with an
+-- The entries up to the first gate that is closed or missing, if there are at most `limit`. None if an entry with an
 -- open gate is cut short.
 abbrev pub entries_within : ℕ → List ℕ → Option (List (List ℕ))
 entries_within zero bytes = Some []
@@ -60,7 +60,7 @@ pub data Held : Type 0 where
   Broken : Held
   Open : (contents : Contents) → Held
 
--- the contents with one entry more, and with several more
+-- the contents with one more entry, and with several more
 abbrev pub added : List ℕ → Contents → Contents
 added entry contents = record { layout = contents.layout; generation = contents.generation; base = contents.base; entries = contents.entries ++ (entry ∷ []) }
 
@@ -98,8 +98,8 @@ abbrev pub held : List ℕ → Held
 held [] = Shut
 held (gate ∷ rest) = if gate == 1 then from_letters rest else Shut
 
--- The contents that count: those of the disk with an open gate and the higher generation. None where no gate is open,
--- where what follows an open one isn't a journal's, and where both are open with one generation.
+-- The contents that count: those of the disk with an open gate and the higher generation. None if no gate is open, if
+-- what follows an open gate isn't a journal's, or if both gates are open with the same generation.
 abbrev pub chosen : Held → Held → Option Contents
 chosen Shut Shut = None
 chosen Shut Broken = None
@@ -121,6 +121,6 @@ IsFront front contents = (rest : List ℕ) → held (front ++ rest) ≡ extended
 abbrev pub AreEntries : List ℕ → List (List ℕ) → Type 0
 AreEntries front entries = (rest : List ℕ) → entries_of (front ++ rest) ≡ all_before entries (entries_of rest)
 
--- all gates are there: whatever would follow the file makes no difference
+-- all gates exist: whatever would follow the file makes no difference
 abbrev pub IsWhole : List ℕ → Type 0
 IsWhole file = (rest : List ℕ) → held (file ++ rest) ≡ held file

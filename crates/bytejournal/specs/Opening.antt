@@ -1,4 +1,4 @@
--- How a journal is made and opened.
+-- How a journal is created and opened.
 use Rattle.std.specs.Prelude.{◌≡◌, ◌⊎◌, ◌+◌, ◌≤◌, ◌<◌, Bool, true, false, if◌then◌else◌, ℕ, Option, None, Some, List, [], ◌∷◌, ◌++◌, length, option_map, Result, Ok, Err}
 use Rattle.std.specs.Option.{is_some}
 use Rattle.bytetext.specs.declared.failure.Failure.{Failure}
@@ -26,7 +26,7 @@ use Rattle.bytejournal.specs.Journal.{IsAtRest, contents_of, first_disk, second_
 abbrev pub new_contents : ℕ → List ℕ → Contents
 new_contents layout base = record { layout = layout; generation = 1; base = base; entries = [] }
 
--- nothing was written: a read gives what it gave, and at each moment a crash leaves that
+-- nothing was written: a read gives what it gave before, and a crash at any moment leaves just that
 pub record Untouched (old new : State) : Type 0 where
   pub seen : new.seen ≡ old.seen
   pub events : new.events ≡ old.events
@@ -42,11 +42,11 @@ pub record Reopened (old new : State) : Type 0 where
   pub opened : openings new.events ≡ openings old.events + 1
   pub failed : new.failed ≡ old.failed
 
--- one of two disks holds a byte, so that reading them takes memory
+-- one of two disks holds a byte, so that reading them allocates
 abbrev pub HoldByte : State → State → Type 0
 HoldByte first second = (0 < length first.seen) ⊎ (0 < length second.seen)
 
--- reading a whole disk, by cases on the answer
+-- reading a whole disk, by cases on the result
 abbrev pub ReadsDisk : State → Result Reading (Failure JournalFault) → State → Type 0
 ReadsDisk old (Ok reading) new = Reads old.seen reading
 ReadsDisk old (Err (Refused DiskFault)) new = Rose old.failed new.failed
@@ -55,7 +55,7 @@ ReadsDisk old (Err (Refused Spent)) new = ⊥
 ReadsDisk old (Err (Refused GenerationsSpent)) new = ⊥
 ReadsDisk old (Err NoMemory) new = 0 < length old.seen
 
--- a journal isn't made only where a disk fails, or for want of memory before anything is written
+-- why a journal could not be created: a disk failed, or memory ran out before anything was written
 abbrev pub CannotCreate : State → State → Failure JournalFault → State → State → Type 0
 CannotCreate first second (Refused DiskFault) first' second' = Rose first.failed first'.failed ⊎ Rose second.failed second'.failed
 CannotCreate first second (Refused NotAJournal) first' second' = ⊥
@@ -63,11 +63,11 @@ CannotCreate first second (Refused Spent) first' second' = ⊥
 CannotCreate first second (Refused GenerationsSpent) first' second' = ⊥
 CannotCreate first second NoMemory first' second' = IsSame first first' × IsSame second second'
 
--- what stands on a disk before its first closed gate, and the gate
+-- what follows the first gate on the disk of a new journal, up to and including the closed gate
 abbrev pub new_text : ℕ → List ℕ → List ℕ
 new_text layout base = (letters ++ (layout ∷ (to_be_bytes w32 1 ++ (to_be_bytes w32 (length base) ++ base)))) ++ (0 ∷ [])
 
--- writing a new journal, by cases on the answer
+-- writing a new journal, by cases on the result
 abbrev pub WritesNew : State → State → ℕ → List ℕ → Result (Unit {0}) (Failure JournalFault) → State → State → Type 0
 WritesNew first second layout base (Ok _) first' second' = (first'.seen ≡ with_gate (with_first first.seen 0) 0 (new_text layout base) 1)
     × (second'.seen ≡ with_first second.seen 0) × IsSettled first' × IsSettled second'
@@ -129,21 +129,21 @@ module _ {D : Type 0} (state : D → State) where
   Refuses first second (Refused GenerationsSpent) first' second' = ⊥
   Refuses first second NoMemory first' second' = HoldByte (state first) (state second)
 
-  -- choosing the active disk, by cases on the answer: the disks are handed on as they are
+  -- choosing the active disk, by cases on the result: the disks are handed on as they are
   abbrev pub Chooses : D → D → Result (Opened D) (Returned D) → Type 0
   Chooses first second (Ok opened) = (first_disk opened.journal ≡ first) × (second_disk opened.journal ≡ second)
       × (IsSettled (state first) → IsSettled (state second) → IsOpened (state first).seen (state second).seen opened)
   Chooses first second (Err returned) = (returned.error ≡ Refused NotAJournal) × (meaning (state first).seen (state second).seen ≡ None)
       × (returned.disks.first ≡ first) × (returned.disks.second ≡ second)
 
-  -- Opening a journal, by cases on the answer.
+  -- Opening a journal, by cases on the result.
   abbrev pub Opens : D → D → Result (Opened D) (Returned D) → Type 0
   Opens first second (Ok opened) = IsOpened (state first).seen (state second).seen opened
       × Untouched (state first) (state (first_disk opened.journal)) × Untouched (state second) (state (second_disk opened.journal))
   Opens first second (Err returned) = Refuses first second returned.error returned.disks.first returned.disks.second
       × Untouched (state first) (state returned.disks.first) × Untouched (state second) (state returned.disks.second)
 
-  -- Making a journal, by cases on the answer.
+  -- Creating a journal, by cases on the result.
   abbrev pub Creates : D → D → ℕ → List ℕ → Result (Journal D) (Returned D) → Type 0
   Creates first second layout base (Ok journal) = (journal.spent ≡ false) × IsAtRest state journal
       × (contents_of state journal ≡ Some (new_contents layout base)) × (held (state journal.idle).seen ≡ Shut)

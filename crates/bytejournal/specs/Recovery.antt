@@ -1,5 +1,5 @@
--- A journal over many calls and crashes. What two images have to be, and what the calls are, are left open: a journal of
--- values on these texts fills them in with its own.
+-- A journal over many calls and crashes. The definitions leave open what two images have to be, and what the calls are:
+-- a journal of values over these texts fills in its own.
 use Rattle.std.specs.Prelude.{◌≡◌, ◌≢◌, false, true, ℕ, List, IsSome, option_map, Result, Ok, Err}
 use Rattle.bytetext.specs.declared.failure.Failure.{Failure}
 use Rattle.bytetext.specs.declared.failure.Failure.TheVariants.{Refused}
@@ -28,7 +28,7 @@ module _ {D : Type 0} where
   second_of (OnDisks first second) = second
 
 module _ {D : Type 0} (state : D → State) where
-  -- of the disk between these two moments a crash left this one, and nothing is pending
+  -- a crash at some moment between these two states of a disk left this one, and nothing is pending
   pub record IsLeft (from until left : D) : Type 0 where
     pub image : left_since (state until) (moment (state from)) (state left).seen
     pub settled : IsSettled (state left)
@@ -55,7 +55,7 @@ module _ {D : Type 0} (state : D → State) where
 
 -- ---- a journal of texts
 
--- two images are a journal's: they mean its contents, and all their gates are there
+-- two images are a journal's: they mean its contents, and all their gates exist
 pub record IsJournal (first second : List ℕ) : Type 0 where
   pub some : IsSome (meaning first second)
   pub first_whole : IsWhole first
@@ -67,7 +67,7 @@ module _ {D : Type 0} where
   after_opening (Ok opened) = InProgram opened.journal
   after_opening (Err handed) = OnDisks handed.disks.first handed.disks.second
 
-  -- the disks were not refused for holding no journal, and all gates were there
+  -- the disks were not rejected as holding no journal, and all gates existed
   abbrev pub FindsJournal : Result (Opened D) (Returned D) → Type 0
   FindsJournal (Ok opened) = opened.whole ≡ true
   FindsJournal (Err handed) = handed.error ≢ Refused NotAJournal

@@ -1,4 +1,4 @@
--- How a text is put on a disk, by cases on the answer.
+-- How a text is put on a disk, by cases on the result.
 use Rattle.std.specs.Prelude.{◌≡◌, ℕ, List, Result, Ok, Err}
 use Rattle.bytetext.specs.declared.failure.Failure.{Failure}
 use Rattle.bytetext.specs.declared.failure.Failure.TheVariants.{Refused, NoMemory}
@@ -13,7 +13,7 @@ pub record IsSame (old new : State) : Type 0 where
   pub events : new.events ≡ old.events
   pub failed : new.failed ≡ old.failed
 
--- at Ok a read gives this file, and it is kept; a fault is one of the disk; without memory nothing happened
+-- at Ok a read gives this file, and the file is kept; a fault is one of the disk; if memory ran out, nothing happened
 abbrev pub Puts : State → List ℕ → Result (Unit {0}) (Failure JournalFault) → State → Type 0
 Puts old file (Ok _) new = (new.seen ≡ file) × IsSettled new
 Puts old file (Err (Refused DiskFault)) new = Rose old.failed new.failed

@@ -5,14 +5,14 @@ ghost use Rattle.bytejournal.specs.Faults.{code_of};
 use bytetext::Failure;
 use thiserror::Error;
 
-/// Why a journal refuses a call.
+/// Why a journal rejects a call.
 #[derive(Clone, Copy, Debug, PartialEq, Eq, Error)]
 pub enum JournalFault {
-    /// A disk failed in this call. What was being written counts or doesn't: open the journal again to know.
+    /// A disk failed in this call. What was being written may count or not: open the journal again to find out.
     #[error("a disk failed: open the journal again")]
     DiskFault,
-    /// The two disks don't hold a journal: no gate is open, or what follows an open one isn't a journal's, or both
-    /// are open with one generation.
+    /// The two disks don't hold a journal: no gate is open, what follows an open gate isn't a journal's, or both gates
+    /// are open with the same generation.
     #[error("the disks hold no journal: create one, or give its own disks")]
     NotAJournal,
     /// A disk failed in an earlier call.
@@ -24,7 +24,7 @@ pub enum JournalFault {
 }
 
 impl JournalFault {
-    /// The short code that transcripts print: `J1` to `J4`.
+    /// Returns the short code that transcripts print: `J1` to `J4`.
     pub fn code(self) -> &'static str
         ensures { result.now ≡ code_of self }
     {
@@ -38,5 +38,6 @@ impl JournalFault {
 }
 
 /// Why a journal's call did nothing, or left open whether it did. A journal tests for faults first and makes all room
-/// before it writes, so `NoMemory` says that the disks are as they were, and that no fault stood against the call.
+/// before it writes. So `NoMemory` says that the disks are as they were, and that no fault stood in the way of the
+/// call.
 pub type JournalError = Failure<JournalFault>;

@@ -7,7 +7,7 @@ ghost use Rattle.bytejournal.specs.Gates.{with_gate, IsHalfWritten, with_first};
 
 use storage::{Disk, DiskFault};
 
-/// Writes a text at an offset, and waits until it is kept. Until then a crash may leave any bytes in the range.
+/// Writes `text` at the offset `at`, and waits until it is kept. Until then a crash may leave any bytes in the range.
 pub(crate) fn write_and_sync<D: Disk>(disk: &mut D, at: usize, text: &[u8]) -> Result<(), DiskFault>
     requires settled { IsSettled (D.state disk.old) }
     requires inside { at ≤ length (D.state disk.old).seen }
@@ -24,7 +24,8 @@ pub(crate) fn write_and_sync<D: Disk>(disk: &mut D, at: usize, text: &[u8]) -> R
     disk.sync()
 }
 
-/// Writes a text after the closed gate at an offset, waits until it is kept, opens the gate, and waits for that too.
+/// Writes `text` after the closed gate at the offset `gate`, waits until it is kept, opens the gate, and waits for that
+/// too.
 pub(crate) fn write_after_gate<D: Disk>(
     disk: &mut D,
     gate: usize,

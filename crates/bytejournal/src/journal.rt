@@ -11,31 +11,32 @@ use std::alloc::Global;
 use std::mem;
 use storage::Disk;
 
-/// A base and the entries appended since, on two disks of which one is active.
+/// A base and the entries appended since, on two disks, one of which is active.
 #[derive(Drop)]
 pub struct Journal<D: Disk> {
     pub(crate) active: D,
     pub(crate) idle: D,
-    /// Whether the active disk is the second of those that were given.
+    /// Whether the active disk is the second of the given two.
     pub(crate) swapped: bool,
-    /// Whether the gate at the idle disk's start stands open.
+    /// Whether the gate at the idle disk's start is open.
     pub(crate) idle_open: bool,
     /// The layout by which the active disk's base and entries are spelled.
     pub(crate) layout: u8,
     /// The active disk's generation.
     pub(crate) generation: u32,
-    /// Where the closed gate stands that ends the active disk's entries.
+    /// The offset of the closed gate that ends the active disk's entries.
     pub(crate) gate: usize,
     /// Whether a disk failed since the journal was opened.
     pub(crate) spent: bool,
 }
 
 impl<D: Disk> Journal<D> {
-    /// Appends an entry, which is spelled by the journal's layout. At `Ok` it is acknowledged: from then on each crash leaves it.
+    /// Appends `entry`, which is spelled by the journal's layout. At `Ok` the entry is acknowledged: from then on each
+    /// crash leaves it.
     ///
     /// # Errors
-    /// `Spent` where a disk failed before. `NoMemory` where room is refused: nothing was written. `DiskFault` where a
-    /// disk failed in this call: the entry counts or doesn't, and the journal is spent.
+    /// `Spent` if a disk failed before. `NoMemory` if it cannot allocate room: nothing was written. `DiskFault` if a
+    /// disk failed in this call: the entry may count or not, and the journal is spent.
     pub fn append(&mut self, alloc: Global, entry: &[u8]) -> Result<(), JournalError>
         requires sound { IsSound D.state self.old }
         requires small { length entry.now < 2 ^ 32 }
@@ -62,13 +63,13 @@ impl<D: Disk> Journal<D> {
         }
     }
 
-    /// Puts a base, spelled by this layout, in the place of the base and its entries, in the next generation. At `Ok` it
-    /// is acknowledged.
+    /// Replaces the base and its entries by `base`, spelled by `layout`, in the next generation. At `Ok` the base is
+    /// acknowledged.
     ///
     /// # Errors
-    /// `Spent` where a disk failed before. `GenerationsSpent` where the generations are used up. `NoMemory` where room
-    /// is refused: nothing was written. `DiskFault` where a disk failed in this call: the old base and entries count,
-    /// or the new base alone, and the journal is spent.
+    /// `Spent` if a disk failed before. `GenerationsSpent` if the generations are used up. `NoMemory` if it cannot
+    /// allocate room: nothing was written. `DiskFault` if a disk failed in this call: either the old base and entries
+    /// count, or the new base alone, and the journal is spent.
     pub fn rebase(&mut self, alloc: Global, layout: u8, base: &[u8]) -> Result<(), JournalError>
         requires sound { IsSound D.state self.old }
         requires small { length base.now < 2 ^ 32 }
@@ -103,24 +104,24 @@ impl<D: Disk> Journal<D> {
         }
     }
 
-    /// Whether the active disk's generation is the last one, so that `rebase` would be refused for it. After a fault
-    /// nothing is said of the answer.
+    /// Whether the active disk's generation is the last one, so that `rebase` would return `GenerationsSpent`. After a
+    /// fault the result says nothing.
     pub fn generations_spent(&self) -> bool
         ensures { IsTrue result ↔ (self.now.generation ≡ 2 ^ 32 - 1) }
     {
         self.generation == u32::MAX
     }
 
-    /// The active disk's generation: 1 in a new journal, and one more with each base that is put in place. After a fault
-    /// nothing is said of the answer.
+    /// Returns the active disk's generation: 1 in a new journal, and one more with each `rebase`. After a fault the
+    /// result says nothing.
     pub fn generation(&self) -> u32
         ensures { result ≡ self.now.generation }
     {
         self.generation
     }
 
-    /// The layout by which the active disk's base and entries are spelled: that of the last base that was put in place.
-    /// After a fault nothing is said of the answer.
+    /// Returns the layout by which the active disk's base and entries are spelled: that of the last base that was
+    /// written. After a fault the result says nothing.
     pub fn layout(&self) -> u8
         ensures { result ≡ self.now.layout }
     {

@@ -1,4 +1,4 @@
-// How a journal is made, opened and taken apart.
+// How a journal is created, opened and taken apart.
 ghost use Rattle.std.specs.Prelude.{◌≡◌, ◌≤◌, ◌<◌, ◌+◌, ◌^◌, ◌⊎◌, ◌↔◌, IsTrue, OnOk, OnErr};
 ghost use Rattle.std.specs.Prelude.{Bool, true, false, length, option_map};
 ghost use Rattle.storage.specs.State.{IsSettled, Rose};
@@ -26,7 +26,7 @@ pub struct Disks<D: Disk> {
     pub second: D,
 }
 
-/// What the disk that doesn't count holds where its gate stands open too: a base and entries of an earlier generation.
+/// What the disk that doesn't count holds if its gate is open too: a base and entries of an earlier generation.
 pub struct Older {
     /// The layout by which its base and entries are spelled.
     pub layout: u8,
@@ -53,21 +53,22 @@ pub struct Opened<D: Disk> {
     pub journal: Journal<D>,
     pub base: Text,
     pub entries: Texts,
-    /// What the other disk holds. It doesn't count; who gives the texts a meaning can tell whether it has one too.
+    /// What the other disk holds. It doesn't count; the layer that gives the texts a meaning can check whether it has
+    /// one too.
     pub older: Option<Older>,
-    /// Whether all gates are there, as on disks that `create` made and only this journal wrote. Where one is missing
-    /// the journal can be read; nothing can be appended safely, since a byte past a disk's end may come back as 1.
+    /// Whether all gates exist, as on disks that `create` made and only this journal wrote. If one is missing, the
+    /// journal can be read, but nothing can be appended safely, since a byte past a disk's end may come back as 1.
     pub whole: bool,
 }
 
-/// The disks of a journal that wasn't made or opened, and why.
+/// The disks of a journal that could not be created or opened, and the reason.
 #[derive(Drop)]
 pub struct Returned<D: Disk> {
     pub error: JournalError,
     pub disks: Disks<D>,
 }
 
-/// What a disk holds. Of one without a byte nothing is read.
+/// Reads what a disk holds. Reads nothing if the disk has no byte.
 fn read_whole<D: Disk>(alloc: Global, disk: &mut D) -> Result<Reading, JournalError>
     requires { IsSettled (D.state disk.old) }
     ensures reads { ReadsDisk (D.state disk.old) result (D.state disk.new) }
@@ -84,7 +85,7 @@ fn read_whole<D: Disk>(alloc: Global, disk: &mut D) -> Result<Reading, JournalEr
     Ok(read_disk(alloc, &bytes)?)
 }
 
-/// Makes the disk active that was found with the higher generation.
+/// Makes the disk with the higher generation the active one.
 fn choose<D: Disk>(first: D, second: D, a: Reading, b: Reading) -> Result<Opened<D>, Returned<D>>
     requires first_reads { Reads (D.state first).seen a }
     requires second_reads { Reads (D.state second).seen b }
@@ -123,7 +124,7 @@ fn are_inside<D: Disk>(active: &D, active_gate: usize, idle: &D, idle_gate: usiz
     active_gate < active.len() && idle_gate < idle.len()
 }
 
-/// The journal that was found on the active disk, and what was found on the other one.
+/// Returns the journal that was found on the active disk, and what was found on the other one.
 fn open_found<D: Disk>(
     active: D,
     idle: D,
@@ -153,7 +154,7 @@ fn open_found<D: Disk>(
     }
 }
 
-/// What was found on the disk that doesn't count.
+/// Returns what was found on the disk that doesn't count.
 fn older_of(found: Option<Found>) -> Option<Older>
     ensures { result ≡ option_map older_of found }
 {
@@ -168,7 +169,7 @@ fn older_of(found: Option<Found>) -> Option<Older>
     }
 }
 
-/// The disks that hold no journal.
+/// Hands back disks that hold no journal.
 fn no_journal<D: Disk>(first: D, second: D) -> Returned<D>
     ensures { result ≡ returned_as (Refused not_a_journal) first second }
 {
@@ -203,7 +204,7 @@ fn write_new<D: Disk>(
     }
 }
 
-/// Writes closed gates at the start of both disks, and a text after the first's.
+/// Writes closed gates at the start of both disks, and `text` after the first disk's gate.
 fn write_all<D: Disk>(first: &mut D, second: &mut D, text: &[u8]) -> Result<(), DiskFault>
     requires first_settled { IsSettled (D.state first.old) }
     requires second_settled { IsSettled (D.state second.old) }
@@ -221,11 +222,12 @@ fn write_all<D: Disk>(first: &mut D, second: &mut D, text: &[u8]) -> Result<(), 
 }
 
 impl<D: Disk> Journal<D> {
-    /// Makes a journal with this base, spelled by this layout, and no entry, in generation 1. What the disks held is lost.
+    /// Creates a journal on the disks `first` and `second` with the base `base`, spelled by `layout`, and no entry, in
+    /// generation 1. What the disks held is lost.
     ///
     /// # Errors
-    /// With the disks: `NoMemory` where room is refused: nothing was written. `DiskFault` where a disk failed: what the
-    /// disks hold is then unknown.
+    /// Each hands the disks back. `NoMemory` if it cannot allocate room: nothing was written. `DiskFault` if a disk
+    /// failed: what the disks hold is then unknown.
     pub fn create(
         alloc: Global,
         first: D,
@@ -258,11 +260,11 @@ impl<D: Disk> Journal<D> {
         }
     }
 
-    /// Opens the journal on two disks, each by its own layout. Nothing is written.
+    /// Opens the journal on the disks `first` and `second`, each by its own layout. Writes nothing.
     ///
     /// # Errors
-    /// With the disks as they were: `DiskFault` where a read failed; `NotAJournal` where the disks don't hold a
-    /// journal; `NoMemory` where room for what they hold is refused: never where neither holds a byte.
+    /// Each hands the disks back as they were. `DiskFault` if a read failed. `NotAJournal` if the disks don't hold a
+    /// journal. `NoMemory` if it cannot allocate room for what they hold; never if neither holds a byte.
     #[tactic(auto, using(crate::proofs::Moments::untouched_still))]
     pub fn open(alloc: Global, first: D, second: D) -> Result<Opened<D>, Returned<D>>
         requires first_settled { IsSettled (D.state first) }
@@ -292,10 +294,10 @@ impl<D: Disk> Journal<D> {
         choose(first, second, a, b)
     }
 
-    /// Crashes both disks, as where the program that used them ended, and opens the journal on what that left.
+    /// Crashes both disks, as if the program that used them had ended, and opens the journal on what the crash left.
     ///
     /// # Errors
-    /// As of `open`.
+    /// As for `open`.
     pub fn restart(self, alloc: Global) -> Result<Opened<D>, Returned<D>>
         ensures { Restarts D.state self result }
     {
@@ -307,7 +309,7 @@ impl<D: Disk> Journal<D> {
         Journal::open(alloc, first, second)
     }
 
-    /// The two disks, in the order in which they were given.
+    /// Returns the two disks, in the order in which they were given.
     pub fn into_disks(self) -> Disks<D>
         ensures first { result.first ≡ first_disk self }
         ensures second { result.second ≡ second_disk self }

@@ -9,14 +9,14 @@ use std::alloc::Global;
 /// The letters that a journal's disk begins with, after its first gate.
 pub(crate) const LETTERS: [u8; 4] = [b'E', b'G', b'G', b'J'];
 
-/// How many bytes there are before a base: the gate, the letters, the layout, a generation and the base's length.
+/// How many bytes come before a base: the gate, the letters, the layout, a generation and the base's length.
 pub(crate) const START: usize = 14;
 
 /// The entries after a base.
 #[derive(Drop)]
 pub(crate) struct Entries {
     pub(crate) texts: Texts,
-    /// Where the gate stands that ends them, or the bytes' end where it is missing.
+    /// The offset of the gate that ends them, or the end of the bytes if the gate is missing.
     pub(crate) gate: usize,
 }
 
@@ -28,7 +28,7 @@ pub(crate) struct Found {
     pub(crate) generation: u32,
     pub(crate) base: Text,
     pub(crate) entries: Texts,
-    /// Where the gate stands that ends the entries, or the disk's end where it is missing.
+    /// The offset of the gate that ends the entries, or the disk's end if the gate is missing.
     pub(crate) gate: usize,
 }
 
@@ -43,7 +43,7 @@ pub(crate) enum Reading {
     Open(Found),
 }
 
-/// The number in the first four bytes, and what follows it.
+/// Reads the number in the first four bytes, and returns it with what follows it.
 fn number_front(bytes: &[u8]) -> Option<(u32, &[u8])>
     ensures { MatchOption result (numbered bytes.now ≡ None) (λ n. numbered bytes.now ≡ Some (n.0, n.1.now)) }
 {
@@ -53,7 +53,7 @@ fn number_front(bytes: &[u8]) -> Option<(u32, &[u8])>
     }
 }
 
-/// The text after its length, and what follows it.
+/// Reads the text after its length, and returns it with what follows it.
 fn text_front(bytes: &[u8]) -> Option<(&[u8], &[u8])>
     ensures { MatchOption result (sized bytes.now ≡ None) (λ t. sized bytes.now ≡ Some (t.0.now, t.1.now)) }
 {
@@ -66,7 +66,7 @@ fn text_front(bytes: &[u8]) -> Option<(&[u8], &[u8])>
     }
 }
 
-/// The entries up to the first gate that is closed or missing; none where one is cut short.
+/// Reads the entries up to the first gate that is closed or missing; returns `None` if an entry is cut short.
 fn read_entries(alloc: Global, bytes: &[u8]) -> Result<Option<Entries>, NoMemory>
     ensures { IfOk result (λ found. MatchOption found (entries_of bytes.now ≡ None) (HasEntries bytes.now)) }
 {
@@ -84,10 +84,10 @@ fn read_entries(alloc: Global, bytes: &[u8]) -> Result<Option<Entries>, NoMemory
     Ok(Some(Entries { texts, gate }))
 }
 
-/// What the bytes of a disk hold.
+/// Reads what the bytes of a disk hold.
 ///
 /// # Errors
-/// `NoMemory` where room for the base or an entry is refused.
+/// `NoMemory` if it cannot allocate room for the base or an entry.
 pub(crate) fn read_disk(alloc: Global, bytes: &[u8]) -> Result<Reading, NoMemory>
     ensures { IfOk result (Reads bytes.now) }
 {
@@ -97,7 +97,7 @@ pub(crate) fn read_disk(alloc: Global, bytes: &[u8]) -> Result<Reading, NoMemory
     }
 }
 
-/// What the bytes after an open first gate hold.
+/// Reads what the bytes after an open first gate hold.
 fn read_open(alloc: Global, bytes: &[u8]) -> Result<Reading, NoMemory>
     ensures { IfOk result (Reads (1 ∷ bytes.now)) }
 {

@@ -7,7 +7,7 @@ use crate::reading::LETTERS;
 use bytetext::NoMemory;
 use std::alloc::Global;
 
-/// An entry's length and bytes, and a closed gate.
+/// Returns an entry's length and bytes, and a closed gate.
 pub(crate) fn entry_text(alloc: Global, entry: &[u8]) -> Result<Vec<u8>, NoMemory>
     requires { length entry.now < 2 ^ 32 }
     ensures { IfOk result (λ text. text.items ≡ (to_be_bytes w32 (length entry.now) ++ entry.now) ++ (0 ∷ [])) }
@@ -19,7 +19,7 @@ pub(crate) fn entry_text(alloc: Global, entry: &[u8]) -> Result<Vec<u8>, NoMemor
     Ok(text)
 }
 
-/// The letters, a layout, a generation, a base's length and bytes, and a closed gate.
+/// Returns the letters, a layout, a generation, a base's length and bytes, and a closed gate.
 pub(crate) fn base_text(
     alloc: Global,
     layout: u8,

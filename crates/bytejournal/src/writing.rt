@@ -11,7 +11,7 @@ use crate::gate::{close_first_gate, write_after_gate};
 use bytetext::Failure;
 use storage::{Disk, DiskFault};
 
-/// Puts a text after the closed gate at an offset, and opens the gate.
+/// Puts `text` after the closed gate at the offset `gate`, and opens the gate.
 pub(crate) fn put_after_gate<D: Disk>(
     disk: &mut D,
     gate: usize,
@@ -33,9 +33,9 @@ pub(crate) fn put_after_gate<D: Disk>(
     as_answer(write_after_gate(disk, gate, text))
 }
 
-/// Puts a text after the gate at the disk's start, and opens the gate. Where it stands open it is closed first: a byte
-/// that is being rewritten may come back as 1, so nothing is written after it before it is kept closed, and where it
-/// stands closed it isn't written again.
+/// Puts `text` after the gate at the disk's start, and opens the gate. An open gate is closed first: a byte that is
+/// being rewritten may come back as 1, so nothing is written after the gate until it is kept closed. A closed gate
+/// isn't written again.
 pub(crate) fn replace<D: Disk>(disk: &mut D, is_open: bool, text: &[u8]) -> Result<(), JournalError>
     requires settled { IsSettled (D.state disk.old) }
     requires inside { 0 < length (D.state disk.old).seen }
@@ -59,7 +59,7 @@ pub(crate) fn replace<D: Disk>(disk: &mut D, is_open: bool, text: &[u8]) -> Resu
     as_answer(write_after_gate(disk, 0, text))
 }
 
-/// A disk's answer as a journal's.
+/// Converts a disk's result to a journal's.
 fn as_answer(written: Result<(), DiskFault>) -> Result<(), JournalError>
     ensures { MatchResult written (λ _. result ≡ Ok tt) (λ _. result ≡ Err (Refused disk_fault)) }
 {
@@ -69,7 +69,8 @@ fn as_answer(written: Result<(), DiskFault>) -> Result<(), JournalError>
     }
 }
 
-/// Where a text ends that is written after a gate; none where no memory has as many bytes.
+/// Returns the offset at which a text ends that is written after a gate; `None` if no memory could hold that many
+/// bytes.
 pub(crate) fn end_after(gate: usize, text: &[u8]) -> Option<usize>
     ensures { IfSome result (λ end. end ≡ gate + 1 + length text.now) }
 {

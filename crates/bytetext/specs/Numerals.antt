@@ -4,12 +4,12 @@ use Rattle.std.specs.Prelude.{ℕ, ◌+◌, ◌-◌, ◌*◌, ◌&&◌, Bool, na
 abbrev pub is_digit : ℕ → Bool
 is_digit b = nat_le 48 b && nat_le b 57
 
--- one digit more, where the number stays below 65,536
+-- the number with one more digit, if it stays below 65,536
 abbrev pub digit_onto : ℕ → ℕ → Option ℕ
 digit_onto value b =
     if is_digit b then (if nat_lt (value * 10 + (b - 48)) 65536 then Some (value * 10 + (b - 48)) else None) else None
 
--- digits after a number
+-- the number with these digits after it
 abbrev pub number_from : ℕ → List ℕ → Option ℕ
 number_from value [] = Some value
 number_from value (b ∷ bs) = option_and_then (λ longer. number_from longer bs) (digit_onto value b)

@@ -1,4 +1,4 @@
-// The error of two levels that every call of this repository answers which can be refused and can want memory.
+// The two-level error of every call in this repository that can break a rule and can run out of memory.
 ghost use Rattle.std.specs.Prelude.{◌≡◌};
 ghost use Rattle.bytetext.specs.Refusals.{refused_with};
 ghost use Rattle.bytetext.specs.declared.failure.Failure.TheVariants.{NoMemory as no_memory};
@@ -8,17 +8,17 @@ use std::alloc::{AllocError, AllocFailed};
 use std::fmt::Display;
 use thiserror::Error;
 
-/// Why a call changed nothing: a rule stands against it, or else a growth was refused.
+/// Why a call changed nothing: a rule forbids it, or else an allocation failed.
 ///
-/// `F` is the crate's enum of faults, in the order in which they are tested. A fault is told before `NoMemory`, so
-/// `NoMemory` also says that no rule stands against the call.
+/// `F` is the crate's enum of faults, in the order in which they are tested. A fault takes precedence over `NoMemory`,
+/// so `NoMemory` also says that no rule forbids the call.
 #[derive(Clone, Copy, Debug, PartialEq, Eq, Drop, Error)]
 #[error_bound(F: Display)]
 pub enum Failure<F> {
-    /// A rule stands against the call.
+    /// A rule forbids the call.
     #[error("{0}")]
     Refused(F),
-    /// A growth was refused, and no rule stands against the call.
+    /// An allocation failed, and no rule forbids the call.
     #[error("out of memory: free some and try again")]
     NoMemory,
 }
@@ -47,7 +47,7 @@ impl<F, T: Drop> From<AllocFailed<T>> for Failure<F> {
     }
 }
 
-/// The refusal with this fault, where there is one.
+/// Returns `Refused` with the `fault` if there is one, else `Ok`.
 pub fn refuse<F>(fault: Option<F>) -> Result<(), Failure<F>>
     ensures { result ≡ refused_with fault }
 {

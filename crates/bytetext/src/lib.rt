@@ -1,11 +1,11 @@
-//! Text as bytes, and the want of memory that every crate of this repository carries.
+//! Text as bytes, and the out-of-memory error that every crate of this repository uses.
 //!
 //! IRC text is bytes without a stated encoding (RFC 2812 section 2.3), so nothing here is a `str`.
-//! A [`Text`] is seen by contracts as the list of its bytes, and a [`Texts`] as the list of those lists: a record
+//! Contracts see a [`Text`] as the list of its bytes, and a [`Texts`] as the list of those lists: a record
 //! that holds them reads as plain data in a clause, and no capacity gets into an equation. Both are made from a
-//! `Vec` and give it back without taking memory.
+//! `Vec` and turn back into it without allocating.
 //!
-//! [`NoMemory`] is the one answer where a growth is refused. It comes from either of the allocator's errors by `?`.
+//! [`NoMemory`] is the one error of a failed allocation. `?` converts either of the allocator's errors into it.
 //! [`MOMENTS_END`] bounds the seconds that clocks, queues and bans count.
 //!
 //! ```text

@@ -1,8 +1,8 @@
-// The want of memory.
+// The out-of-memory error.
 use std::alloc::{AllocError, AllocFailed};
 use thiserror::Error;
 
-/// A growth was refused for want of memory. Whoever answers it is as before the call, and the call may be made again.
+/// An allocation failed. A call that returns it leaves its receiver as it was, and the caller may try again.
 #[derive(Clone, Copy, Debug, PartialEq, Eq, Error)]
 #[error("out of memory: free some and try again")]
 pub struct NoMemory;

@@ -1,21 +1,21 @@
-// A list of values, and copies that can be refused.
+// A list of values, and copies that can fail for lack of memory.
 ghost use Rattle.std.specs.Prelude.{◌≡◌, ◌<◌, ◌↔◌, ◌++◌, ◌∷◌, [], IsTrue, IfOk, MatchResult, OnOk, OnErr, length};
 
 use crate::memory::NoMemory;
 use std::alloc::Global;
 use std::marker::Model;
 
-/// A type whose values can be copied where memory allows.
+/// A type whose values can be copied if memory allows.
 pub trait TryCopy: Drop + Sized {
-    /// An equal value of its own.
+    /// Returns an equal value of its own.
     ///
     /// # Errors
-    /// `NoMemory` where room for the copy is refused.
+    /// `NoMemory` if the copy cannot be allocated.
     fn copy(&self, alloc: Global) -> Result<Self, NoMemory>
         ensures { IfOk result (λ twin. twin ≡ self.now) };
 }
 
-/// A list. Contracts see the list of its items, and no capacity.
+/// A list. Contracts see its items in order, and no capacity.
 #[derive(Debug, Drop)]
 pub struct Seq<T> {
     items: Vec<T>,
@@ -30,42 +30,42 @@ impl<T> Model for Seq<T> {
 }
 
 impl<T> Seq<T> {
-    /// The list of these items. Takes no memory.
+    /// Creates the list of these `items`. Does not allocate.
     pub fn new(items: Vec<T>) -> Seq<T>
         ensures { result ≡ items.items }
     {
         Seq { items }
     }
 
-    /// The list without items. Takes no memory.
+    /// Creates an empty list. Does not allocate.
     pub fn empty(alloc: Global) -> Seq<T>
         ensures { result ≡ [] }
     {
         Seq::new(Vec::new(alloc))
     }
 
-    /// The items, in order.
+    /// Returns the items, in order.
     pub fn as_slice(&self) -> &[T]
         ensures { result.now ≡ self.now }
     {
         self.items.as_slice()
     }
 
-    /// How many items there are.
+    /// Returns the number of items.
     pub fn len(&self) -> usize
         ensures { result ≡ length self.now }
     {
         self.items.len()
     }
 
-    /// Whether there is no item.
+    /// Returns whether the list has no items.
     pub fn is_empty(&self) -> bool
         ensures { IsTrue result ↔ (self.now ≡ []) }
     {
         self.items.is_empty()
     }
 
-    /// The items as a `Vec`. Takes no memory.
+    /// Returns the items as a `Vec`. Does not allocate.
     pub fn into_vec(self) -> Vec<T>
         ensures { result.items ≡ self }
     {
@@ -74,10 +74,10 @@ impl<T> Seq<T> {
 }
 
 impl<T: Drop> Seq<T> {
-    /// Puts an item after the others.
+    /// Appends `item`.
     ///
     /// # Errors
-    /// `NoMemory` where room for it is refused; the list is then as before, and the item is gone.
+    /// `NoMemory` if there is no room for `item`; the list is then unchanged, and `item` is dropped.
     pub fn push(&mut self, item: T) -> Result<(), NoMemory>
         ensures ok { OnOk result (self.new ≡ self.old ++ item ∷ []) }
         ensures err { OnErr result (self.new ≡ self.old) }
@@ -94,10 +94,10 @@ impl<T: TryCopy> TryCopy for Seq<T> {
     }
 }
 
-/// A copy of each item, in order.
+/// Copies each of the `items`, in order.
 ///
 /// # Errors
-/// `NoMemory` where room for a copy is refused: never where there is no item.
+/// `NoMemory` if a copy cannot be allocated; never if `items` is empty.
 pub fn copies_of<T: TryCopy>(alloc: Global, items: &[T]) -> Result<Vec<T>, NoMemory>
     ensures { MatchResult result (λ copies. copies.items ≡ items.now) (λ _. 0 < length items.now) }
 {

@@ -21,24 +21,24 @@ impl Model for Text {
 }
 
 impl Text {
-    /// The text of these bytes. Takes no memory.
+    /// Creates the text of these `bytes`. Does not allocate.
     pub fn new(bytes: Vec<u8>) -> Text
         ensures { result ≡ bytes.items }
     {
         Text { bytes }
     }
 
-    /// The empty text, whose later growths are on this allocator. Takes no memory.
+    /// Creates the empty text, which grows on `alloc` later. Does not allocate.
     pub fn empty(alloc: Global) -> Text
         ensures { result ≡ [] }
     {
         Text::new(Vec::new(alloc))
     }
 
-    /// A copy of these bytes.
+    /// Creates a text from a copy of `bytes`.
     ///
     /// # Errors
-    /// `NoMemory` where room for the copy is refused: never where there is no byte.
+    /// `NoMemory` if the copy cannot be allocated; never if `bytes` is empty.
     pub fn from_slice(alloc: Global, bytes: &[u8]) -> Result<Text, NoMemory>
         ensures { MatchResult result (λ t. t ≡ bytes.now) (λ _. 0 < length bytes.now) }
     {
@@ -46,35 +46,35 @@ impl Text {
         Ok(Text { bytes })
     }
 
-    /// The bytes.
+    /// Returns the bytes.
     pub fn as_bytes(&self) -> &[u8]
         ensures { result.now ≡ self.now }
     {
         self.bytes.as_slice()
     }
 
-    /// How many bytes there are.
+    /// Returns the number of bytes.
     pub fn len(&self) -> usize
         ensures { result ≡ length self.now }
     {
         self.bytes.len()
     }
 
-    /// Whether there is no byte.
+    /// Returns whether the text has no bytes.
     pub fn is_empty(&self) -> bool
         ensures { IsTrue result ↔ (self.now ≡ []) }
     {
         self.bytes.is_empty()
     }
 
-    /// Whether the text has just these bytes, byte for byte.
+    /// Returns whether the text equals `bytes`, byte for byte.
     pub fn is_same(&self, bytes: &[u8]) -> bool
         ensures { IsTrue result ↔ (self.now ≡ bytes.now) }
     {
         self.bytes.as_slice() == bytes
     }
 
-    /// The bytes as a `Vec`. Takes no memory.
+    /// Returns the bytes as a `Vec`. Does not allocate.
     pub fn into_vec(self) -> Vec<u8>
         ensures { result.items ≡ self }
     {
@@ -98,10 +98,10 @@ impl Clone for Text {
     }
 }
 
-/// A copy of these bytes, in a list of their own.
+/// Copies `bytes` into a new `Vec`.
 ///
 /// # Errors
-/// `NoMemory` where room for the copy is refused: never where there is no byte.
+/// `NoMemory` if the copy cannot be allocated; never if `bytes` is empty.
 pub fn bytes_of(alloc: Global, bytes: &[u8]) -> Result<Vec<u8>, NoMemory>
     ensures { MatchResult result (λ copy. copy.items ≡ bytes.now) (λ _. 0 < length bytes.now) }
 {

@@ -8,21 +8,20 @@ use std::io;
 use std::io::{Read, Write};
 use std::process::ExitCode;
 
-/// How much of standard input is read at most, in bytes.
+/// The most bytes of standard input that are read.
 const MAX_INPUT: usize = 1_048_576;
 
-/// What answers cases.
+/// A program's answers to cases.
 pub trait Cases {
-    /// Writes the answer to the case of these words.
+    /// Writes to `out` the answer to the case `words`.
     ///
     /// # Errors
-    /// `Refused` where the words are no case, and `NoMemory` where a growth is refused. What was written then stands
-    /// nowhere.
+    /// `Refused` if `words` are no case, and `NoMemory` if an allocation fails. What was written is then discarded.
     fn answer(&self, alloc: Global, words: &[Text], out: &mut Sink) -> Result<(), CaseError>;
 }
 
-/// Answers the cases of standard input on standard output, and tells on standard error, after the program's name, why it
-/// ends early. The status that the program ends with.
+/// Answers the cases of standard input on standard output, as `cases` does. If it ends early, it says why on standard
+/// error, after the name `program`. Returns the status that the program ends with.
 pub fn answer_input<R: Input + Print + Eprint + AllocGlobal, C: Cases>(
     rt: &R,
     program: &str,
@@ -62,7 +61,7 @@ fn answers_of<C: Cases>(alloc: Global, cases: &C, input: &[u8]) -> Result<Vec<u8
     Ok(out.into_bytes()?)
 }
 
-// Writes the answer to a line, where it is a case.
+// Writes the answer to a line, if it is a case.
 fn answer<C: Cases>(
     alloc: Global,
     cases: &C,

@@ -1,15 +1,16 @@
 //! Cases as lines of text: what the programs `vectors` and `botcases` have in common.
 //!
-//! A line of standard input is a case, and the line of standard output for it is its answer. A case is words separated by
-//! spaces. A word is bare, or text between single quotes (which may hold spaces, or nothing), or `x:` and bytes in
-//! hexadecimal. Its first word says what is asked. Empty lines and lines that begin with `#` are no cases.
+//! A line of standard input is a case, and the line of standard output for it is its answer. A case is words separated
+//! by spaces. A word is bare, or text between single quotes (which may hold spaces, or nothing), or `x:` and bytes in
+//! hexadecimal. Its first word says what is asked. Empty lines and lines that begin with `#` are skipped.
 //!
-//! A program answers what it is asked by an impl of [`Cases`], and hands it to [`answer_input`], whose value its `main`
-//! returns. Answers go to a [`Sink`], which shows a byte that is no printable ASCII as `\x` and two hexadecimal digits.
+//! A program answers its cases by an impl of [`Cases`], and hands it to [`answer_input`], whose value its `main`
+//! returns. Answers go to a [`Sink`], which shows a byte that is not printable ASCII as `\x` and two hexadecimal
+//! digits.
 //!
-//! A line that is no case ends the program: it tells the line on standard error and ends with status 1, as for input
-//! above 1,048,576 bytes; with 3 where reading or writing fails; with 4 where memory runs out. Nothing stands on standard
-//! output then.
+//! A line that is no case ends the program: it reports the line on standard error and ends with status 1, as for more
+//! than 1,048,576 bytes of input. It ends with status 3 if reading or writing fails, and with 4 if memory runs out. It
+//! then writes no answers, except those written before a write failed.
 //!
 //! ```text
 //! struct Echoes;

@@ -2,7 +2,7 @@
 use crate::sink::Sink;
 use ircline::{Line, Message};
 
-/// What a line reads as, or the code of its fault.
+/// Writes to `out` what `line` reads as, or the code of its fault.
 pub fn line_shown(line: &Line, out: &mut Sink) {
     match line {
         Line::Bad(fault) => out.put(fault.code().as_bytes()),

@@ -6,7 +6,7 @@ use flagexpr::Flags;
 use itoa::Buffer;
 use std::alloc::Global;
 
-/// The answers so far. A refused growth is remembered and told at the end; what would stand after it is left out.
+/// The answers so far. If an allocation fails, [`Sink::into_bytes`] reports it at the end.
 #[derive(Drop)]
 pub struct Sink {
     bytes: Vec<u8>,
@@ -14,7 +14,7 @@ pub struct Sink {
 }
 
 impl Sink {
-    /// No answer yet. Takes no memory.
+    /// Creates a sink without an answer. Does not allocate.
     pub fn new(alloc: Global) -> Sink {
         Sink {
             bytes: Vec::new(alloc),
@@ -22,7 +22,7 @@ impl Sink {
         }
     }
 
-    /// Writes a text of printable ASCII as it is, and each other byte as `\x` and two hexadecimal digits.
+    /// Writes `text`: printable ASCII as it is, and each other byte as `\x` and two hexadecimal digits.
     pub fn put(&mut self, text: &[u8]) {
         for byte in text {
             match *byte {
@@ -32,27 +32,27 @@ impl Sink {
         }
     }
 
-    /// Writes a space and a text between single quotes.
+    /// Writes a space, and `text` between single quotes.
     pub fn quoted(&mut self, text: &[u8]) {
         self.put(b" '");
         self.put(text);
         self.put(b"'");
     }
 
-    /// Writes a number in decimal digits.
+    /// Writes `value` in decimal digits.
     pub fn number(&mut self, value: u64) {
         let mut buffer = Buffer::new();
         self.put(buffer.format(value).as_bytes());
     }
 
-    /// Writes bytes as two hexadecimal digits each.
+    /// Writes each of `bytes` as two hexadecimal digits.
     pub fn hex(&mut self, bytes: &[u8]) {
         for byte in bytes {
             self.push_digits(*byte);
         }
     }
 
-    /// Writes flags as letters, or `-` where there is none.
+    /// Writes `flags` as letters, or `-` if there are none.
     pub fn flags(&mut self, alloc: Global, flags: Flags) {
         match flags.text(alloc) {
             Ok(letters) => self.put(letters.as_bytes()),
@@ -60,14 +60,14 @@ impl Sink {
         }
     }
 
-    /// Writes a text where this holds.
+    /// Writes `text` if `holds`.
     pub fn put_if(&mut self, holds: bool, text: &[u8]) {
         if holds {
             self.put(text);
         }
     }
 
-    /// Writes this text in front of a part of a list, if it is not the first, whose place is 0.
+    /// Writes `text` before the part of a list at `place`, unless that is 0, the first.
     pub fn between(&mut self, text: &[u8], place: usize) {
         self.put_if(place > 0, text);
     }
@@ -77,10 +77,10 @@ impl Sink {
         self.push(b'\n');
     }
 
-    /// All that was written.
+    /// Returns all that was written.
     ///
     /// # Errors
-    /// `NoMemory` where a growth was refused, and never else.
+    /// `NoMemory` if an allocation failed, and never otherwise.
     pub fn into_bytes(self) -> Result<Vec<u8>, NoMemory>
         ensures all { IfOk result (λ bytes. bytes ≡ self.bytes) }
         ensures memory { OnErr result (self.refused ≡ true) }

@@ -8,16 +8,16 @@ use thiserror::Error;
 /// Why a line is no case.
 #[derive(Clone, Copy, Debug, Error)]
 pub enum CaseFault {
-    /// Its first word asks for nothing that there is.
+    /// Its first word names no case.
     #[error("no such case")]
     NoSuchCase,
-    /// The words behind the first aren't those that it takes.
+    /// The words after the first are not those that the case takes.
     #[error("other words than this case takes")]
     BadWords,
     /// A word in hexadecimal spells no bytes.
     #[error("after x: come hexadecimal digits, two for a byte")]
     BadHex,
-    /// A word that is to be a number is none, or is out of its range.
+    /// A word that must be a number is none, or is out of its range.
     #[error("a number that is none or is out of its range")]
     BadNumber,
 }
@@ -25,13 +25,13 @@ pub enum CaseFault {
 /// Why a case was not answered.
 pub type CaseError = Failure<CaseFault>;
 
-/// The words behind the first aren't those that the case takes.
+/// The words after the first are not those that the case takes.
 pub const BAD_WORDS: CaseError = Failure::Refused(CaseFault::BadWords);
 
-/// A word that is to be a number is none, or is out of its range.
+/// A word that must be a number is none, or is out of its range.
 pub const BAD_NUMBER: CaseError = Failure::Refused(CaseFault::BadNumber);
 
-/// The case's first word asks for nothing that there is.
+/// The case's first word names no case.
 pub const NO_SUCH_CASE: CaseError = Failure::Refused(CaseFault::NoSuchCase);
 
 /// Why the program ends early.
@@ -51,13 +51,13 @@ pub enum Stop {
     /// The input can't be read, or the answers can't be written.
     #[error("reading or writing failed")]
     Stream,
-    /// A growth was refused.
+    /// An allocation failed.
     #[error("out of memory: free some and try again")]
     NoMemory,
 }
 
 impl Stop {
-    /// The status that the program ends with.
+    /// Returns the status that the program ends with.
     pub fn status(self) -> u8 {
         match self {
             Stop::TooLong | Stop::NoCase { .. } => 1,
@@ -66,7 +66,7 @@ impl Stop {
         }
     }
 
-    /// Why this line ended the program.
+    /// Returns why the line of number `line`, with the fault `error`, ended the program.
     pub fn at(line: usize, error: CaseError) -> Stop {
         match error {
             CaseError::Refused(fault) => Stop::NoCase { line, fault },

@@ -6,8 +6,8 @@ use std::alloc::Global;
 use usercodec::Record;
 use userfile::{Ban, Change, User};
 
-/// A change in the words of a script: its name, texts as they are, `*` for all channels, letters or `-` for flags, and 1 or
-/// 0 for a mark.
+/// Writes `change` to `out` in the words of a script: its name, texts as they are, `*` for all channels, letters or `-`
+/// for flags, and 1 or 0 for a mark.
 pub fn put_change(alloc: Global, change: &Change, out: &mut Sink) {
     match change {
         Change::AddUser { handle } => put_named(b"adduser", handle, out),
@@ -49,8 +49,9 @@ pub fn put_change(alloc: Global, change: &Change, out: &mut Sink) {
     }
 }
 
-/// A user as `user HANDLE GLOBAL BOT`, and behind commas `host MASK`, `chan CHANNEL FLAGS` and, where there is one, `info
-/// TEXT`; a ban as `ban CHANNEL MASK CREATOR EXPIRES COMMENT`, or with `sticky` in front where it is so.
+/// Writes `record` to `out`. A user is `user HANDLE GLOBAL BOT` and, each after a comma, `host MASK`,
+/// `chan CHANNEL FLAGS` and, if there is one, `info TEXT`. A ban is `ban CHANNEL MASK CREATOR EXPIRES COMMENT`, with
+/// `sticky` in front if it is sticky.
 pub fn put_record(alloc: Global, record: &Record, out: &mut Sink) {
     match record {
         Record::User(user) => put_user(alloc, user, out),

@@ -10,7 +10,7 @@ use hex::FromHexError;
 use std::alloc::Global;
 use std::str::FromStr;
 
-/// The words of a line: bare, between single quotes, or `x:` and hexadecimal digits.
+/// Returns the words of `line`: bare, between single quotes, or `x:` and hexadecimal digits.
 pub fn words_of(alloc: Global, line: &[u8]) -> Result<Vec<Text>, CaseError> {
     let mut words = Vec::new(alloc);
     let mut rest = line;
@@ -30,7 +30,7 @@ pub fn words_of(alloc: Global, line: &[u8]) -> Result<Vec<Text>, CaseError> {
     Ok(words)
 }
 
-/// What stands before the first of these bytes, and what stands after it.
+/// Returns what stands in `text` before the first byte `at`, and what stands after it.
 pub fn cut(text: &[u8], at: u8) -> (&[u8], &[u8])
     ensures { length result.1.now ≤ length text.now - 1 }
 {
@@ -40,10 +40,10 @@ pub fn cut(text: &[u8], at: u8) -> (&[u8], &[u8])
     }
 }
 
-/// The number that a word spells. Takes no memory.
+/// Returns the number that `word` spells. Does not allocate.
 ///
 /// # Errors
-/// `BadNumber` where it spells none.
+/// `BadNumber` if it spells none.
 pub fn number<T: FromStr>(word: &[u8]) -> Result<T, CaseError>
 where
     T::Err: Drop,
@@ -72,7 +72,7 @@ fn bytes_of(alloc: Global, digits: &[u8]) -> Result<Text, CaseError> {
     }
 }
 
-/// The zone of a word: minutes ahead of UTC, or a rule of POSIX.
+/// Returns the zone that `word` spells: minutes ahead of UTC, or a rule of POSIX.
 pub fn zone_of(word: &[u8]) -> Result<Zone, ClockFault> {
     match number::<i32>(word) {
         Ok(minutes) => Zone::fixed(minutes),

@@ -1,6 +1,6 @@
--- What a server announces of its channels (RPL_ISUPPORT, numeric 005): PREFIX, the modes that mark a member and the signs
--- that stand for them before a nick, and CHANMODES, the other modes by their type. What it has not announced is as in RFC
--- 2812. Sets of ASCII bytes are tables; no other byte is in one.
+-- What a server announces of its channels (RPL_ISUPPORT, numeric 005). PREFIX has the modes that mark a member and the
+-- signs that stand for them before a nick. CHANMODES has the other modes by their type. What the server has not
+-- announced is as in RFC 2812. Sets of ASCII bytes are tables; no other byte is in a set.
 use Rattle.std.specs.Prelude.{ℕ, Bool, true, false, ◌||◌, ◌&&◌, ◌==◌, List, [], ◌∷◌, Option, None, Some, nat_lt, length, drop, take, replicate, codes}
 use Rattle.std.specs.Prelude.{slice_get, slice_set, unwrap_or, if◌then◌else◌}
 use Rattle.std.specs.List.{position_or_len}
@@ -28,7 +28,7 @@ letters_of text = with_letters text no_letters
 
 -- ---- what is announced
 
--- before a server has announced anything: o v h mark members; b e I k have an argument always, l when it is set
+-- before a server has announced anything: o v h mark members; b e I k always have an argument, l has one when it is set
 unfoldable pub unannounced : Support
 unannounced = record {
   ranks = letters_of (codes "ovh");
@@ -37,7 +37,7 @@ unannounced = record {
   when_set = letters_of (codes "l");
 }
 
--- a text cut at the first of a byte, which goes; not cut where there is none
+-- a text cut at the first such byte, which is dropped; without such a byte it is not cut
 abbrev pub front_len : ℕ → List ℕ → ℕ
 front_len byte text = position_or_len (λ b. b == byte) text
 
@@ -46,8 +46,8 @@ cut byte text =
     if front_len byte text == length text then None
     else Some (take (front_len byte text) text, drop 1 (drop (front_len byte text) text))
 
--- PREFIX=(letters)signs: as many signs as letters. An empty value says that no mode marks a member; anything else
--- announces nothing
+-- PREFIX=(letters)signs: as many signs as letters. An empty value says that no mode marks a member; any other value
+-- announces nothing.
 abbrev pub ranked : Option (List ℕ × List ℕ) → Support → Support
 ranked None s = s
 ranked (Some p) s =
@@ -61,8 +61,8 @@ abbrev pub with_prefix : List ℕ → Support → Support
 with_prefix value s =
     if length value == 0 then record s { ranks = no_letters; signs = no_letters } else opened (cut 40 value) s
 
--- CHANMODES=A,B,C,D: A and B have an argument always, C when they are set, and D never; without all four it announces
--- nothing
+-- CHANMODES=A,B,C,D: A and B always have an argument, C has one when it is set, and D never. Without all four the token
+-- announces nothing.
 abbrev pub typed_three : List ℕ → List ℕ → Option (List ℕ × List ℕ) → Support → Support
 typed_three a b None s = s
 typed_three a b (Some p) s = record s { always = with_letters b (letters_of a); when_set = letters_of p.0 }
@@ -78,12 +78,12 @@ typed_one (Some p) s = typed_two p.0 (cut 44 p.1) s
 abbrev pub with_types : List ℕ → Support → Support
 with_types value s = typed_one (cut 44 value) s
 
--- a token is KEY=value, or KEY alone, whose value is empty
+-- a token is KEY=value, or KEY alone with an empty value
 abbrev pub key_and_value : List ℕ → Option (List ℕ × List ℕ) → List ℕ × List ℕ
 key_and_value token None = (token, [])
 key_and_value token (Some p) = p
 
--- one token; other keys, also one that is taken back (-KEY), announce nothing here
+-- one token; any other key, also a retracted one (-KEY), announces nothing here
 abbrev pub announced_by : List ℕ × List ℕ → Support → Support
 announced_by p s =
     if bytes_eq p.0 (codes "PREFIX") then with_prefix p.1 s
@@ -92,14 +92,14 @@ announced_by p s =
 abbrev pub with_token : List ℕ → Support → Support
 with_token token s = announced_by (key_and_value token (cut 61 token)) s
 
--- tokens in their order: of each key the last value holds
+-- tokens in their order: the last value of each key holds
 abbrev pub announced : List (List ℕ) → Support → Support
 announced [] s = s
 announced (token ∷ more) s = announced more (with_token token s)
 
 -- ---- what it says
 
--- whether a mode has an argument, as it is set or cleared
+-- whether a mode has an argument when it is set, or when it is cleared
 abbrev pub takes_argument : Support → Bool → ℕ → Bool
 takes_argument s on b = is_in b s.ranks || (is_in b s.always || (on && is_in b s.when_set))
 

@@ -15,7 +15,7 @@ is_named name channel = is_same name channel.name
 abbrev pub is_held : List ℕ → List Channel → Bool
 is_held name channels = list_any (is_named name) channels
 
--- a channel that the bot has just joined: nobody else, and no topic
+-- a channel that the bot has just joined: it has no other member and no topic
 abbrev pub opened : List ℕ → Member → Channel
 opened name bot = record { name = name; topic = []; members = bot ∷ [] }
 
@@ -23,27 +23,27 @@ opened name bot = record { name = name; topic = []; members = bot ∷ [] }
 abbrev pub with_topic : List ℕ → Channel → Channel
 with_topic topic channel = record channel { topic = topic }
 
--- the channel with its members changed
+-- the channel with its members changed by `change`
 abbrev pub with_members : (List Member → List Member) → Channel → Channel
 with_members change channel = record channel { members = change channel.members }
 
--- the members of one channel changed, if it is held
+-- the channels with the members of one channel changed, if it is held
 abbrev pub on_channel : List ℕ → (List Member → List Member) → List Channel → List Channel
 on_channel name change channels = first_changed (is_named name) (with_members change) channels
 
--- a channel taken out if it is held, and put last anew
+-- the channels with `one` last; an older channel of that name is removed
 abbrev pub put_last : Channel → List Channel → List Channel
 put_last one channels = first_removed (is_named one.name) channels ++ one ∷ []
 
--- everywhere the member of this nick leaves
+-- the channels without the member of this nick
 abbrev pub all_without : List ℕ → List Channel → List Channel
 all_without nick channels = map (with_members (first_removed (is_called nick))) channels
 
--- everywhere the member of the old nick has the new one
+-- the channels with the nick of a member changed
 abbrev pub all_renamed : List ℕ → List ℕ → List Channel → List Channel
 all_renamed old new channels = map (with_members (renamed old new)) channels
 
--- each of these channels is put last, in their order
+-- the channels with each of these put last, in order
 abbrev pub put_each_last : List Channel → List Channel → List Channel
 put_each_last [] channels = channels
 put_each_last (one ∷ more) channels = put_each_last more (put_last one channels)

@@ -1,4 +1,4 @@
--- People come, go and take other nicks: JOIN, PART, QUIT and NICK (RFC 2812 sections 3.2.1, 3.2.2, 3.1.7 and 3.1.2).
+-- People join, leave and change nicks: JOIN, PART, QUIT and NICK (RFC 2812 sections 3.2.1, 3.2.2, 3.1.7 and 3.1.2).
 use Rattle.std.specs.Prelude.{ℕ, Bool, true, false, List, [], ◌∷◌, ◌++◌, map, Option, Some, slice_get}
 use Rattle.std.specs.List.{filter_map}
 use Rattle.std.specs.Option.{option_map}
@@ -15,17 +15,17 @@ use Rattle.chanstate.specs.Given.{when_given, text_at}
 abbrev pub hostmask : List ℕ → List ℕ → List ℕ
 hostmask nick address = nick ++ 33 ∷ address
 
--- a listed channel as events spell it: as the line does where the bot itself joins, and else as the bot holds it, which
--- is not at all where the bot is not on it
+-- A listed channel as events spell it. If the bot itself joins, the spelling is that of the line; else it is that of
+-- the bot, and there is none if the bot is not on the channel.
 abbrev pub spelled : Bool → ChanState → List ℕ → Option (List ℕ)
 spelled true s name = Some name
 spelled false s name = option_map (λ channel. channel.name) (channel_in name s)
 
--- the channels of a list with commas between, in its order
+-- the channels of a list separated by commas, in its order
 abbrev pub listed_in : Bool → ChanState → List ℕ → List (List ℕ)
 listed_in own s list = filter_map (spelled own s) (channels_in list)
 
--- JOIN: on each listed channel that the bot is on, and on every one where the bot itself joins
+-- JOIN: on each listed channel that the bot is on, or on every listed channel if the bot itself joins
 abbrev pub joins : List ℕ → List ℕ → List (List ℕ) → ChanState → List Event
 joins nick address ps s = when_given (slice_get ps 0)
     (λ list. map (event_on Join nick address (hostmask nick address) []) (listed_in (is_same nick s.nick) s list))
@@ -35,10 +35,10 @@ abbrev pub parts : List ℕ → List ℕ → List (List ℕ) → ChanState → L
 parts nick address ps s = when_given (slice_get ps 0)
     (λ list. map (event_on Part nick address (hostmask nick address) (text_at ps 1 ∷ [])) (listed_in false s list))
 
--- QUIT: on each channel that has the nick, in the order in which the bot joined them, with the reason
+-- QUIT: on each channel that the nick is on, in the order in which the bot joined them, with the reason
 abbrev pub signs_off : List ℕ → List ℕ → List (List ℕ) → ChanState → List Event
 signs_off nick address ps s = map (event_on Sign nick address (hostmask nick address) (text_at ps 0 ∷ [])) (channels_with nick s)
 
--- NICK: on each channel that has the old nick, in the order in which the bot joined them, with the new one
+-- NICK: on each channel that the old nick is on, in the order in which the bot joined them, with the new one
 abbrev pub renames : List ℕ → List ℕ → List (List ℕ) → ChanState → List Event
 renames nick address ps s = when_given (slice_get ps 0) (λ new. map (event_on Nick nick address new (new ∷ [])) (channels_with nick s))

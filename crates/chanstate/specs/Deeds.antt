@@ -4,6 +4,6 @@ use Rattle.chanstate.specs.declared.deed.Deed.{Deed}
 use Rattle.chanstate.specs.declared.event.Event.{Event}
 use Rattle.chanstate.specs.EventShape.{event_on}
 
--- its event on a channel
+-- the event of the deed on a channel
 abbrev pub told : Deed → List ℕ → Event
 told deed = event_on deed.kind deed.by.nick.now deed.by.address.now deed.about.now (map (λ text. text.now) deed.more.now)

@@ -6,8 +6,8 @@ use Rattle.chanstate.specs.declared.event.Kind.{Kind}
 abbrev pub event_with : Kind → List ℕ → Option (List ℕ) → List (List ℕ) → Event
 event_with kind subject channel arguments = record { kind = kind; subject = subject; channel = channel; arguments = arguments }
 
--- an event on a channel: its subject is the channel, a space and one thing more, which masks tell apart; its arguments
--- are who did it, the channel, and what else is told
+-- An event on a channel. Its subject is the channel, a space and one more text, by which masks distinguish events. Its
+-- arguments are the nick and address of the author, the channel, and the other texts of the event.
 abbrev pub event_on : Kind → List ℕ → List ℕ → List ℕ → List (List ℕ) → List ℕ → Event
 event_on kind nick address about more channel =
     event_with kind (channel ++ 32 ∷ about) (Some channel) (nick ∷ address ∷ channel ∷ more)

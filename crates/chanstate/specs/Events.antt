@@ -1,4 +1,4 @@
--- The events of a message, against the state of the channels before it (Eggdrop's Tcl commands, "bind").
+-- The events of a message, given the state of the channels before it (Eggdrop's Tcl commands, "bind").
 use Rattle.std.specs.Prelude.{ℕ, List, [], ◌∷◌, None}
 use Rattle.ircline.specs.declared.message.Message.{Message}
 use Rattle.ircline.specs.Sources.{Source, source_of}
@@ -14,8 +14,8 @@ use Rattle.chanstate.specs.Speech.{says, notes}
 use Rattle.chanstate.specs.Comings.{joins, parts, signs_off, renames}
 use Rattle.chanstate.specs.Operations.{kicks, modes, topics}
 
--- those events that depend on the command: what people say, how they come and go, and what they or a server do on a
--- channel. Other commands have none
+-- The events that depend on the command: what people say, how they join and leave, and what they or a server do on a
+-- channel. Other commands have none.
 abbrev pub typed_by : Verb → Source → List (List ℕ) → ChanState → List Event
 typed_by verb.Privmsg who ps s = by_person who (λ nick address. says nick address ps s)
 typed_by verb.Notice who ps s = by_person who (λ nick address. notes nick address ps s)
@@ -37,7 +37,7 @@ typed_by verb.Other who ps s = []
 abbrev pub typed : Message → ChanState → List Event
 typed m s = typed_by (verb_of m.command) (source_of m.prefix) m.params s
 
--- every message has a raw event first
+-- every message first has a raw event
 abbrev pub raw : Message → Event
 raw m = event_with Raw m.command None (m.prefix ∷ m.command ∷ m.rest ∷ [])
 

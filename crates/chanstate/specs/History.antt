@@ -1,5 +1,5 @@
--- What a history of items says of the bot's channels, each question answered by looking back over it: the newest item
--- stands first, and the last one that concerns the question answers it. Nothing here is carried forward.
+-- What a history of items says of the bot's channels. Each question is answered by looking back over the history: the
+-- newest item stands first, and the last item that concerns the question answers it. Nothing here is carried forward.
 -- `first` is the nick under which the bot connected.
 use Rattle.std.specs.Prelude.{◌≡◌, ℕ, Bool, true, false, not, ◌&&◌, ◌||◌, List, [], ◌∷◌, if◌then◌else◌, Option, None, Some, unwrap_or, IfSome, is_some, map}
 use Rattle.std.specs.Prelude.{length, ◌<◌}
@@ -15,7 +15,7 @@ use Rattle.chanstate.specs.Items.{Item, Welcomed, Announced, Joined, Left, Depar
 use Rattle.chanstate.specs.Steps.{after}
 use Rattle.chanstate.specs.Views.{channel_in, members_in, member_in}
 
--- the bot's nick: what the last welcome says, or the last change of that nick
+-- the bot's nick, from the last welcome or the last change of that nick
 abbrev pub own_said : Item → List ℕ → Option (List ℕ)
 own_said (Welcomed nick) me = Some nick
 own_said (Renamed old new) me = if is_same old me then Some new else None
@@ -25,7 +25,7 @@ abbrev pub own : List ℕ → List Item → List ℕ
 own first [] = first
 own first (item ∷ past) = unwrap_or (own_said item (own first past)) (own first past)
 
--- what the server has announced since it last welcomed the bot, token by token
+-- what the server has announced, token by token, since it last welcomed the bot
 abbrev pub support_said : Item → Support → Support
 support_said (Welcomed nick) was = unannounced
 support_said (Announced tokens) was = announced tokens was
@@ -35,7 +35,7 @@ abbrev pub support : List Item → Support
 support [] = unannounced
 support (item ∷ past) = support_said item (support past)
 
--- whether a channel is held: a join of the bot puts it on, its leaving, its departure and a welcome take it off
+-- whether a channel is held: a join of the bot adds it; its leaving, its departure and a welcome remove it
 abbrev pub channel_said : Item → List ℕ → List ℕ → Option Bool
 channel_said (Welcomed nick) me c = Some false
 channel_said (Joined nick user host d) me c = if is_same c d && is_same nick me then Some true else None
@@ -47,7 +47,7 @@ abbrev pub held : List ℕ → List ℕ → List Item → Bool
 held first c [] = false
 held first c (item ∷ past) = unwrap_or (channel_said item (own first past) c) (held first c past)
 
--- the topic of a held channel: what the last topic says, none if the bot joined after it
+-- the topic of a held channel: what the last topic says, or none if the bot joined after that
 abbrev pub topic_said : Item → List ℕ → List ℕ → Option (List ℕ)
 topic_said (Joined nick user host d) me c = if is_same c d && is_same nick me then Some [] else None
 topic_said (Titled d topic) me c = if is_same c d then Some topic else None
@@ -57,7 +57,7 @@ abbrev pub topic : List ℕ → List ℕ → List Item → List ℕ
 topic first c [] = []
 topic first c (item ∷ past) = unwrap_or (topic_said item (own first past) c) (topic first c past)
 
--- the spelling of a held channel: as the bot's last join of it spells it
+-- the spelling of a held channel, as in the bot's last join of it
 abbrev pub name_said : Item → List ℕ → List ℕ → Option (List ℕ)
 name_said (Joined nick user host d) me c = if is_same c d && is_same nick me then Some d else None
 name_said item me c = None
@@ -66,8 +66,8 @@ abbrev pub spelling : List ℕ → List ℕ → List Item → List ℕ
 spelling first c [] = []
 spelling first c (item ∷ past) = unwrap_or (name_said item (own first past) c) (spelling first c past)
 
--- whether a nick is on a channel, `here` being whether the channel was held and `was` who was on it.
--- The bot's own join leaves it alone there. A change of nick takes the old one off and puts the new one on.
+-- Whether a nick is on a channel. `here` says whether the channel was held, and `was` who was on it. After the bot's
+-- own join nobody else is on it. A change of nick removes the old one and adds the new one.
 abbrev pub nick_said : Item → List ℕ → Bool → List ℕ → (List ℕ → Bool) → List ℕ → Option Bool
 nick_said (Welcomed nick) me here c was x = Some false
 nick_said (Joined nick user host d) me here c was x =
@@ -83,8 +83,9 @@ abbrev pub on : List ℕ → List ℕ → List Item → List ℕ → Bool
 on first c [] x = false
 on first c (item ∷ past) x = unwrap_or (nick_said item (own first past) (held first c past) c (on first c past) x) (on first c past x)
 
--- what is known of a member, as its mark: an item that puts the nick on says what it begins with, and the last later one
--- that concerns it what it is now. Behind a change of nick one looks further back under the old one.
+-- What is known of a member, for example a mark. The item that puts the nick on the channel says how it begins, and the
+-- last later item that concerns it says what it is now. Before a change of nick, the history is searched for the old
+-- one.
 abbrev pub member_said : {A : Type 0} → (Item → A) → (Item → Option A) → Item → List ℕ → List ℕ → (List ℕ → Bool) → (List ℕ → A) → List ℕ → A
 member_said begins says (Joined nick user host d) me c was before x =
     if is_same c d && is_same x nick
@@ -107,7 +108,7 @@ known begins says none first c [] x = none
 known begins says none first c (item ∷ past) x =
     member_said begins says item (own first past) c (on first c past) (known begins says none first c past) x
 
--- a mark: one who joins has none, a listing gives what it shows, and a mode sets or clears it
+-- a mark: someone who joins has none, a listing gives the marks that it shows, and a mode sets or clears one
 abbrev pub has_mark : Mark → Member → Bool
 has_mark Op m = m.op
 has_mark Voice m = m.voice
@@ -131,7 +132,7 @@ mark_says mark item = None
 abbrev pub marked : Mark → List ℕ → List ℕ → List Item → List ℕ → Bool
 marked mark = known (mark_begins mark) (mark_says mark) false
 
--- the user and the host: as one joins, or as an answer to WHO tells them
+-- the user and the host, as in the join or in an answer to WHO
 abbrev pub user_begins : Item → List ℕ
 user_begins (Joined nick user host d) = user
 user_begins (Listed d one) = one.user
@@ -152,7 +153,7 @@ host_says (Joined nick user host d) = Some host
 host_says (Addressed d nick user host) = Some host
 host_says item = None
 
--- the nick's spelling: as it was put on, or as the last change of nick spells it
+-- the nick's spelling, as when it was put on the channel or in the last change of nick
 abbrev pub nick_begins : Item → List ℕ
 nick_begins (Joined nick user host d) = nick
 nick_begins (Listed d one) = one.nick
@@ -162,7 +163,7 @@ abbrev pub nick_says : Item → Option (List ℕ)
 nick_says (Renamed old new) = Some new
 nick_says item = None
 
--- when a nick was put on a channel, as the number of items before; a change of nick keeps it
+-- when a nick was put on a channel, as the number of earlier items; a change of nick keeps it
 abbrev pub arrival : List ℕ → List ℕ → List Item → List ℕ → ℕ
 arrival first c [] x = 0
 arrival first c (item ∷ past) x = member_said (λ _. length past) (λ _. None) item (own first past) c (on first c past) (arrival first c past) x
@@ -176,7 +177,7 @@ abbrev pub opening : List ℕ → List Item → List ℕ → ℕ
 opening first [] c = 0
 opening first (item ∷ past) c = if joins item (own first past) c then length past else opening first past c
 
--- each number is below all behind it
+-- the number is below all that follow it
 abbrev pub Behind : ℕ → List ℕ → Type 0
 Behind n [] = Unit {0}
 Behind n (k ∷ ks) = (n < k) × Behind n ks
@@ -211,7 +212,7 @@ abbrev pub before : List Item → List Item → List Item
 before past [] = past
 before past (item ∷ more) = before (item ∷ past) more
 
--- the same, where each is read by what the server has announced until then
+-- the same, with each item read by what the server has announced before it
 abbrev pub before_read : List Item → List Item → List Item
 before_read past [] = past
 before_read past (item ∷ more) = before_read (before past (read_by (support past) item)) more

@@ -1,7 +1,7 @@
--- What a message says of the bot's channels (RFC 2812 sections 3.1.2, 3.1.3, 3.1.7, 3.2 and 5), one item at a time:
--- a list of channels, of modes or of names gives an item for each, in its order.
--- A line that lacks a needed parameter says nothing. What mode strings and lists of names say depends on what the server has
--- announced: so they stand in an item of their own, which is read where it is taken in.
+-- What a message says of the bot's channels (RFC 2812 sections 3.1.2, 3.1.3, 3.1.7, 3.2 and 5), one item at a time: a
+-- list of channels, of modes or of names gives an item for each, in its order. A line that lacks a needed parameter
+-- says nothing. What mode strings and lists of names say depends on what the server has announced, so each is one item
+-- that is only read when it is taken in.
 use Rattle.std.specs.Option.{option_to_list}
 use Rattle.std.specs.Prelude.{ℕ, ◌-◌, unwrap_or, Bool, true, false, ◌||◌, ◌&&◌, not, ◌==◌, List, [], ◌∷◌, ◌++◌, map, filter, drop, take}
 use Rattle.std.specs.Prelude.{length, if◌then◌else◌, codes, find, Option, Some, None, slice_get}
@@ -39,17 +39,17 @@ pub data Item : Type 0 where
   Titled : List ℕ → List ℕ → Item
   -- the channel has the members of this list of names
   NamesTold : List ℕ → List ℕ → Item
-  -- the channel has this member, who has these marks at least
+  -- the channel has this member, who has at least these marks
   Listed : List ℕ → Member → Item
   -- on the channel, the nick has this user and host
   Addressed : List ℕ → List ℕ → List ℕ → List ℕ → Item
 
--- what follows from a parameter, if it is there
+-- what follows from a parameter, if it is present
 abbrev pub if_given : Option (List ℕ) → (List ℕ → List Item) → List Item
 if_given None items = []
 if_given (Some text) items = items text
 
--- the channels of a list with commas between; a piece that is no channel's name names none
+-- the channels of a list separated by commas; a piece that is no channel's name gives none
 abbrev pub channels_in : List ℕ → List (List ℕ)
 channels_in text = filter is_channel_name (slice_split (λ b. b == 44) text)
 
@@ -90,14 +90,14 @@ sign_after on b = if b == 43 then true else (if b == 45 then false else on)
 abbrev pub is_letter : ℕ → Bool
 is_letter b = not (b == 43 || b == 45)
 
--- the argument of a letter; a missing one is the empty text
+-- the argument of a letter, or the empty text if it is missing
 abbrev pub argument_of : Support → Bool → ℕ → List (List ℕ) → List ℕ
 argument_of s on b arguments = if takes_argument s on b then unwrap_or (slice_get arguments 0) [] else []
 
 abbrev pub arguments_after : Support → Bool → ℕ → List (List ℕ) → List (List ℕ)
 arguments_after s on b arguments = if is_letter b && takes_argument s on b then drop 1 arguments else arguments
 
--- the single mode of a byte, which is none for a sign
+-- the single mode of a byte; a sign has none
 abbrev pub single_at : Support → Bool → ℕ → List (List ℕ) → Option Single
 single_at s on b arguments = if is_letter b then Some (record { on = on; letter = b; argument = argument_of s on b arguments }) else None
 
@@ -107,7 +107,7 @@ singles s on [] arguments = []
 singles s on (b ∷ bs) arguments =
     option_to_list (single_at s on b arguments) ++ singles s (sign_after on b) bs (arguments_after s on b arguments)
 
--- o v h set or clear a mark, where they are modes that mark a member
+-- o v h set or clear a mark, if they are modes that mark a member
 abbrev pub mark_of : ℕ → Option Mark
 mark_of b = if b == 111 then Some Op else (if b == 118 then Some Voice else (if b == 104 then Some HalfOp else None))
 
@@ -122,7 +122,7 @@ abbrev pub markings : Support → List ℕ → List Single → List Item
 markings s channel [] = []
 markings s channel (one ∷ more) = marking channel one.on one.argument (rank_of s one.letter) ++ markings s channel more
 
--- the items that an item stands for, by what the server has announced
+-- the items that an item stands for, given what the server has announced
 abbrev pub read_by : Support → Item → List Item
 read_by s (ModesSet channel modes arguments) = markings s channel (singles s true modes arguments)
 read_by s (NamesTold channel names) = map (Listed channel) (names_in s names)
@@ -206,7 +206,8 @@ mode_items ps = if_given (slice_get ps 0) (λ channel. if_given (slice_get ps 1)
 abbrev pub last_of : List (List ℕ) → Option (List ℕ)
 last_of ps = slice_get ps (length ps - 1)
 
--- TOPIC: the channel is the first parameter; 332 and 331: the second. The last parameter is the topic, for 331 none
+-- TOPIC: the channel is the first parameter; 332 and 331: the second. The last parameter is the topic; 331 says that
+-- there is none.
 abbrev pub topic_items : List (List ℕ) → List Item
 topic_items ps = if_given (slice_get ps 0) (λ channel. if_given (slice_get ps 1) (λ text. if_given (last_of ps) (λ topic. Titled channel topic ∷ [])))
 

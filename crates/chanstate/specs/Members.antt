@@ -17,7 +17,7 @@ is_called nick m = is_same nick m.nick
 abbrev pub has_member : List ℕ → List Member → Bool
 has_member nick members = list_any (is_called nick) members
 
--- one who has no mark yet
+-- a member who has no mark yet
 abbrev pub unmarked : List ℕ → List ℕ → List ℕ → Member
 unmarked nick user host = record { nick = nick; user = user; host = host; op = false; voice = false; half_op = false }
 
@@ -35,45 +35,45 @@ with_mark Op on m = record m { op = on }
 with_mark Voice on m = record m { voice = on }
 with_mark HalfOp on m = record m { half_op = on }
 
--- the member with these marks besides those that it has
+-- the member with these marks besides its own
 abbrev pub with_marks_of : Member → Member → Member
 with_marks_of more m = record m { op = m.op || more.op; voice = m.voice || more.voice; half_op = m.half_op || more.half_op }
 
--- the member after a change that leaves the nick
+-- the member after a change that keeps the nick
 abbrev pub edited : Edit → Member → Member
 edited (Marked mark on) m = with_mark mark on m
 edited (Listed more) m = with_marks_of more m
 edited (Addressed user host) m = with_address user host m
 
--- one who joins: a member's address is renewed, and anyone else comes last, without marks
+-- someone joins: a member gets the new address, and anyone else comes last, without marks
 abbrev pub arrived : Member → List Member → List Member
 arrived one members =
     if has_member one.nick members
     then first_changed (is_called one.nick) (with_address one.user one.host) members
     else members ++ one ∷ []
 
--- one who is listed: a member gets the marks, and anyone else comes last with them
+-- someone is listed: a member gets the marks, and anyone else comes last with them
 abbrev pub listed : Member → List Member → List Member
 listed one members =
     if has_member one.nick members
     then first_changed (is_called one.nick) (with_marks_of one) members
     else members ++ one ∷ []
 
--- several, in their order
+-- several are listed, in their order
 abbrev pub listed_each : List Member → List Member → List Member
 listed_each [] members = members
 listed_each (one ∷ more) members = listed_each more (listed one members)
 
--- several, of whom only members get their marks
+-- several are shown, but only members get the marks
 abbrev pub shown_each : List Member → List Member → List Member
 shown_each [] members = members
 shown_each (one ∷ more) members = shown_each more (first_changed (is_called one.nick) (with_marks_of one) members)
 
--- the members without another of the new nick
+-- the members without another one who has the new nick
 abbrev pub without_namesake : List ℕ → List ℕ → List Member → List Member
 without_namesake old new members = if is_same old new then members else first_removed (is_called new) members
 
--- a member takes another nick in its place, and another of that nick goes first
+-- a member changes nick and keeps its place, and another member of that nick is removed first
 abbrev pub renamed : List ℕ → List ℕ → List Member → List Member
 renamed old new members =
     if has_member old members

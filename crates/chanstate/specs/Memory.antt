@@ -1,4 +1,4 @@
--- Which messages take memory: those that may add a text or a member to what is known. No other message takes any.
+-- Which messages may allocate: those that may add a text or a member to what is known. No other message allocates.
 use Rattle.std.specs.Prelude.{ℕ, Bool, true, false, not, ◌||◌, ◌&&◌, List, Option, None, Some, nat_eq, find}
 use Rattle.std.specs.Cmp.Lexicographic.{pointwise}
 use Rattle.chanstate.specs.declared.member.Member.{Member}
@@ -23,17 +23,17 @@ abbrev pub retitles : List ℕ → Option Channel → Bool
 retitles topic None = false
 retitles topic (Some channel) = not (pointwise nat_eq channel.topic topic)
 
--- whether the member is there, and has another address
+-- whether the member is present, and has another address
 abbrev pub readdresses : List ℕ → List ℕ → Option Member → Bool
 readdresses user host None = false
 readdresses user host (Some m) = not (pointwise nat_eq m.user user) || not (pointwise nat_eq m.host host)
 
--- whether the member is there, and has a nick that is spelled in another way
+-- whether the member is present, and its nick is spelled otherwise
 abbrev pub respells : List ℕ → Option Member → Bool
 respells nick None = false
 respells nick (Some m) = not (pointwise nat_eq m.nick nick)
 
--- whether an item concerns a held channel or the bot's own nick, and brings a text that has to be kept
+-- whether an item concerns a held channel or the bot's own nick, and brings a text to keep
 abbrev pub adds : Item → ChanState → Bool
 adds (Welcomed nick) s = true
 adds (Announced tokens) s = false
@@ -48,10 +48,10 @@ adds (NamesTold channel names) s = list_any (λ one. lacks one.nick (channel_in 
 adds (Listed channel one) s = lacks one.nick (channel_in channel s)
 adds (Addressed channel nick user host) s = readdresses user host (member_in channel nick s)
 
--- whether one of these does
+-- whether one of these items does
 abbrev pub any_adds : List Item → ChanState → Bool
 any_adds items s = list_any (λ item. adds item s) items
 
--- whether a message may take memory
+-- whether a message may allocate
 abbrev pub takes_memory : Message → ChanState → Bool
 takes_memory m s = any_adds (items_of m) s

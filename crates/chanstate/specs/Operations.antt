@@ -9,7 +9,7 @@ use Rattle.chanstate.specs.Views.{channel_in}
 use Rattle.chanstate.specs.EventShape.{event_on}
 use Rattle.chanstate.specs.Given.{when_given, text_at}
 
--- what follows from a channel, as the bot spells it, if the bot is on it
+-- what follows from a channel, in the bot's spelling, if the bot is on it
 abbrev pub when_held : Option Channel → (List ℕ → List Event) → List Event
 when_held None events = []
 when_held (Some channel) events = events channel.name
@@ -25,7 +25,7 @@ kicks nick address ps s =
 abbrev pub signed : Single → List ℕ
 signed one = (if one.on then 43 else 45) ∷ one.letter ∷ []
 
--- MODE: each single mode of the mode string, with its argument, which is empty where it has none
+-- MODE: each single mode of the mode string, with its argument, which may be empty
 abbrev pub mode_on : List ℕ → List ℕ → List ℕ → Single → Event
 mode_on nick address channel one = event_on Mode nick address (signed one) (signed one ∷ one.argument ∷ []) channel
 

@@ -1,4 +1,4 @@
--- What is made of a message before it is taken in.
+-- What is prepared for a message before it is taken in.
 use Rattle.std.specs.Prelude.{◌≡◌, Bool, true, false, List, Option, None, Some, if◌then◌else◌, unwrap_or}
 use Rattle.ircline.specs.declared.message.Message.{Message}
 use Rattle.chanstate.specs.declared.state.ChanState.{ChanState}
@@ -9,12 +9,12 @@ use Rattle.chanstate.specs.Steps.{step, steps}
 use Rattle.chanstate.specs.Memory.{any_adds}
 use Rattle.chanstate.specs.Takes.{given}
 
--- whether nothing had to be made
+-- whether nothing had to be prepared
 abbrev pub is_plain : Plan → Bool
 is_plain Plain = true
 is_plain other = false
 
--- the state that takes in what was made, or gets back what was taken for it
+-- the state that takes in what was prepared, or gets back what was taken out for it
 abbrev pub settled : Bool → Plan → ChanState → ChanState
 settled done Plain s = s
 settled done (Welcome nick) s = if done then step (Welcomed nick) s else s
@@ -26,19 +26,19 @@ settled done (Seat own takes) s = record s {
   channels = given done takes.items s.channels;
 }
 
--- the state after what was made, if anything had to be
+-- the state after what was prepared, if anything had to be
 abbrev pub after_plan : Plan → ChanState → Option ChanState
 after_plan plan s = if is_plain plan then None else Some (settled true plan s)
 
--- what was made of some items is what they take from a state: the state after them, or nothing where they take no memory
+-- what was prepared suits some items and a state: it gives the state after them, or nothing if they allocate nothing
 abbrev pub Suits : List Item → ChanState → Option ChanState → Type 0
 Suits items s None = any_adds items s ≡ false
 Suits items s (Some next) = next ≡ steps items s
 
--- a plan for some items, and the state that was left for it
+-- a plan for some items, and the state that is left meanwhile
 abbrev pub IsPlanFor : List Item → Plan → ChanState → ChanState → Type 0
 IsPlanFor items plan left s = (settled false plan left ≡ s) × Suits items s (after_plan plan left)
 
--- what was made of a message for a state
+-- what was prepared for a message and a state
 abbrev pub IsReady : Message → ChanState → ChanState × Option ChanState → Type 0
 IsReady m s made = (made.0 ≡ s) × Suits (items_of m) s made.1

@@ -1,4 +1,4 @@
--- The seats of a channel, in the order in which people came, and the index that finds each by the lower case of its nick.
+-- The seats of a channel, in the order in which people came, and the index that finds them by lower-case nick.
 use Rattle.std.specs.Prelude.{◌≡◌, ℕ, ◌+◌, zero, suc, Bool, false, nat_eq, List, [], ◌∷◌, Option, None, Some, is_some, filter}
 use Rattle.std.specs.List.{filter_map}
 use Rattle.std.specs.Map.{lookup}
@@ -9,7 +9,7 @@ use Rattle.rfccase.specs.Casemapping.{folded}
 use Rattle.chanstate.specs.declared.member.Member.{Member}
 use Rattle.chanstate.specs.Members.{is_called}
 
--- the members who sit there, in their order; an empty seat is left by who has gone
+-- the members who sit there, in their order; a member who left has left an empty seat
 abbrev pub seated : List (Option Member) → List Member
 seated places = filter_map (λ place. place) places
 
@@ -23,11 +23,11 @@ SitsAt [] i m = ⊥
 SitsAt (p ∷ ps) zero m = p ≡ Some m
 SitsAt (p ∷ ps) (suc i) m = SitsAt ps i m
 
--- the test by which a look-up goes
+-- the test that a look-up uses
 abbrev pub has_key : List ℕ → Vec ℕ Global → Bool
 has_key lower key = pointwise nat_eq lower key.items
 
--- the entries of the index: lower cases, and the places of who has them
+-- the entries of the index: the lower case of each nick, and the place of its member
 abbrev pub Entries : Type 0
 Entries = List (Vec ℕ Global × ℕ)
 
@@ -40,12 +40,13 @@ pub record AreIndexed (places : List (Option Member)) (entries : Entries) : Type
   pub found : (i : ℕ) (m : Member) → SitsAt places i m → place_under (folded m.nick) entries ≡ Some i
   pub named : (lower : List ℕ) (i : ℕ) → place_under lower entries ≡ Some i → (m : Member) × SitsAt places i m × (folded m.nick ≡ lower)
 
--- the index has w for a lower case, and for each other what it had
+-- the index has `w` for this lower case, and is unchanged for every other one
 pub record IsChanged (lower : List ℕ) (w : Option ℕ) (old new : Entries) : Type 0 where
   pub own : place_under lower new ≡ w
   pub others : (other : List ℕ) → pointwise nat_eq other lower ≡ false → place_under other new ≡ place_under other old
 
--- who sits at a place comes next in the index, which has so many entries, and nothing changes where nobody does
+-- The member at a place is next in the index, under the index's number of entries. If the place is empty, nothing
+-- changes.
 abbrev pub IsIndexedNext : Option Member → ℕ → Entries → ℕ → Entries → Type 0
 IsIndexedNext None n old k new = (new ≡ old) × (k ≡ n)
 IsIndexedNext (Some m) n old k new =
@@ -56,11 +57,11 @@ abbrev pub is_seat_of : List ℕ → Option Member → Bool
 is_seat_of nick None = false
 is_seat_of nick (Some m) = is_called nick m
 
--- a member stands under the lower case of its nick
+-- the key of a member is the lower case of its nick
 abbrev pub IsUnder : Vec ℕ Global → Member → Type 0
 IsUnder key m = key.items ≡ folded m.nick
 
--- so does each of these
+-- this holds for each of these
 abbrev pub AreUnder : List (Vec ℕ Global × Member) → Type 0
 AreUnder [] = Unit {0}
 AreUnder (e ∷ es) = IsUnder e.0 e.1 × AreUnder es

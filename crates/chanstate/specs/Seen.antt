@@ -5,11 +5,11 @@ use Rattle.chanstate.specs.declared.change.Change.{Change}
 use Rattle.chanstate.specs.declared.change.Change.TheVariants as change
 use Rattle.chanstate.specs.Items.{Item, Welcomed, Announced, Joined, Left, Departed, Renamed, ModesSet, Titled, NamesTold, Addressed, channels_in}
 
--- the joins of a person, as a list of channels names them
+-- the joins of a person on the channels of a list
 abbrev pub joins_in : Person → List ℕ → List Item
 joins_in person list = map (Joined person.nick.now person.user.now person.host.now) (channels_in list)
 
--- the items that a change stands for
+-- the items that a change means
 abbrev pub items_seen : Change → List Item
 items_seen change.Nothing = []
 items_seen (change.Welcome nick) = Welcomed nick.now ∷ []

@@ -10,7 +10,7 @@ use Rattle.chanstate.specs.Views.{channel_in}
 use Rattle.chanstate.specs.EventShape.{event_with}
 use Rattle.chanstate.specs.Given.{when_given}
 
--- a text without its spaces in front
+-- a text without the spaces that it begins with
 abbrev pub spaces_len : List ℕ → ℕ
 spaces_len text = position_or_len (λ b. not (b == 32)) text
 
@@ -24,7 +24,7 @@ word_len text = position_or_len (λ b. b == 32) text
 abbrev pub first_word : List ℕ → List ℕ
 first_word text = take (word_len text) text
 
--- what follows it and the spaces after it
+-- what follows the first word and the spaces after it
 abbrev pub after_word : List ℕ → List ℕ
 after_word text = trimmed (drop (word_len text) text)
 
@@ -46,11 +46,11 @@ to_channel nick address channel text =
     (event_with Pub (first_word text) (Some channel) (nick ∷ address ∷ channel ∷ after_word text ∷ []))
     text
 
--- a notice has one event, which names where it went
+-- a notice has one event, which names its destination
 abbrev pub noticed : List ℕ → List ℕ → Option (List ℕ) → List ℕ → List ℕ → List Event
 noticed nick address channel text dest = event_with Notc text channel (nick ∷ address ∷ text ∷ dest ∷ []) ∷ []
 
--- a text that begins with byte 1 is for programs alone
+-- a text that begins with byte 1 is only for programs
 abbrev pub is_hidden : List ℕ → Bool
 is_hidden text = slice_index text 0 == 1
 
@@ -62,7 +62,7 @@ abbrev pub noticed_on : List ℕ → List ℕ → List ℕ → Option Channel �
 noticed_on nick address text None = []
 noticed_on nick address text (Some channel) = noticed nick address (Some channel.name) text channel.name
 
--- what a person says or notes to the bot, or to a channel that it is on
+-- what a person says or notes to the bot, or on a channel that it is on
 abbrev pub said : List ℕ → List ℕ → List ℕ → List ℕ → ChanState → List Event
 said nick address target text s =
     if is_hidden text then []

@@ -10,25 +10,25 @@ use Rattle.chanstate.specs.Announced.{unannounced, announced}
 use Rattle.chanstate.specs.Items.{Item, Welcomed, Announced, Joined, Left, Departed, Renamed, ModesSet, Marked, Titled, NamesTold, Listed, Addressed}
 use Rattle.chanstate.specs.Items.{read_by, items_of}
 
--- a person joins a channel: for the bot the channel is put last anew
+-- a person joins a channel; if the person is the bot, the channel is put last as one just joined
 abbrev pub joined : List ℕ → List ℕ → List ℕ → List ℕ → ChanState → ChanState
 joined nick user host channel s =
     if is_same nick s.nick
     then record s { channels = put_last (opened channel (unmarked nick user host)) s.channels }
     else record s { channels = on_channel channel (arrived (unmarked nick user host)) s.channels }
 
--- a nick leaves a channel: for the bot the channel goes
+-- a nick leaves a channel; if the nick is the bot's, the channel is removed
 abbrev pub left : List ℕ → List ℕ → ChanState → ChanState
 left nick channel s =
     if is_same nick s.nick
     then record s { channels = first_removed (is_named channel) s.channels }
     else record s { channels = on_channel channel (first_removed (is_called nick)) s.channels }
 
--- a nick leaves the network: for the bot all channels go
+-- a nick leaves the network; if the nick is the bot's, all channels are removed
 abbrev pub departed : List ℕ → ChanState → ChanState
 departed nick s = if is_same nick s.nick then record s { channels = [] } else record s { channels = all_without nick s.channels }
 
--- the state after one item that stands for itself; one that stands for others changes nothing by itself
+-- the state after one item that means itself; an item that stands for others changes nothing by itself
 abbrev pub step : Item → ChanState → ChanState
 step (Welcomed nick) s = record { nick = nick; channels = []; support = unannounced }
 step (Announced tokens) s = record s { support = announced tokens s.support }
@@ -47,7 +47,7 @@ abbrev pub each_step : List Item → ChanState → ChanState
 each_step [] s = s
 each_step (item ∷ more) s = each_step more (step item s)
 
--- the state after some items, in their order: each is read by what the server has announced until then
+-- the state after some items, in their order: each is read by what the server has announced before it
 abbrev pub steps : List Item → ChanState → ChanState
 steps [] s = s
 steps (item ∷ more) s = steps more (each_step (read_by s.support item) s)

@@ -1,4 +1,4 @@
--- What is taken out of channels, so that what is to be done there takes no memory, and how it is given back.
+-- What is taken out of channels, so that changing it allocates nothing, and how it is put back.
 use Rattle.std.specs.Prelude.{◌≡◌, ℕ, zero, suc, Bool, ◌||◌, List, [], ◌∷◌, false, true, if◌then◌else◌, nat_eq}
 use Rattle.std.specs.List.{list_any}
 use Rattle.chanstate.specs.declared.member.Member.{Member}
@@ -13,31 +13,31 @@ use Rattle.chanstate.specs.Channels.{with_members, on_channel}
 abbrev pub pick : Bool → List Member × List Member → List Member
 pick done pair = if done then pair.1 else pair.0
 
--- the channel at a place changed
+-- the channels with the one at a place changed
 abbrev pub on_place : ℕ → (List Member → List Member) → List Channel → List Channel
 on_place at change [] = []
 on_place zero change (c ∷ cs) = with_members change c ∷ cs
 on_place (suc i) change (c ∷ cs) = c ∷ on_place i change cs
 
--- the channels with what was taken from them given back, what was taken last first
+-- the channels with everything that was taken out put back, starting with the last
 abbrev pub given : Bool → List Take → List Channel → List Channel
 given done [] cs = cs
 given done (t ∷ ts) cs = on_place t.at (λ ms. pick done t.seating) (given done ts cs)
 
--- whether something was taken at a place
+-- whether something was taken out at a place
 abbrev pub is_taken : ℕ → List Take → Bool
 is_taken at takes = list_any (λ t. nat_eq t.at at) takes
 
--- what was taken gives the channels as they were, and as they are after a change
+-- what was taken out gives the channels as they were, and as they are after a change
 abbrev pub IsTaken : (List Channel → List Channel) → List Take → List Channel → List Channel → Type 0
 IsTaken change takes left before = (given false takes left ≡ before) × (given true takes left ≡ change before)
 
--- a change leaves each of them as it will be
+-- a change leaves each of the members as they will be
 abbrev pub AreKept : (List Member → List Member) → List Take → Type 0
 AreKept change [] = Unit {0}
 AreKept change (t ∷ ts) = (change t.seating.1 ≡ t.seating.1) × AreKept change ts
 
--- one more is taken at a place, with what is to be done there
+-- one more is taken out at a place, with what is to be done there
 pub record Holds (at : ℕ) (task : Task) (old : List Channel) (before : List Take) (new : List Channel) (takes : List Take) : Type 0 where
   pub back : given false takes new ≡ given false before old
   pub done : given true takes new ≡ given true before (on_place at (done_by task) old)
@@ -45,7 +45,7 @@ pub record Holds (at : ℕ) (task : Task) (old : List Channel) (before : List Ta
   pub kept : (change : List Member → List Member) → ((ms : List Member) → change (done_by task ms) ≡ done_by task ms)
       → AreKept change before → AreKept change takes
 
--- someone comes to each of these channels, in their order
+-- someone joins each of these channels, in their order
 abbrev pub came_each : Member → List (List ℕ) → List Channel → List Channel
 came_each one [] cs = cs
 came_each one (n ∷ ns) cs = came_each one ns (on_channel n (arrived one) cs)

@@ -8,7 +8,7 @@ use Rattle.chanstate.specs.declared.task.Task.TheVariants.{Arrive, Rename, List 
 use Rattle.chanstate.specs.Members.{arrived, listed_each, renamed}
 use Rattle.chanstate.specs.Seats.{IsUnder, AreUnder}
 
--- the members after it
+-- the members after the task
 abbrev pub done_by : Task → List Member → List Member
 done_by (Arrive key one) = arrived one
 done_by (Rename old key nick) = renamed old nick
@@ -20,7 +20,7 @@ IsKeyed (Arrive key one) = IsUnder key one
 IsKeyed (Rename old key nick) = key.items ≡ folded nick
 IsKeyed (ListAll ones) = AreUnder ones.items
 
--- how many places it may fill
+-- how many places the task may fill
 abbrev pub places_for : Task → ℕ
 places_for (Arrive key one) = 1
 places_for (Rename old key nick) = 1

@@ -1,4 +1,4 @@
--- What a call that was refused leaves.
+-- What a call that failed leaves.
 use Rattle.std.specs.Prelude.{◌≡◌}
 use Rattle.std.specs.Borrow.{Fml, MutBor, RestsIfErr}
 use Rattle.std.specs.declared.result.Result.{Result}
@@ -7,6 +7,6 @@ use Rattle.chanstate.specs.declared.update.Update.{Update}
 use Rattle.chanstate.specs.declared.update.Made.{Made}
 use Rattle.chanstate.specs.contracts.state.ChanState.{the_row}
 
--- the state behind a reference that a refused call was given is as before
+-- the state behind the reference that a failed call got is unchanged
 abbrev pub rests_if_refused : {E : Type 0} → MutBor ChanState → Result (Update Made) E → Fml
 rests_if_refused s r = RestsIfErr the_row s (λ update. update.state.ghost_name) r (λ left. left ≡ s.now)

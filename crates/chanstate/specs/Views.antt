@@ -1,4 +1,4 @@
--- What a bot may ask of its channels.
+-- What a bot can look up about its channels.
 use Rattle.std.specs.Prelude.{ℕ, Bool, false, Option, None, Some, List, [], map, filter, find}
 use Rattle.std.specs.Option.{option_map}
 use Rattle.std.specs.List.{slice_get}
@@ -25,7 +25,7 @@ channel_at place s = option_map (λ channel. channel.name) (slice_get s.channels
 abbrev pub topic_in : List ℕ → ChanState → Option (List ℕ)
 topic_in name s = option_map (λ channel. channel.topic) (channel_in name s)
 
--- its members, and nobody where it isn't held
+-- the members of a channel, or none if it isn't held
 abbrev pub members_of : Option Channel → List Member
 members_of None = []
 members_of (Some channel) = channel.members
@@ -33,7 +33,7 @@ members_of (Some channel) = channel.members
 abbrev pub members_in : List ℕ → ChanState → List Member
 members_in name s = members_of (channel_in name s)
 
--- the member of this nick
+-- the member of this nick on the channel of this name
 abbrev pub member_in : List ℕ → List ℕ → ChanState → Option Member
 member_in name nick s = find (is_called nick) (members_in name s)
 

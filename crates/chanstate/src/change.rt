@@ -11,10 +11,10 @@ use crate::words::{last, param, params_from};
 use bytetext::Text;
 use ircline::{Message, Person, Source, source};
 
-/// What a message says, as parts of its parameters.
+/// What a message says, as borrowed parts of its parameters.
 #[derive(Clone, Copy)]
 pub enum Change<'a> {
-    // Nothing that concerns channels.
+    // Nothing about channels.
     Nothing,
     Welcome(&'a [u8]),
     Announce(&'a [Text]),
@@ -215,7 +215,7 @@ fn rpl_who_reply(params: &[Text]) -> Change<'_>
     }
 }
 
-/// What a message says.
+/// Returns what `message` says of the bot's channels.
 pub fn change_of(message: &Message) -> Change<'_>
     ensures { items_seen result ≡ items_of message.now }
 {

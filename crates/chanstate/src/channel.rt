@@ -17,7 +17,7 @@ pub struct Channel {
     pub(crate) members: Roster,
 }
 
-// By hand, so that this is proved once, and not in each function in which one ends.
+// Written by hand, so that it is proved once and not in each function that drops a `Channel`.
 impl Drop for Channel {
     fn drop(self) {
         let Channel {
@@ -29,7 +29,7 @@ impl Drop for Channel {
 }
 
 impl Channel {
-    // A channel that the bot has just joined.
+    // Creates the channel `name` as the bot has just joined it: `bot` is its only member, and it has no topic.
     pub(crate) fn open(alloc: Global, name: &[u8], bot: Member) -> Result<Channel, NoMemory>
         ensures { IfOk result (λ c. c ≡ opened name.now bot) }
     {
@@ -40,7 +40,7 @@ impl Channel {
         })
     }
 
-    // Someone leaves.
+    // Removes the member called `nick`.
     pub(crate) fn depart(&mut self, nick: &[u8])
         ensures { self.new ≡ with_members (first_removed (is_called nick.now)) self.old }
     {

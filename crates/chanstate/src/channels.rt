@@ -40,7 +40,7 @@ impl Model for Channels {
 }
 
 impl Channels {
-    /// No channel. Takes no memory.
+    /// Creates an empty list of channels. Allocates nothing.
     pub(crate) fn new(alloc: Global) -> Channels
         ensures { result ≡ [] }
     {
@@ -49,21 +49,21 @@ impl Channels {
         }
     }
 
-    /// The channels, in order.
+    /// Returns the channels, in order.
     pub(crate) fn as_slice(&self) -> &[Channel]
         ensures { result.now ≡ self.now }
     {
         self.items.as_slice()
     }
 
-    // The place of the channel of this name.
+    // Returns the place of the channel called `name`.
     pub(crate) fn place(&self, name: &[u8]) -> Option<usize>
         ensures { result ≡ position (is_named name.now) self.now }
     {
         place_in(self.items.as_slice(), name)
     }
 
-    // Whether there is a channel of this name.
+    // Returns whether the bot is on the channel `name`.
     pub(crate) fn holds(&self, name: &[u8]) -> bool
         ensures { result ≡ is_held name.now self.now }
     {
@@ -72,7 +72,7 @@ impl Channels {
             .any(|channel| is_same(name, channel.name.as_bytes()))
     }
 
-    // The channel of this name.
+    // Returns the channel called `name`.
     pub(crate) fn find(&self, name: &[u8]) -> Option<&Channel>
         ensures { option_copied result ≡ find (is_named name.now) self.now }
     {
@@ -81,7 +81,7 @@ impl Channels {
             .find(|channel| is_same(name, channel.name.as_bytes()))
     }
 
-    // The names of the channels that have a member of this nick, in order.
+    // Returns the names of the channels that have a member called `nick`, in order.
     pub(crate) fn names_with(&self, alloc: Global, nick: &[u8]) -> Result<Vec<Text>, NoMemory>
         ensures names { IfOk result (λ names. names.items ≡ map (λ channel. channel.name) (filter (λ channel. has_member nick.now channel.members) self.now)) }
         ensures memory { IfErr result (λ _. 0 < length (filter (λ channel. has_member nick.now channel.members) self.now)) }
@@ -89,7 +89,7 @@ impl Channels {
         names_with(alloc, self.items.as_slice(), nick)
     }
 
-    // Whether a channel has a member of the old nick who spells it in another way than the new one.
+    // Returns whether a channel has a member called `old` whose nick is not spelled as `new`.
     pub(crate) fn respell(&self, old: &[u8], new: &[u8]) -> bool
         ensures { result ≡ list_any (λ c. respells new.now (find (is_called old.now) c.members)) self.now }
     {
@@ -98,7 +98,7 @@ impl Channels {
             .any(|channel| channel.members.respells(old, new))
     }
 
-    // The place of the channel of this name, if it lacks one of those whom a list of names names.
+    // Returns the place of the channel called `name`, if it lacks a member that the list of names `names` names.
     pub(crate) fn place_lacking(
         &self,
         support: &Support,
@@ -118,7 +118,8 @@ impl Channels {
         Some(at)
     }
 
-    // Those members of a channel whom a list of names names are listed.
+    // Gives the members of the channel `name` the marks that the list of names `names` shows. Names of others are
+    // skipped.
     pub(crate) fn show(&mut self, alloc: Global, support: &Support, name: &[u8], names: &[u8])
         ensures { self.new ≡ on_channel name.now (shown_each (names_in support.now names.now)) self.old }
     {
@@ -128,7 +129,7 @@ impl Channels {
         }
     }
 
-    // Takes the channel of this name out.
+    // Removes the channel called `name`.
     pub(crate) fn remove(&mut self, name: &[u8])
         ensures { self.new ≡ first_removed (is_named name.now) self.old }
     {
@@ -137,7 +138,7 @@ impl Channels {
         }
     }
 
-    // Takes all channels out, with room for those that the bot joins.
+    // Takes all channels out, with room for the channels that the bot joins.
     pub(crate) fn ready_opening(
         &mut self,
         alloc: Global,
@@ -151,7 +152,7 @@ impl Channels {
         Ok(Opening { held, opened })
     }
 
-    // Takes the members of the channel at a place out of it, with what is to be done with them.
+    // Takes the members out of the channel at place `at`, together with `task`, which is to be done with them.
     pub(crate) fn take(
         &mut self,
         alloc: Global,
@@ -171,7 +172,7 @@ impl Channels {
         Ok(())
     }
 
-    // The channel at a place gets these members.
+    // Gives the channel at place `at` these members.
     fn put_at(&mut self, at: usize, members: Roster)
         ensures { self.new ≡ on_place at (λ ms. members) self.old }
     {
@@ -181,7 +182,7 @@ impl Channels {
         }
     }
 
-    // Gives back what was taken, the last first: the members as they will be, or as they are.
+    // Puts back what `takes` holds, starting with the last: the members as they will be if `done`, else as they are.
     pub(crate) fn give(&mut self, mut takes: Vec<Take>, done: bool)
         ensures { self.new ≡ given done takes.items self.old }
     {
@@ -190,14 +191,14 @@ impl Channels {
         }
     }
 
-    // Takes every channel out.
+    // Removes every channel.
     pub(crate) fn clear(&mut self)
         ensures { self.new ≡ [] }
     {
         self.items.clear();
     }
 
-    // Someone leaves a channel.
+    // Removes the member called `nick` from the channel `name`.
     pub(crate) fn leave(&mut self, name: &[u8], nick: &[u8])
         ensures { self.new ≡ on_channel name.now (first_removed (is_called nick.now)) self.old }
     {
@@ -207,7 +208,7 @@ impl Channels {
         }
     }
 
-    // A mark of a member is set or cleared.
+    // Sets or clears a mark of a member.
     pub(crate) fn mark(&mut self, name: &[u8], nick: &[u8], mark: Mark, on: bool)
         ensures { self.new ≡ on_channel name.now (first_changed (is_called nick.now) (with_mark mark on)) self.old }
     {
@@ -217,7 +218,7 @@ impl Channels {
         }
     }
 
-    // A member has an address.
+    // Sets the user and host of a member.
     pub(crate) fn place_at(&mut self, name: &[u8], nick: &[u8], user: Text, host: Text)
         ensures { self.new ≡ on_channel name.now (first_changed (is_called nick.now) (with_address user host)) self.old }
     {
@@ -227,7 +228,7 @@ impl Channels {
         }
     }
 
-    // A channel has a topic.
+    // Sets the topic of a channel.
     pub(crate) fn set_topic(&mut self, name: &[u8], topic: Text)
         ensures { self.new ≡ first_changed (is_named name.now) (with_topic topic) self.old }
     {
@@ -237,7 +238,7 @@ impl Channels {
         }
     }
 
-    // Someone leaves every channel.
+    // Removes the member called `nick` from every channel.
     pub(crate) fn depart(&mut self, nick: &[u8])
         ensures { self.new ≡ all_without nick.now self.old }
     {
@@ -254,7 +255,7 @@ impl TryCopy for Channels {
     }
 }
 
-// The place of the channel of this name.
+// Returns the place of the channel called `name`.
 fn place_in(channels: &[Channel], name: &[u8]) -> Option<usize>
     ensures { result ≡ position (is_named name.now) channels.now }
 {
@@ -263,7 +264,7 @@ fn place_in(channels: &[Channel], name: &[u8]) -> Option<usize>
         .position(|channel| is_same(name, channel.name.as_bytes()))
 }
 
-// Puts a channel last, anew where it is held. There is room for one more.
+// Puts `channel` last, and removes an older channel of the same name. There must be room for one more.
 fn put(items: &mut Vec<Channel>, channel: Channel)
     requires { vec_len items.old < vec_capacity items.old }
     ensures put { items.new.items ≡ put_last channel items.old.items }
@@ -277,7 +278,7 @@ fn put(items: &mut Vec<Channel>, channel: Channel)
     }
 }
 
-// Puts each of these channels last, in their order. There is room for each.
+// Puts each of `channels` last, in their order. There must be room for each.
 pub(crate) fn put_each(items: &mut Vec<Channel>, channels: Vec<Channel>)
     requires { vec_len items.old + length channels.items ≤ vec_capacity items.old }
     ensures { items.new.items ≡ put_each_last channels.items items.old.items }
@@ -287,7 +288,7 @@ pub(crate) fn put_each(items: &mut Vec<Channel>, channels: Vec<Channel>)
     }
 }
 
-// The names of those channels that have a member of this nick, in order.
+// Returns the names of those channels that have a member called `nick`, in order.
 fn names_with(alloc: Global, channels: &[Channel], nick: &[u8]) -> Result<Vec<Text>, NoMemory>
     ensures names { IfOk result (λ names. names.items ≡ map (λ channel. channel.name) (filter (λ channel. has_member nick.now channel.members) channels.now)) }
     ensures memory { IfErr result (λ _. 0 < length (filter (λ channel. has_member nick.now channel.members) channels.now)) }

@@ -1,4 +1,4 @@
-// People come, go and take other nicks, as events.
+// The events of people who join, leave or change nick.
 ghost use Rattle.std.specs.Prelude.{◌≡◌, [], ◌∷◌, IfOk, filter, map};
 ghost use Rattle.std.specs.List.{filter_map};
 ghost use Rattle.std.specs.Option.{option_copied, option_to_list};
@@ -18,7 +18,7 @@ use bytetext::{NoMemory, Text};
 use rfccase::is_channel_name;
 use std::alloc::Global;
 
-// What a JOIN gives.
+// Returns the events of a JOIN.
 pub(crate) fn join(
     alloc: Global,
     by: Author<'_>,
@@ -41,7 +41,7 @@ pub(crate) fn join(
     on_listed(alloc, &deed, own, list, state)
 }
 
-// What a PART gives.
+// Returns the events of a PART.
 pub(crate) fn part(
     alloc: Global,
     by: Author<'_>,
@@ -63,7 +63,7 @@ pub(crate) fn part(
     on_listed(alloc, &deed, false, list, state)
 }
 
-// What a QUIT gives.
+// Returns the events of a QUIT.
 pub(crate) fn quit(
     alloc: Global,
     by: Author<'_>,
@@ -82,7 +82,7 @@ pub(crate) fn quit(
     on_shared(alloc, &deed, state)
 }
 
-// What a NICK gives.
+// Returns the events of a NICK.
 pub(crate) fn rename(
     alloc: Global,
     by: Author<'_>,
@@ -103,8 +103,8 @@ pub(crate) fn rename(
     on_shared(alloc, &deed, state)
 }
 
-// A piece of a list as events spell it, if it names a channel of which they tell: with `own` any, and else one that the
-// bot is on.
+// Returns the channel that `piece` names, as events spell it. If `own`, any channel has events, spelled as in `piece`;
+// if not, only one that the bot is on has, spelled as the bot spells it.
 fn spelled_piece<'a>(own: bool, piece: &'a [u8], state: &'a ChanState) -> Option<&'a [u8]>
     ensures { option_to_list (option_copied result) ≡ filter_map (spelled own state.now) (filter is_channel_name (piece.now ∷ [])) }
 {
@@ -114,7 +114,7 @@ fn spelled_piece<'a>(own: bool, piece: &'a [u8], state: &'a ChanState) -> Option
     if own { Some(piece) } else { state.held(piece) }
 }
 
-// A deed on the channels of a list, in its order.
+// Returns the events of `deed` on the channels of `list`, in its order.
 fn on_listed(
     alloc: Global,
     deed: &Deed<'_>,
@@ -131,14 +131,14 @@ fn on_listed(
     Ok(events)
 }
 
-// A deed on the channels that have its author, in the order in which the bot joined them.
+// Returns the events of `deed` on the channels that its author is on, in the order in which the bot joined them.
 fn on_shared(alloc: Global, deed: &Deed<'_>, state: &ChanState) -> Result<Vec<Event>, NoMemory>
     ensures { IfOk result (λ v. v.items ≡ map (told deed.now) (channels_with deed.now.by.nick.now state.now)) }
 {
     on_each(alloc, deed, state.channels.as_slice())
 }
 
-// A deed on those of some channels that have its author.
+// Returns the events of `deed` on those of `channels` that its author is on.
 fn on_each(alloc: Global, deed: &Deed<'_>, channels: &[Channel]) -> Result<Vec<Event>, NoMemory>
     ensures { IfOk result (λ v. v.items
         ≡ map (λ channel. told deed.now channel.name) (filter (λ channel. has_member deed.now.by.nick.now channel.members) channels.now)) }

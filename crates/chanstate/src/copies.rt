@@ -1,4 +1,4 @@
-// Copies of those who sit on seats.
+// Copies of the members on the seats of a channel.
 ghost use Rattle.std.specs.Prelude.{◌≡◌, ◌++◌, ◌<◌, IfOk, IfErr, OnOk, OnErr, length, map, Some};
 ghost use Rattle.std.specs.Option.{option_to_list};
 ghost use Rattle.chanstate.specs.Seats.{seated, taken};
@@ -7,7 +7,7 @@ use crate::member::Member;
 use bytetext::{NoMemory, TryCopy};
 use std::alloc::Global;
 
-// Copies of the members who sit there, in order.
+// Copies the members who sit at `places`, in order.
 pub(crate) fn copies_of(alloc: Global, places: &[Option<Member>]) -> Result<Vec<Member>, NoMemory>
     ensures copies { IfOk result (λ copies. copies.items ≡ seated places.now) }
     ensures memory { IfErr result (λ _. 0 < length (seated places.now)) }
@@ -19,7 +19,7 @@ pub(crate) fn copies_of(alloc: Global, places: &[Option<Member>]) -> Result<Vec<
     Ok(copies)
 }
 
-// One more copy, if someone sits there.
+// Appends a copy of the member at `place`, if it is not empty.
 fn push_copy(
     copies: &mut Vec<Member>,
     alloc: Global,
@@ -34,7 +34,7 @@ fn push_copy(
     Ok(())
 }
 
-// Each of these on a seat of its own.
+// Gives each of `members` a seat of its own.
 pub(crate) fn seats_of(alloc: Global, members: Vec<Member>) -> Result<Vec<Option<Member>>, NoMemory>
     ensures { IfOk result (λ places. places.items ≡ map (λ m. Some m) members.items) }
 {

@@ -1,4 +1,4 @@
-// What someone does on a channel, as an event tells it.
+// What someone does on a channel, from which its events are made.
 ghost use Rattle.std.specs.Prelude.{◌≡◌, ◌++◌, ◌∷◌, [], IfOk, OnOk, map};
 ghost use Rattle.std.specs.Option.{option_copied, option_to_list};
 ghost use Rattle.chanstate.specs.Deeds.{told};
@@ -21,14 +21,14 @@ pub struct Author<'a> {
 pub struct Deed<'a> {
     pub(crate) kind: Kind,
     pub(crate) by: Author<'a>,
-    // What masks are matched against after the channel and a space.
+    // The part of the subject after the channel and a space. Masks are matched against the subject.
     pub(crate) about: &'a [u8],
-    // What procs are given after the channel.
+    // The arguments that procs get after the channel.
     pub(crate) more: &'a [&'a [u8]],
 }
 
 impl Deed<'_> {
-    // Its event on a channel.
+    // Returns the event of the deed on `channel`.
     pub(crate) fn on(&self, alloc: Global, channel: &[u8]) -> Result<Event, NoMemory>
         ensures { IfOk result (λ e. e ≡ told self.now channel.now) }
     {
@@ -49,7 +49,7 @@ impl Deed<'_> {
         })
     }
 
-    // Its event on this channel alone.
+    // Returns a list with just the event of the deed on `channel`.
     pub(crate) fn on_one(&self, alloc: Global, channel: &[u8]) -> Result<Vec<Event>, NoMemory>
         ensures { IfOk result (λ v. v.items ≡ told self.now channel.now ∷ []) }
     {
@@ -58,7 +58,7 @@ impl Deed<'_> {
         Ok(events)
     }
 
-    // Its event on a channel after others, where there is a channel.
+    // Appends the event of the deed on `channel` to `events`, if there is a channel.
     pub(crate) fn push_on(
         &self,
         events: &mut Vec<Event>,
@@ -74,10 +74,10 @@ impl Deed<'_> {
     }
 }
 
-// No event has more arguments.
+// No event has more arguments than this.
 const ARGUMENTS: usize = 5;
 
-/// Two texts with a byte between them.
+/// Returns `front` and `back` with the byte `between` between them.
 pub fn joined(alloc: Global, front: &[u8], between: u8, back: &[u8]) -> Result<Text, NoMemory>
     ensures { IfOk result (λ t. t ≡ front.now ++ between ∷ back.now) }
 {

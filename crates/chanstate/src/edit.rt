@@ -2,13 +2,13 @@
 use crate::member::{Mark, Member};
 use bytetext::Text;
 
-/// A change of what is known of a member, who keeps the nick.
+/// A change of what is known of a member. The nick stays.
 #[derive(Drop)]
 pub enum Edit {
     // A mark is set or cleared.
     Marked(Mark, bool),
     // A list of names shows these marks.
     Listed(Member),
-    // The user and host are these.
+    // The user and host become these.
     Addressed(Text, Text),
 }

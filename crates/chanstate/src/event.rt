@@ -1,4 +1,4 @@
-// What a message means to those who bind procs to it.
+// What a message means to procs that are bound to it.
 ghost use Rattle.std.specs.Prelude.{◌≡◌, ◌++◌, IfOk, OnOk, map};
 ghost use Rattle.std.specs.Option.{option_copied};
 ghost use Rattle.chanstate.specs.EventShape.{event_with};
@@ -27,7 +27,7 @@ pub enum Kind {
     Part,
     /// Someone who is on a channel leaves the network.
     Sign,
-    /// Someone takes another off a channel.
+    /// Someone kicks another off a channel.
     Kick,
     /// Someone who is on a channel takes another nick.
     Nick,
@@ -37,21 +37,22 @@ pub enum Kind {
     Topc,
 }
 
-/// An event of a message.
+/// An event that a message gives.
 #[derive(Debug)]
 pub struct Event {
-    /// Its kind.
+    /// The kind of event.
     pub kind: Kind,
     /// What a bind's mask is matched against.
     pub subject: Text,
-    /// The channel that it happens on, as the bot spells it; none for an event that is on no channel.
+    /// The channel that it happens on, as the bot spells it; `None` for an event that is on no channel.
     pub channel: Option<Text>,
-    /// What a proc is given. In all kinds but `Raw` these begin with nick and `user@host`, and the person's handle, which
-    /// isn't among them, would follow. Where a server acts, the nick is empty, and its name stands for `user@host`.
+    /// The arguments of a proc. For every kind but `Raw` they begin with the nick and `user@host` of the person. The
+    /// handle, which isn't among them, would come next. If a server acts, the nick is empty and its name takes the
+    /// place of `user@host`.
     pub arguments: Texts,
 }
 
-// By hand, so that this is proved once, and not in each function in which one ends.
+// Written by hand, so that it is proved once and not in each function that drops an `Event`.
 impl Drop for Event {
     fn drop(self) {
         let Event {
@@ -64,7 +65,7 @@ impl Drop for Event {
 }
 
 impl Event {
-    // An event of these parts.
+    // Creates an event of these parts.
     pub(crate) fn new(
         alloc: Global,
         kind: Kind,
@@ -104,7 +105,7 @@ impl TryCopy for Event {
     }
 }
 
-// A copy of each of these, in order.
+// Copies each of `texts`, in order.
 fn texts_of(alloc: Global, texts: &[&[u8]]) -> Result<Vec<Text>, NoMemory>
     ensures { IfOk result (λ copies. copies.items ≡ map (λ x. x.now) texts.now) }
 {
@@ -113,7 +114,7 @@ fn texts_of(alloc: Global, texts: &[&[u8]]) -> Result<Vec<Text>, NoMemory>
     Ok(copies)
 }
 
-// A copy of each of these after the others, in order.
+// Appends a copy of each text to `copies`, in order.
 pub(crate) fn push_texts(
     copies: &mut Vec<Text>,
     alloc: Global,

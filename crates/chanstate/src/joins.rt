@@ -25,7 +25,7 @@ use rfccase::is_channel_name;
 use std::alloc::Global;
 
 impl Channels {
-    // Makes the join of another person ready on the channel that a piece of a list names, if it names one that is held.
+    // Prepares the join of another person on the channel that `piece` names, if the bot is on it.
     fn ready_arrival(
         &mut self,
         alloc: Global,
@@ -56,7 +56,7 @@ impl Channels {
         Ok(())
     }
 
-    // Makes the joins of another person ready on the channels of a list.
+    // Prepares the joins of another person on the channels of a list.
     pub(crate) fn ready_arrivals(
         &mut self,
         alloc: Global,
@@ -83,7 +83,7 @@ impl Channels {
 }
 
 impl ChanState {
-    // Makes the joins of the bot on the channels of a list ready.
+    // Prepares the joins of the bot on the channels of `list`.
     fn ready_own_join(
         &mut self,
         alloc: Global,
@@ -99,7 +99,7 @@ impl ChanState {
         Ok(Plan::Open(opening))
     }
 
-    // Makes the joins of a person on the channels of a list ready.
+    // Prepares the joins of a person on the channels of a list.
     pub(crate) fn ready_join(
         &mut self,
         alloc: Global,
@@ -117,7 +117,7 @@ impl ChanState {
     }
 }
 
-// The channels of a list, as the bot has just joined them.
+// Creates the channels of `list`, as the bot has just joined them.
 fn opened_each(alloc: Global, person: Person<'_>, list: &[u8]) -> Result<Vec<Channel>, NoMemory>
     ensures opened { IfOk result (λ channels. channels.items
         ≡ map (λ name. opened name (unmarked person.entry.nick.now person.entry.user.now person.entry.host.now)) (channels_in list.now)) }
@@ -130,7 +130,7 @@ fn opened_each(alloc: Global, person: Person<'_>, list: &[u8]) -> Result<Vec<Cha
     Ok(channels)
 }
 
-// One more of them, if a piece of the list names a channel.
+// Appends the channel that `piece` names, if it names one.
 fn open_piece(
     channels: &mut Vec<Channel>,
     alloc: Global,

@@ -9,7 +9,7 @@ use crate::state::ChanState;
 use rfccase::is_channel_name;
 
 impl ChanState {
-    // A nick leaves one channel.
+    // Takes `nick` off one channel, or removes the channel if the nick is the bot's.
     pub(crate) fn leave(&mut self, nick: &[u8], channel: &[u8])
         ensures { self.new ≡ left nick.now channel.now self.old }
     {
@@ -20,7 +20,7 @@ impl ChanState {
         }
     }
 
-    // A nick leaves the channel that a piece of a list names, if it names one.
+    // Takes `nick` off the channel that `piece` names, if it names one.
     fn leave_piece(&mut self, nick: &[u8], piece: &[u8])
         ensures { self.new ≡ steps (map (Left nick.now) (filter is_channel_name (piece.now ∷ []))) self.old }
     {
@@ -29,7 +29,7 @@ impl ChanState {
         }
     }
 
-    // A nick leaves the channels of a list, in their order.
+    // Takes `nick` off the channels of `list`, in their order.
     pub(crate) fn leave_all(&mut self, nick: &[u8], list: &[u8])
         ensures { self.new ≡ steps (map (Left nick.now) (channels_in list.now)) self.old }
     {
@@ -38,7 +38,7 @@ impl ChanState {
         }
     }
 
-    // A nick leaves the network.
+    // Takes `nick`, which leaves the network, off every channel, or removes all channels if the nick is the bot's.
     pub(crate) fn depart(&mut self, nick: &[u8])
         ensures { self.new ≡ departed nick.now self.old }
     {

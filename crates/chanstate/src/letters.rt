@@ -2,14 +2,14 @@
 ghost use Rattle.std.specs.Prelude.{◌≡◌};
 ghost use Rattle.chanstate.specs.Announced.{is_in, with_letter, with_letters, no_letters, letters_of};
 
-/// A set of ASCII bytes, as a table that says of each whether it is in. Takes no memory.
+/// A set of ASCII bytes, as a table that says for each byte whether it is in the set. Allocates nothing.
 #[derive(Clone, Copy, Debug)]
 pub struct Letters {
     table: [bool; 128],
 }
 
 impl Letters {
-    /// No letters.
+    /// Creates an empty set.
     #[tactic(auto, unfolding(crate::specs::Announced::no_letters))]
     pub fn none() -> Letters
         ensures { result ≡ no_letters }
@@ -19,7 +19,7 @@ impl Letters {
         }
     }
 
-    /// The bytes of a text; one that is no ASCII is left out.
+    /// Creates the set of the bytes of `text`. A byte that is not ASCII is left out.
     pub fn of(text: &[u8]) -> Letters
         ensures { result ≡ letters_of text.now }
     {
@@ -28,7 +28,7 @@ impl Letters {
         letters
     }
 
-    // One byte more.
+    // Adds one byte.
     fn add(&mut self, byte: u8)
         ensures { self.new ≡ with_letter byte self.old }
     {
@@ -37,7 +37,7 @@ impl Letters {
         }
     }
 
-    /// The bytes of a text more.
+    /// Adds the bytes of `text`.
     pub fn add_all(&mut self, text: &[u8])
         ensures { self.new ≡ with_letters text.now self.old }
     {
@@ -46,7 +46,7 @@ impl Letters {
         }
     }
 
-    /// Whether the byte is in.
+    /// Returns whether `byte` is in the set.
     pub fn holds(&self, byte: u8) -> bool
         ensures { result ≡ is_in byte self.now }
     {

@@ -12,7 +12,7 @@ use bytetext::NoMemory;
 use std::alloc::Global;
 
 impl ChanState {
-    // Makes a listing of the members of a channel ready.
+    // Prepares a listing of the members of a channel.
     pub(crate) fn ready_list(
         &mut self,
         alloc: Global,

@@ -9,7 +9,7 @@ use crate::state::ChanState;
 use bytetext::Text;
 
 impl ChanState {
-    // A byte of a mode string sets or clears a mark of a member, if it is about one.
+    // Sets or clears the mark of a member that `byte` of a mode string stands for, if it stands for one.
     fn mark(&mut self, channel: &[u8], on: bool, byte: u8, arguments: &[Text])
         ensures marked { self.new ≡ each_step (markings self.old.support channel.now
             (option_to_list (single_at self.old.support on byte arguments.now))) self.old }
@@ -21,7 +21,7 @@ impl ChanState {
         }
     }
 
-    // The modes of a channel change, in the order of their letters.
+    // Changes the modes of a channel, in the order of their letters.
     pub(crate) fn mode(&mut self, channel: &[u8], string: &[u8], arguments: &[Text])
         ensures { self.new ≡ steps (ModesSet channel.now string.now arguments.now ∷ []) self.old }
     {

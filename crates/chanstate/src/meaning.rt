@@ -1,4 +1,4 @@
-// What a message means to those who bind procs.
+// What a message means to procs that are bound to it.
 ghost use Rattle.std.specs.Prelude.{◌≡◌, ◌++◌, ◌∷◌, IfOk};
 ghost use Rattle.ircline.specs.Sources.{Server, Person as SomePerson};
 ghost use Rattle.chanstate.specs.Events.{typed_by, typed, events_of};
@@ -14,10 +14,11 @@ use bytetext::{NoMemory, Text};
 use ircline::{Message, Person, Source, source};
 use std::alloc::Global;
 
-/// The events of a message, against the state of the channels before it: the raw event, and then those of its command.
+/// Returns the events of `message`, given the `state` of the channels before it: the raw event, and then the events of
+/// its command.
 ///
 /// # Errors
-/// `NoMemory` where room for them is refused.
+/// Returns `NoMemory` if the events can't be allocated.
 pub fn events(alloc: Global, message: &Message, state: &ChanState) -> Result<Vec<Event>, NoMemory>
     ensures { IfOk result (λ v. v.items ≡ events_of message.now state.now) }
 {
@@ -32,7 +33,7 @@ pub fn events(alloc: Global, message: &Message, state: &ChanState) -> Result<Vec
     Ok(events)
 }
 
-// Those that depend on the command.
+// Returns the events that depend on the command.
 fn typed(alloc: Global, message: &Message, state: &ChanState) -> Result<Vec<Event>, NoMemory>
     ensures { IfOk result (λ v. v.items ≡ typed message.now state.now) }
 {
@@ -45,7 +46,7 @@ fn typed(alloc: Global, message: &Message, state: &ChanState) -> Result<Vec<Even
     }
 }
 
-// Those of a server.
+// Returns the events of a message from a server.
 fn by_server(
     alloc: Global,
     verb: Verb,
@@ -76,7 +77,7 @@ fn by_server(
     }
 }
 
-// Those of a person.
+// Returns the events of a message from a person.
 fn by_person(
     alloc: Global,
     verb: Verb,

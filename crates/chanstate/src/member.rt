@@ -17,14 +17,14 @@ pub enum Mark {
     HalfOp,
 }
 
-/// One who is on a channel.
+/// Someone who is on a channel.
 #[derive(Debug, Drop)]
 pub struct Member {
-    /// The nick, as the line spelled it that put the member there or renamed it.
+    /// The nick, spelled as in the line that put the member on the channel or renamed it.
     pub nick: Text,
-    /// The user name; empty while no line has told it.
+    /// The user name; empty until a line tells it.
     pub user: Text,
-    /// The host; empty while no line has told it.
+    /// The host; empty until a line tells it.
     pub host: Text,
     /// Whether the member is a channel operator.
     pub op: bool,
@@ -35,10 +35,10 @@ pub struct Member {
 }
 
 impl Member {
-    /// One without marks, of this nick and address.
+    /// Creates a member called `nick` with the address `user` and `host`, without marks.
     ///
     /// # Errors
-    /// `NoMemory` where room for a copy is refused: never where the nick, the user name and the host are all empty.
+    /// Returns `NoMemory` if a copy can't be allocated, never if the nick, the user name and the host are all empty.
     pub fn new(alloc: Global, nick: &[u8], user: &[u8], host: &[u8]) -> Result<Member, NoMemory>
         ensures member { IfOk result (λ m. m ≡ unmarked nick.now user.now host.now) }
         ensures memory { IfErr result (λ _. 0 < length nick.now + length user.now + length host.now) }

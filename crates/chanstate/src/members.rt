@@ -23,7 +23,7 @@ impl Model for Members {
 }
 
 impl Members {
-    /// Nobody. Takes no memory.
+    /// Creates an empty list. Allocates nothing.
     pub fn new(alloc: Global) -> Members
         ensures { result ≡ [] }
     {
@@ -32,21 +32,21 @@ impl Members {
         }
     }
 
-    /// The members, in order.
+    /// Returns the members, in order.
     pub fn as_slice(&self) -> &[Member]
         ensures { result.now ≡ self.now }
     {
         self.items.as_slice()
     }
 
-    /// How many there are.
+    /// Returns how many members there are.
     pub fn len(&self) -> usize
         ensures { result ≡ length self.now }
     {
         self.items.len()
     }
 
-    // Copies of the members of a channel, in order.
+    // Copies the members of `roster`, in order.
     pub(crate) fn copied(alloc: Global, roster: &Roster) -> Result<Members, NoMemory>
         ensures members { IfOk result (λ m. m ≡ roster.now) }
         ensures memory { IfErr result (λ _. 0 < length roster.now) }

@@ -7,7 +7,7 @@ use crate::support::Support;
 use crate::words::{param, params_from};
 use bytetext::Text;
 
-// The mark that a letter stands for where it marks members.
+// Returns the mark that `letter` stands for, if it is a mode that marks members.
 fn mark_by(letter: u8) -> Option<Mark>
     ensures { result ≡ mark_of letter }
 {
@@ -19,7 +19,7 @@ fn mark_by(letter: u8) -> Option<Mark>
     }
 }
 
-/// The mark that a mode sets or clears.
+/// Returns the mark that the mode `letter` sets or clears, by what the server has announced in `support`.
 pub fn mark_in(support: &Support, letter: u8) -> Option<Mark>
     ensures { result ≡ rank_of support.now letter }
 {
@@ -30,14 +30,14 @@ pub fn mark_in(support: &Support, letter: u8) -> Option<Mark>
     }
 }
 
-/// Whether the byte is a single mode, and no sign.
+/// Returns whether `byte` is a single mode and not a sign.
 pub fn is_mode(byte: u8) -> bool
     ensures { result ≡ is_letter byte }
 {
     byte != b'+' && byte != b'-'
 }
 
-/// Whether modes are set after this byte.
+/// Returns whether modes are set after `byte`, if `on` says whether they were before it.
 pub fn next_sign(on: bool, byte: u8) -> bool
     ensures { result ≡ sign_after on byte }
 {
@@ -48,7 +48,8 @@ pub fn next_sign(on: bool, byte: u8) -> bool
     }
 }
 
-/// The argument of a letter, empty where it has none.
+/// Returns the argument of the mode `letter`, the first of `arguments`; empty if it has none. `on` says whether the
+/// mode is set or cleared, and `support` which modes have arguments.
 pub fn argument<'a>(support: &Support, on: bool, letter: u8, arguments: &'a [Text]) -> &'a [u8]
     ensures { result.now ≡ argument_of support.now on letter arguments.now }
 {
@@ -59,7 +60,8 @@ pub fn argument<'a>(support: &Support, on: bool, letter: u8, arguments: &'a [Tex
     }
 }
 
-/// The arguments that are left after this byte.
+/// Returns those of `arguments` that are left after `byte`. `on` says whether modes are set or cleared there, and
+/// `support` which modes have arguments.
 pub fn next_arguments<'a>(
     support: &Support,
     on: bool,

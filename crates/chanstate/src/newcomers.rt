@@ -1,4 +1,4 @@
-// Those whom a list of names shows.
+// The members that a list of names shows.
 ghost use Rattle.std.specs.Prelude.{◌≡◌, ◌+◌, ◌<◌, ◌≤◌, ◌++◌, IfOk, OnOk, length};
 ghost use Rattle.std.specs.Option.{option_to_list};
 ghost use Rattle.std.specs.Vec.{vec_len, vec_capacity};
@@ -17,7 +17,7 @@ use bytetext::NoMemory;
 use rfccase::fold_text;
 use std::alloc::Global;
 
-// Those whom a list of names names, each with its key, in their order.
+// Returns the members that a list of names names, each with its key, in their order.
 pub(crate) fn named_by(
     alloc: Global,
     support: &Support,
@@ -33,7 +33,7 @@ pub(crate) fn named_by(
     Ok(ones)
 }
 
-// One more with its key, if there is one.
+// Appends one with its key, if there is one.
 fn push_some(
     ones: &mut Vec<(Vec<u8>, Member)>,
     alloc: Global,
@@ -50,7 +50,7 @@ fn push_some(
     Ok(())
 }
 
-// Someone is listed. There is room for one more.
+// Takes in a listed member. There must be room for one more.
 fn list(seats: &mut Seats, key: Vec<u8>, one: Member)
     requires indexed { AreIndexed seats.old.places.items seats.old.index.entries }
     requires key { IsUnder key one }
@@ -68,7 +68,7 @@ fn list(seats: &mut Seats, key: Vec<u8>, one: Member)
     }
 }
 
-// Several are listed, in their order. There is room for each.
+// Takes in several listed members, in their order. There must be room for each.
 pub(crate) fn list_each(seats: &mut Seats, ones: Vec<(Vec<u8>, Member)>)
     requires indexed { AreIndexed seats.old.places.items seats.old.index.entries }
     requires keys { AreUnder ones.items }

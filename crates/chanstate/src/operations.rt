@@ -1,4 +1,4 @@
-// What is done on a channel, as events.
+// The events of what is done on a channel.
 ghost use Rattle.std.specs.Prelude.{◌≡◌, ◌++◌, ◌∷◌, [], true, IfOk, OnOk, map};
 ghost use Rattle.std.specs.Option.{option_to_list};
 ghost use Rattle.chanstate.specs.Items.{single_at, singles};
@@ -13,7 +13,7 @@ use crate::words::{last, param, params_from, text_at};
 use bytetext::{NoMemory, Text};
 use std::alloc::Global;
 
-// What a KICK gives.
+// Returns the events of a KICK.
 pub(crate) fn kick(
     alloc: Global,
     by: Author<'_>,
@@ -40,7 +40,7 @@ pub(crate) fn kick(
     deed.on_one(alloc, channel)
 }
 
-// What a TOPIC gives.
+// Returns the events of a TOPIC.
 pub(crate) fn title(
     alloc: Global,
     by: Author<'_>,
@@ -70,7 +70,7 @@ pub(crate) fn title(
     deed.on_one(alloc, channel)
 }
 
-// What a MODE gives.
+// Returns the events of a MODE.
 pub(crate) fn mode(
     alloc: Global,
     by: Author<'_>,
@@ -98,7 +98,7 @@ pub(crate) fn mode(
     )
 }
 
-// Each single mode of a mode string.
+// Returns the events of each single mode of the mode string `letters`.
 fn each_mode(
     alloc: Global,
     by: Author<'_>,
@@ -121,7 +121,7 @@ fn each_mode(
     Ok(events)
 }
 
-// One more, if a byte of the mode string is a single mode.
+// Appends an event, if `byte` of the mode string is a single mode.
 fn push_mode(
     events: &mut Vec<Event>,
     alloc: Global,

@@ -1,4 +1,4 @@
-// What is made of a message before it is taken in, so that taking it in takes no memory.
+// What is prepared for a message before it is taken in, so that taking it in allocates nothing.
 ghost use Rattle.std.specs.Prelude.{◌≡◌, ◌+◌, ◌≤◌, if◌then◌else◌, length, unwrap_or};
 ghost use Rattle.std.specs.Vec.{vec_len, vec_capacity};
 ghost use Rattle.chanstate.specs.Plans.{is_plain, settled};
@@ -11,19 +11,19 @@ use crate::take::Take;
 use bytetext::Text;
 use std::marker::Model;
 
-/// What is made of a message, by what it changes.
+/// What is prepared for a message, by what the message changes.
 #[derive(Drop)]
 pub enum Plan {
-    // Nothing has to be made.
+    // Nothing has to be prepared.
     Plain,
     // The server has welcomed the bot under this nick.
     Welcome(Text),
-    // A channel has another topic.
+    // A channel gets another topic.
     Title {
         channel: Text,
         topic: Text,
     },
-    // A member of a channel has another address.
+    // A member of a channel gets another address.
     Address {
         channel: Text,
         nick: Text,
@@ -32,15 +32,15 @@ pub enum Plan {
     },
     // The bot has joined channels.
     Open(Opening),
-    // The members of channels change, and the bot's nick, where there is another.
+    // The members of channels change, and so does the bot's nick if `own` has one.
     Seat {
         own: Option<Text>,
         takes: Vec<Take>,
     },
 }
 
-/// Channels, taken out of a state with room for those that the bot joins. Contracts see the channels as they are, and as
-/// they will be.
+/// Channels that were taken out of a state, with room for those that the bot joins. Contracts see the channels as they
+/// are, and as they will be.
 #[derive(Drop)]
 pub struct Opening {
     pub(crate) held: Vec<Channel>,
@@ -61,7 +61,7 @@ impl Model for Opening {
 }
 
 impl Opening {
-    // The channels as they will be, or as they are.
+    // Returns the channels as they will be if `done`, else as they are.
     fn into_channels(self, done: bool) -> Channels
         ensures { result ≡ (if done then self.1 else self.0) }
     {
@@ -74,7 +74,7 @@ impl Opening {
 }
 
 impl Plan {
-    // Whether nothing had to be made.
+    // Returns whether nothing had to be prepared.
     pub(crate) fn is_plain(&self) -> bool
         ensures { result ≡ is_plain self.now }
     {
@@ -83,7 +83,7 @@ impl Plan {
 }
 
 impl ChanState {
-    // Takes in what was made, or gives back what was taken for it.
+    // Takes in what was prepared if `done`, else puts back what was taken out for it.
     pub(crate) fn settle(&mut self, plan: Plan, done: bool)
         ensures { self.new ≡ settled done plan self.old }
     {
@@ -122,7 +122,7 @@ impl ChanState {
         }
     }
 
-    // The bot has this nick, if there is one.
+    // Gives the bot this nick, if there is one.
     fn rename_own(&mut self, own: Option<Text>)
         ensures nick { self.new.nick ≡ unwrap_or own self.old.nick }
         ensures channels { self.new.channels ≡ self.old.channels }

@@ -1,4 +1,4 @@
-// Nicks change (RFC 2812 section 3.1.2): on every channel, or on none where memory is short.
+// Nicks change (RFC 2812 section 3.1.2): on every channel, or on none if memory runs out.
 ghost use Rattle.std.specs.Prelude.{◌≡◌, ◌<◌, ◌≤◌, ◌∷◌, true, false, if◌then◌else◌, unwrap_or, ℕ, List, [], length, IfOk, OnOk, OnErr, MatchResult};
 ghost use Rattle.chanstate.specs.Channels.{all_renamed};
 ghost use Rattle.chanstate.specs.Items.{Renamed};
@@ -18,7 +18,7 @@ use bytetext::{NoMemory, Text};
 use std::alloc::Global;
 
 impl Channels {
-    // Makes the renaming of someone ready on the channel at a place, from which nothing was taken.
+    // Prepares the change of the nick `old` on the channel at place `at`, from which nothing was taken out before.
     fn ready_renaming_at(
         &mut self,
         alloc: Global,
@@ -41,7 +41,7 @@ impl Channels {
         Ok(())
     }
 
-    // Makes the renaming of someone ready on every channel.
+    // Prepares a change of nick on every channel.
     pub(crate) fn ready_renaming(
         &mut self,
         alloc: Global,
@@ -65,7 +65,7 @@ impl Channels {
 }
 
 impl ChanState {
-    // Whether the old nick is the bot's own or on a held channel, and is spelled there in another way than the new one.
+    // Returns whether `old` is the bot's own nick or that of a member, and is spelled there otherwise than `new`.
     fn respells(&self, old: &[u8], new: &[u8]) -> bool
         ensures { result ≡ adds (Renamed old.now new.now) self.now }
     {
@@ -73,7 +73,7 @@ impl ChanState {
         is_same(old, own) && own != new || self.channels.respell(old, new)
     }
 
-    // Makes another spelling of a nick ready.
+    // Prepares a change of nick that changes the spelling.
     pub(crate) fn ready_nick(
         &mut self,
         alloc: Global,
@@ -91,7 +91,7 @@ impl ChanState {
         Ok(Plan::Seat { own, takes })
     }
 
-    // The bot's new nick, where the old one is the bot's.
+    // Returns the bot's new nick, if `old` is the bot's nick.
     fn own_after(&self, alloc: Global, old: &[u8], new: &[u8]) -> Result<Option<Text>, NoMemory>
         ensures { IfOk result (λ own. unwrap_or own self.now.nick ≡ (if is_same old.now self.now.nick then new.now else self.now.nick)) }
     {

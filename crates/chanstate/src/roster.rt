@@ -41,7 +41,7 @@ impl Model for Roster {
 }
 
 impl Roster {
-    // One member alone.
+    // Creates a roster of one member.
     pub(crate) fn one(alloc: Global, member: Member) -> Result<Roster, NoMemory>
         ensures { IfOk result (λ r. r ≡ member ∷ []) }
     {
@@ -50,7 +50,7 @@ impl Roster {
         Ok(Roster { seats })
     }
 
-    // Copies of the members, in order.
+    // Copies the members, in order.
     pub(crate) fn copies(&self, alloc: Global) -> Result<Vec<Member>, NoMemory>
         ensures copies { IfOk result (λ copies. copies.items ≡ self.now) }
         ensures memory { IfErr result (λ _. 0 < length self.now) }
@@ -58,21 +58,21 @@ impl Roster {
         copies_of(alloc, self.seats.places.as_slice())
     }
 
-    // The member of this nick.
+    // Returns the member called `nick`.
     pub(crate) fn find(&self, nick: &[u8]) -> Option<&Member>
         ensures { option_copied result ≡ find (is_called nick.now) self.now }
     {
         member_of(&self.seats, nick)
     }
 
-    // Whether someone of this nick is among them.
+    // Returns whether a member is called `nick`.
     pub(crate) fn holds(&self, nick: &[u8]) -> bool
         ensures { result ≡ has_member nick.now self.now }
     {
         self.find(nick).is_some()
     }
 
-    // Whether the member of the old nick, if there is one, spells it in another way than the new one.
+    // Returns whether a member is called `old`, and its nick is not spelled as `new`.
     pub(crate) fn respells(&self, old: &[u8], new: &[u8]) -> bool
         ensures { result ≡ respells new.now (find (is_called old.now) self.now) }
     {
@@ -82,7 +82,7 @@ impl Roster {
         }
     }
 
-    // Whether the member of this nick is a channel operator.
+    // Returns whether the member called `nick` is a channel operator.
     pub(crate) fn is_op(&self, nick: &[u8]) -> bool
         ensures { result ≡ is_op (find (is_called nick.now) self.now) }
     {
@@ -92,14 +92,14 @@ impl Roster {
         }
     }
 
-    // Takes the member of this nick away.
+    // Removes the member called `nick`.
     pub(crate) fn remove(&mut self, nick: &[u8])
         ensures { self.new ≡ first_removed (is_called nick.now) self.old }
     {
         vacate(&mut self.seats, nick);
     }
 
-    // Changes what is known of the member of this nick.
+    // Changes what is known of the member called `nick`.
     fn edit(&mut self, nick: &[u8], edit: Edit)
         ensures { self.new ≡ first_changed (is_called nick.now) (edited edit) self.old }
     {
@@ -115,14 +115,14 @@ impl Roster {
         self.edit(nick, Edit::Marked(mark, on));
     }
 
-    // Gives the member of this nick an address.
+    // Sets the user and host of the member called `nick`.
     pub(crate) fn place_at(&mut self, nick: &[u8], user: Text, host: Text)
         ensures { self.new ≡ first_changed (is_called nick.now) (with_address user host) self.old }
     {
         self.edit(nick, Edit::Addressed(user, host));
     }
 
-    // Whether a word of a list of names names someone who isn't among them.
+    // Returns whether `word` of a list of names names someone who is not a member.
     fn lacks(&self, support: &Support, word: &[u8]) -> bool
         ensures { result ≡ list_any (λ one. not (has_member one.nick self.now)) (option_to_list (named support.now word.now)) }
     {
@@ -130,7 +130,7 @@ impl Roster {
         !nick.is_empty() && !self.holds(nick)
     }
 
-    // Whether a list of names names someone who isn't among them.
+    // Returns whether the list of names `names` names someone who is not a member.
     pub(crate) fn lacks_any(&self, support: &Support, names: &[u8]) -> bool
         ensures { result ≡ list_any (λ one. not (has_member one.nick self.now)) (names_in support.now names.now) }
     {
@@ -142,7 +142,7 @@ impl Roster {
         false
     }
 
-    // The member whom a word names, if there is one, has the marks whose signs stand before the nick.
+    // Gives the member that `word` names, if there is one, the marks whose signs stand before the nick.
     fn show(&mut self, alloc: Global, support: &Support, word: &[u8])
         ensures { self.new ≡ shown_each (option_to_list (named support.now word.now)) self.old }
     {
@@ -153,7 +153,7 @@ impl Roster {
         }
     }
 
-    // The same for each word of a list of names, in their order.
+    // Does the same for each word of the list of names `names`, in order.
     pub(crate) fn show_all(&mut self, alloc: Global, support: &Support, names: &[u8])
         ensures { self.new ≡ shown_each (names_in support.now names.now) self.old }
     {
@@ -162,7 +162,7 @@ impl Roster {
         }
     }
 
-    // Takes the members out, with room for what is to be done with them. Nobody is left.
+    // Takes the members out, with room for `task`. The roster is then empty.
     pub(crate) fn take(&mut self, alloc: Global, task: Task) -> Result<Seating, NoMemory>
         requires { IsKeyed task }
         ensures ok { IfOk result (λ seating. seating ≡ (self.old, done_by task self.old)) }

@@ -1,4 +1,4 @@
-// Something is done with the members of a channel, by calls that take no memory.
+// What is done with the members of a channel, by calls that allocate nothing.
 ghost use Rattle.std.specs.Prelude.{◌≡◌, ◌+◌, ◌<◌, ◌≤◌};
 ghost use Rattle.std.specs.Vec.{vec_len, vec_capacity};
 ghost use Rattle.indexmap.specs.IndexMap.{spare};
@@ -15,8 +15,8 @@ use crate::seats::{Seats, edit_at, place_of, rename_in, seat_last};
 use crate::task::Task;
 use std::marker::Model;
 
-/// The members of a channel, taken out of it with room for what is to be done with them. Contracts see them as they are,
-/// and as they will be.
+/// The members of a channel, taken out of it with room for what is to be done with them. Contracts see the members as
+/// they are, and as they will be.
 #[derive(Drop)]
 pub struct Seating {
     pub(crate) seats: Seats,
@@ -40,7 +40,7 @@ impl Model for Seating {
 }
 
 impl Seating {
-    // The members as they will be, or as they are.
+    // Returns the members as they will be if `done`, else as they are.
     pub(crate) fn into_roster(self, done: bool) -> Roster
         ensures { result ≡ pick done self }
     {
@@ -52,7 +52,7 @@ impl Seating {
     }
 }
 
-// Does what is to be done. There is room for it.
+// Carries out `task`. There must be room for it.
 fn carry_out(seats: &mut Seats, task: Task)
     requires indexed { AreIndexed seats.old.places.items seats.old.index.entries }
     requires keyed { IsKeyed task }
@@ -68,7 +68,7 @@ fn carry_out(seats: &mut Seats, task: Task)
     }
 }
 
-// Someone comes: a member's address is renewed. There is room for one more.
+// Takes in someone who joins; someone who is a member already gets the new address. There must be room for one more.
 fn arrive(seats: &mut Seats, key: Vec<u8>, one: Member)
     requires indexed { AreIndexed seats.old.places.items seats.old.index.entries }
     requires key { IsUnder key one }

@@ -1,5 +1,5 @@
-// The seats of a channel, in the order in which people came to it, and the index that finds them. Who leaves leaves a seat
-// empty, so that nobody after it has to move; empty seats go when room is short.
+// The seats of a channel, in the order in which people came to it, and the index that finds them. A member who leaves
+// leaves an empty seat, so that no member after it has to move. Empty seats are removed when room is short.
 ghost use Rattle.std.specs.Prelude.{true, false, ◌≡◌, ◌+◌, ◌<◌, ◌≤◌, ℕ, List, [], ◌∷◌, ◌++◌, None, Some, IfOk, OnOk, OnErr, find, length, is_some, position};
 ghost use Rattle.std.specs.List.{filter_map};
 ghost use Rattle.std.specs.Option.{option_copied};
@@ -21,7 +21,7 @@ use rfccase::{ShortFold, fold_slice, fold_text};
 use std::alloc::Global;
 use std::mem;
 
-/// The places of members by the lower cases of their nicks.
+/// The seats of members, by the lower case of their nicks.
 pub type Index = IndexMap<Vec<u8>, usize>;
 
 /// Seats and their index.
@@ -31,12 +31,12 @@ pub struct Seats {
     pub index: Index,
 }
 
-// The longest nick that is looked up by its lower case. A line has at most 510 bytes, so a longer one comes only from a
-// caller that makes messages of its own; it is found by a walk over the seats.
+// The longest nick that is looked up by its lower case. A line has at most 510 bytes, so a longer nick comes only from
+// a caller that makes its own messages; it is found by a walk over the seats.
 const LONGEST_KEY: usize = 512;
 
 impl Seats {
-    // No seat. Takes no memory.
+    // Creates an empty list of seats. Allocates nothing.
     pub(crate) fn new(alloc: Global) -> Seats
         ensures indexed { AreIndexed result.places.items result.index.entries }
         ensures none { seated result.places.items ≡ [] }
@@ -48,7 +48,7 @@ impl Seats {
     }
 }
 
-// The lower case of a nick, in its own bytes. Takes no memory.
+// Returns the lower case of `nick`, in its own bytes. Allocates nothing.
 fn lower_case(nick: Text) -> Vec<u8>
     ensures { result.items ≡ folded nick }
 {
@@ -57,7 +57,7 @@ fn lower_case(nick: Text) -> Vec<u8>
     lower
 }
 
-// Whether someone of this nick sits there.
+// Returns whether someone called `nick` sits at `place`.
 fn is_seat(nick: &[u8], place: &Option<Member>) -> bool
     ensures { result ≡ is_seat_of nick.now place.now }
 {
@@ -67,14 +67,14 @@ fn is_seat(nick: &[u8], place: &Option<Member>) -> bool
     }
 }
 
-// The place of the first seat that the nick has.
+// Returns the first seat of someone called `nick`.
 fn walk_to(places: &[Option<Member>], nick: &[u8]) -> Option<usize>
     ensures { result ≡ position (is_seat_of nick.now) places.now }
 {
     places.iter().position(|place| is_seat(nick, place))
 }
 
-// The place of the member of this nick.
+// Returns the seat of the member called `nick`.
 pub(crate) fn place_of(seats: &Seats, nick: &[u8]) -> Option<usize>
     requires { AreIndexed seats.now.places.items seats.now.index.entries }
     ensures { result ≡ place_under (folded nick.now) seats.now.index.entries }
@@ -88,7 +88,7 @@ pub(crate) fn place_of(seats: &Seats, nick: &[u8]) -> Option<usize>
     }
 }
 
-// The member of this nick.
+// Returns the member called `nick`.
 pub(crate) fn member_of<'a>(seats: &'a Seats, nick: &[u8]) -> Option<&'a Member>
     requires { AreIndexed seats.now.places.items seats.now.index.entries }
     ensures { option_copied result ≡ find (is_called nick.now) (seated seats.now.places.items) }
@@ -99,7 +99,7 @@ pub(crate) fn member_of<'a>(seats: &'a Seats, nick: &[u8]) -> Option<&'a Member>
     }
 }
 
-// Changes what is known of the member at a place.
+// Changes what is known of the member on the seat `at`.
 pub(crate) fn edit_at(seats: &mut Seats, at: usize, edit: Edit)
     requires { at < vec_len seats.old.places }
     ensures index { seats.new.index ≡ seats.old.index }
@@ -116,7 +116,7 @@ pub(crate) fn edit_at(seats: &mut Seats, at: usize, edit: Edit)
     }
 }
 
-// The member of this nick leaves the seat empty.
+// Empties the seat of the member called `nick`.
 pub(crate) fn vacate(seats: &mut Seats, nick: &[u8])
     requires { AreIndexed seats.old.places.items seats.old.index.entries }
     ensures indexed { AreIndexed seats.new.places.items seats.new.index.entries }
@@ -135,7 +135,7 @@ pub(crate) fn vacate(seats: &mut Seats, nick: &[u8])
     let _place = seats.index.swap_remove(lower.as_slice());
 }
 
-// Puts a member whose nick nobody has last. There is room for one more.
+// Puts a member whose nick nobody has on a new last seat. There must be room for one more.
 pub(crate) fn seat_last(seats: &mut Seats, key: Vec<u8>, one: Member)
     requires indexed { AreIndexed seats.old.places.items seats.old.index.entries }
     requires key { IsUnder key one }
@@ -153,8 +153,8 @@ pub(crate) fn seat_last(seats: &mut Seats, key: Vec<u8>, one: Member)
     seats.index.insert(key, at).unwrap();
 }
 
-// Makes room for so many more. Empty seats go first where they are more than half of all; then there is room for as many
-// again.
+// Makes room for `more` members. If room is short and more than half of the seats are empty, it first removes the empty
+// ones. A growth makes room for at least as many again.
 pub(crate) fn make_room(seats: &mut Seats, alloc: Global, more: usize) -> Result<(), NoMemory>
     requires { AreIndexed seats.old.places.items seats.old.index.entries }
     ensures indexed { AreIndexed seats.new.places.items seats.new.index.entries }
@@ -191,7 +191,7 @@ fn reserve_entries(index: &mut Index, more: usize) -> Result<(), NoMemory>
     Ok(())
 }
 
-// Empty seats go.
+// Removes the empty seats.
 fn drop_empty(seats: &mut Seats, alloc: Global) -> Result<(), NoMemory>
     requires { AreIndexed seats.old.places.items seats.old.index.entries }
     ensures indexed { AreIndexed seats.new.places.items seats.new.index.entries }
@@ -209,7 +209,7 @@ fn keep_taken(places: &mut Vec<Option<Member>>)
     places.retain(|place| place.is_some());
 }
 
-// An index of the seats that are taken, as they stand without those that are empty.
+// Indexes the members by the seats that they have once the empty ones are removed.
 pub(crate) fn index_taken(alloc: Global, seats: &Seats) -> Result<Index, NoMemory>
     requires { AreIndexed seats.now.places.items seats.now.index.entries }
     ensures { IfOk result (λ index. AreIndexed (taken seats.now.places.items) index.entries) }
@@ -221,7 +221,7 @@ pub(crate) fn index_taken(alloc: Global, seats: &Seats) -> Result<Index, NoMemor
     Ok(index)
 }
 
-// Who sits there is next in the index.
+// Adds the member at `place`, if any, to the index under the next number.
 fn index_next(index: &mut Index, alloc: Global, place: &Option<Member>) -> Result<(), NoMemory>
     ensures { OnOk result (IsIndexedNext place.now (index_map_len index.old) index.old.entries (index_map_len index.new) index.new.entries) }
 {
@@ -233,7 +233,7 @@ fn index_next(index: &mut Index, alloc: Global, place: &Option<Member>) -> Resul
     Ok(())
 }
 
-// Puts a member whose nick nobody has last.
+// Puts a member whose nick nobody has on a new last seat.
 pub(crate) fn add(seats: &mut Seats, alloc: Global, one: Member) -> Result<(), NoMemory>
     requires indexed { AreIndexed seats.old.places.items seats.old.index.entries }
     requires absent { has_member one.nick (seated seats.old.places.items) ≡ false }
@@ -247,8 +247,8 @@ pub(crate) fn add(seats: &mut Seats, alloc: Global, one: Member) -> Result<(), N
     Ok(())
 }
 
-// The member of the old nick, if there is one, has the other in its place, and another who had that goes first. There is
-// room for one more.
+// Gives the member called `old`, if there is one, the nick `nick` on the same seat. Another member who had that nick is
+// removed first. There must be room for one more.
 pub(crate) fn rename_in(seats: &mut Seats, old: &[u8], key: Vec<u8>, nick: Text)
     requires indexed { AreIndexed seats.old.places.items seats.old.index.entries }
     requires key { key.items ≡ folded nick }
@@ -267,8 +267,8 @@ pub(crate) fn rename_in(seats: &mut Seats, old: &[u8], key: Vec<u8>, nick: Text)
     respell(seats, old, key, nick);
 }
 
-// The member of the old nick, if there is one, has the other in its place. Nobody else has that, and there is room for one
-// more.
+// Gives the member called `old`, if there is one, the nick `nick` on the same seat. Nobody else may have it, and there
+// must be room for one more.
 fn respell(seats: &mut Seats, old: &[u8], key: Vec<u8>, nick: Text)
     requires indexed { AreIndexed seats.old.places.items seats.old.index.entries }
     requires key { key.items ≡ folded nick }

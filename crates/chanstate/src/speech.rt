@@ -1,4 +1,4 @@
-// What people say, as events.
+// The events of what people say.
 ghost use Rattle.std.specs.Prelude.{◌≡◌, ◌≤◌, ◌∷◌, ◌==◌, not, length, take, if◌then◌else◌, [], IfOk};
 ghost use Rattle.std.specs.List.{position_or_len};
 ghost use Rattle.std.specs.Option.{option_copied};
@@ -13,7 +13,7 @@ use crate::words::param;
 use bytetext::{NoMemory, Text};
 use std::alloc::Global;
 
-// How long the first word is.
+// Returns the length of the first word.
 fn count_word(text: &[u8]) -> usize
     ensures value { result ≡ word_len text.now }
     ensures within { result ≤ length text.now }
@@ -25,7 +25,7 @@ fn count_word(text: &[u8]) -> usize
     count
 }
 
-// How many spaces stand in front.
+// Returns how many spaces `text` begins with.
 fn count_spaces(text: &[u8]) -> usize
     ensures value { result ≡ spaces_len text.now }
     ensures within { result ≤ length text.now }
@@ -37,7 +37,7 @@ fn count_spaces(text: &[u8]) -> usize
     count
 }
 
-// What follows the first word and the spaces after it.
+// Returns what follows the first word and the spaces after it.
 fn after_word(text: &[u8]) -> &[u8]
     ensures { result.now ≡ after_word text.now }
 {
@@ -51,7 +51,7 @@ fn is_for_programs(text: &[u8]) -> bool
     !text.is_empty() && text[0] == 1
 }
 
-// The two events of a text: by all of it, and by its first word, if it begins with one.
+// Returns the two events of a text: one by the whole text, and one by its first word, if it begins with a word.
 fn both(alloc: Global, whole: Event, word: Event, has_word: bool) -> Result<Vec<Event>, NoMemory>
     ensures { IfOk result (λ v. v.items ≡ (if has_word then whole ∷ word ∷ [] else whole ∷ [])) }
 {
@@ -63,7 +63,7 @@ fn both(alloc: Global, whole: Event, word: Event, has_word: bool) -> Result<Vec<
     Ok(events)
 }
 
-// A person says something to the bot.
+// Returns the events when a person says something to the bot.
 fn say_to_bot(
     alloc: Global,
     nick: &[u8],
@@ -84,7 +84,7 @@ fn say_to_bot(
     both(alloc, whole, first, !word.is_empty())
 }
 
-// A person says something on a channel.
+// Returns the events when a person says something on a channel.
 fn say_on(
     alloc: Global,
     nick: &[u8],
@@ -113,7 +113,7 @@ fn say_on(
     both(alloc, whole, first, !word.is_empty())
 }
 
-// A person notes something.
+// Returns the event of a notice from a person.
 fn note(
     alloc: Global,
     nick: &[u8],
@@ -135,7 +135,7 @@ fn note(
     Ok(events)
 }
 
-// What a PRIVMSG to this target gives.
+// Returns the events of a PRIVMSG to `target`.
 fn say_to(
     alloc: Global,
     nick: &[u8],
@@ -158,7 +158,7 @@ fn say_to(
     }
 }
 
-// What a NOTICE to this target gives.
+// Returns the events of a NOTICE to `target`.
 fn note_to(
     alloc: Global,
     nick: &[u8],
@@ -181,7 +181,7 @@ fn note_to(
     }
 }
 
-// What a PRIVMSG gives.
+// Returns the events of a PRIVMSG.
 pub(crate) fn say(
     alloc: Global,
     by: Author<'_>,
@@ -199,7 +199,7 @@ pub(crate) fn say(
     say_to(alloc, by.nick, by.address, target, text, state)
 }
 
-// What a NOTICE gives.
+// Returns the events of a NOTICE.
 pub(crate) fn notice(
     alloc: Global,
     by: Author<'_>,

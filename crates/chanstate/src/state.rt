@@ -18,7 +18,7 @@ use bytetext::{NoMemory, Text, Texts, TryCopy};
 use ircline::Message;
 use std::alloc::Global;
 
-/// What a bot knows of the channels that it is on, by the lines that it has read since it connected.
+/// What a bot knows of the channels that it is on, from the lines that it has read since it connected.
 #[derive(Debug, Drop)]
 pub struct ChanState {
     pub(crate) nick: Text,
@@ -27,11 +27,11 @@ pub struct ChanState {
 }
 
 impl ChanState {
-    /// The state of a bot that has just connected under this nick: it is on no channel, and the server has
-    /// announced nothing.
+    /// Creates the state of a bot that has just connected as `nick`: it is on no channel, and the server has announced
+    /// nothing.
     ///
     /// # Errors
-    /// `NoMemory` where room for the nick is refused: never where it is empty.
+    /// Returns `NoMemory` if a copy of `nick` can't be allocated, never if it is empty.
     pub fn new(alloc: Global, nick: &[u8]) -> Result<ChanState, NoMemory>
         ensures state { IfOk result (λ s. s ≡ connected nick.now) }
         ensures memory { IfErr result (λ _. 0 < length nick.now) }
@@ -44,28 +44,28 @@ impl ChanState {
         })
     }
 
-    /// The nick that the server knows the bot by.
+    /// Returns the nick by which the server knows the bot.
     pub fn own_nick(&self) -> &[u8]
         ensures { result.now ≡ self.now.nick }
     {
         self.nick.as_bytes()
     }
 
-    /// What the server has announced of its channel modes. Takes no memory.
+    /// Returns what the server has announced of its channel modes. Allocates nothing.
     pub fn support(&self) -> &Support
         ensures { result.now ≡ self.now.support }
     {
         &self.support
     }
 
-    /// Whether the bot is on the channel.
+    /// Returns whether the bot is on `channel`.
     pub fn holds(&self, channel: &[u8]) -> bool
         ensures { result ≡ is_held channel.now self.now.channels }
     {
         self.channels.holds(channel)
     }
 
-    /// The name of a channel as the bot spells it; none where the bot isn't on the channel. Takes no memory.
+    /// Returns the name of `channel` as the bot spells it; `None` if the bot isn't on it. Allocates nothing.
     pub fn held(&self, channel: &[u8]) -> Option<&[u8]>
         ensures { option_copied result ≡ option_map (λ c. c.name) (channel_in channel.now self.now) }
     {
@@ -75,15 +75,15 @@ impl ChanState {
         }
     }
 
-    /// How many channels the bot is on. Takes no memory.
+    /// Returns how many channels the bot is on. Allocates nothing.
     pub fn channel_count(&self) -> usize
         ensures { result ≡ length self.now.channels }
     {
         self.channels.as_slice().len()
     }
 
-    /// The name of the channel at this place, from 0, in the order in which the bot joined them, as it spells it; none from
-    /// [`channel_count`](ChanState::channel_count) on. Takes no memory.
+    /// Returns the name, as the bot spells it, of the channel at `place`, from 0, in the order in which the bot joined
+    /// them; `None` from [`channel_count`](ChanState::channel_count) on. Allocates nothing.
     pub fn channel_at(&self, place: usize) -> Option<&[u8]>
         ensures { option_copied result ≡ channel_at place self.now }
     {
@@ -93,7 +93,7 @@ impl ChanState {
         }
     }
 
-    /// The topic of a channel, empty where it has none; nothing where the bot isn't on the channel.
+    /// Returns the topic of `channel`, empty if it has none; `None` if the bot isn't on the channel.
     pub fn topic(&self, channel: &[u8]) -> Option<&[u8]>
         ensures { option_copied result ≡ topic_in channel.now self.now }
     {
@@ -103,8 +103,8 @@ impl ChanState {
         }
     }
 
-    /// The member of this nick on a channel, with its address and marks; none where the bot isn't on the channel or nobody
-    /// of this nick is. Takes no memory.
+    /// Returns the member called `nick` on `channel`, with its address and marks; `None` if the bot isn't on the
+    /// channel or nobody called `nick` is. Allocates nothing.
     pub fn member(&self, channel: &[u8], nick: &[u8]) -> Option<&Member>
         ensures { option_copied result ≡ member_in channel.now nick.now self.now }
     {
@@ -114,14 +114,15 @@ impl ChanState {
         }
     }
 
-    /// Whether someone of this nick is on a channel; false where the bot isn't on the channel. Takes no memory.
+    /// Returns whether someone called `nick` is on `channel`; false if the bot isn't on it. Allocates nothing.
     pub fn is_on(&self, channel: &[u8], nick: &[u8]) -> bool
         ensures { result ≡ is_some (member_in channel.now nick.now self.now) }
     {
         self.member(channel, nick).is_some()
     }
 
-    /// Whether the nick is a channel operator there; false where nobody of this nick is. Takes no memory.
+    /// Returns whether `nick` is a channel operator on `channel`; false if nobody called `nick` is there. Allocates
+    /// nothing.
     pub fn is_op(&self, channel: &[u8], nick: &[u8]) -> bool
         ensures { result ≡ is_op (member_in channel.now nick.now self.now) }
     {
@@ -131,7 +132,7 @@ impl ChanState {
         }
     }
 
-    /// Whether the nick has voice there; false where nobody of this nick is. Takes no memory.
+    /// Returns whether `nick` has voice on `channel`; false if nobody called `nick` is there. Allocates nothing.
     pub fn is_voice(&self, channel: &[u8], nick: &[u8]) -> bool
         ensures { result ≡ is_voice (member_in channel.now nick.now self.now) }
     {
@@ -141,10 +142,10 @@ impl ChanState {
         }
     }
 
-    /// The members of a channel in the order in which they came; nobody where the bot isn't on the channel.
+    /// Returns the members of `channel` in the order in which they came; empty if the bot isn't on the channel.
     ///
     /// # Errors
-    /// `NoMemory` where room for the copies is refused: never where there is nobody.
+    /// Returns `NoMemory` if the copies can't be allocated, never if there are no members.
     pub fn members(&self, alloc: Global, channel: &[u8]) -> Result<Members, NoMemory>
         ensures members { IfOk result (λ m. m ≡ members_in channel.now self.now) }
         ensures memory { IfErr result (λ _. 0 < length (members_in channel.now self.now)) }
@@ -155,10 +156,11 @@ impl ChanState {
         }
     }
 
-    /// The channels that the bot is on together with this nick, as it spells them, in the order in which it joined them.
+    /// Returns the channels that the bot shares with `nick`, as the bot spells them, in the order in which it joined
+    /// them.
     ///
     /// # Errors
-    /// `NoMemory` where room for the names is refused: never where there is none.
+    /// Returns `NoMemory` if the names can't be allocated, never if there are none.
     pub fn channels_of(&self, alloc: Global, nick: &[u8]) -> Result<Texts, NoMemory>
         ensures names { IfOk result (λ names. names ≡ channels_with nick.now self.now) }
         ensures memory { IfErr result (λ _. 0 < length (channels_with nick.now self.now)) }
@@ -167,13 +169,13 @@ impl ChanState {
         Ok(Texts::new(names))
     }
 
-    /// Takes a message in: [`ready`](ChanState::ready), and then [`commit`](crate::Update::commit).
+    /// Takes in `message`: calls [`ready`](ChanState::ready), and then [`commit`](crate::Update::commit).
     ///
     /// # Errors
-    /// `NoMemory` where room is refused; the state is then as before. Only a message that brings a text to be kept asks for
-    /// room: a welcome, a JOIN, another spelling of the bot's nick or of a member's, and on held channels another topic,
-    /// another address of a member in a reply 352, and a reply 353 that names someone new. Any other message, as each PART,
-    /// KICK, QUIT and MODE and what the server announces, takes no memory.
+    /// Returns `NoMemory` if an allocation fails; the state is then unchanged. Only a message that brings a text to
+    /// keep allocates: a welcome, a JOIN, a NICK that changes how the bot's nick or a member's is spelled, and on held
+    /// channels another topic, another address of a member in a reply 352, and a reply 353 that names someone new. Any
+    /// other message allocates nothing, for example every PART, KICK, QUIT and MODE, and what the server announces.
     pub fn apply(&mut self, alloc: Global, message: &Message) -> Result<(), NoMemory>
         ensures memory { OnErr result (takes_memory message.now self.old ≡ true) }
         ensures applied { MatchResult result (λ _. self.new ≡ after message.now self.old) (λ _. self.new ≡ self.old) }
@@ -183,7 +185,7 @@ impl ChanState {
         Ok(())
     }
 
-    // What has to be made of a message. The members of channels that it changes are taken out.
+    // Prepares `message`. Takes out the members of the channels that it changes.
     pub(crate) fn plan(&mut self, alloc: Global, message: &Message) -> Result<Plan, NoMemory>
         ensures memory { OnErr result (takes_memory message.now self.old ≡ true) }
         ensures ready { MatchResult result (λ plan. IsPlanFor (items_of message.now) plan self.new self.old) (λ _. self.new ≡ self.old) }
@@ -209,14 +211,14 @@ impl ChanState {
         }
     }
 
-    // Takes a message in that takes no memory.
+    // Takes in a message that allocates nothing.
     pub(crate) fn take_in(&mut self, alloc: Global, message: &Message)
         requires { takes_memory message.now self.old ≡ false }
         ensures { self.new ≡ after message.now self.old }
     {
         match change_of(message) {
             Change::Nothing => {}
-            // These change nothing, since they would take memory where they do.
+            // These would allocate if they changed anything, so here they change nothing.
             Change::Welcome(_) => {}
             Change::Join { .. } => {}
             Change::Nick { .. } => {}

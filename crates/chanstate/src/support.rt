@@ -6,19 +6,20 @@ ghost use Rattle.chanstate.specs.Announced.{is_sign, is_in};
 use crate::letters::Letters;
 use bytetext::Text;
 
-/// Which channel modes a server has, as far as one has to know it to read a MODE or a list of names. Takes no memory.
+/// The channel modes of a server, as far as they are needed to read a MODE or a list of names. Allocates nothing.
 #[derive(Clone, Copy, Debug)]
 pub struct Support {
     // The modes that mark a member, and the signs that stand for them before a nick.
     ranks: Letters,
     signs: Letters,
-    // Of the other modes, those that always have an argument, and those that have one when they are set.
+    // Of the other modes, those that always have an argument, and those that have one only when they are set.
     always: Letters,
     when_set: Letters,
 }
 
 impl Support {
-    /// What holds before a server has announced anything: the modes of RFC 2812, half-operators, and their usual signs.
+    /// Returns what holds before a server has announced anything: the modes of RFC 2812, half-operators, and their
+    /// usual signs.
     #[tactic(auto, unfolding(crate::specs::Announced::unannounced))]
     pub fn unannounced() -> Support
         ensures { result ≡ unannounced }
@@ -31,28 +32,28 @@ impl Support {
         }
     }
 
-    /// Whether a mode has an argument, as it is set or cleared.
+    /// Returns whether the mode `letter` has an argument. `on` says whether the mode is set or cleared.
     pub fn takes_argument(&self, on: bool, letter: u8) -> bool
         ensures { result ≡ takes_argument self.now on letter }
     {
         self.ranks.holds(letter) || self.always.holds(letter) || (on && self.when_set.holds(letter))
     }
 
-    /// Whether a mode marks a member.
+    /// Returns whether the mode `letter` marks a member.
     pub fn is_rank(&self, letter: u8) -> bool
         ensures { result ≡ is_in letter self.now.ranks }
     {
         self.ranks.holds(letter)
     }
 
-    /// Whether a byte is a sign that stands before a nick.
+    /// Returns whether `byte` is a sign that stands before a nick.
     pub fn is_sign(&self, byte: u8) -> bool
         ensures { result ≡ is_sign self.now byte }
     {
         self.signs.holds(byte)
     }
 
-    /// Takes the tokens of a line in.
+    /// Takes in `tokens`, the tokens of one line.
     pub fn announce(&mut self, tokens: &[Text])
         ensures { self.new ≡ announced tokens.now self.old }
     {
@@ -72,7 +73,7 @@ impl Support {
         }
     }
 
-    // (letters)signs, or nothing where no mode marks a member.
+    // Takes in `(letters)signs`, or an empty value if no mode marks a member.
     fn set_ranks(&mut self, value: &[u8])
         ensures { self.new ≡ with_prefix value.now self.old }
     {
@@ -96,7 +97,7 @@ impl Support {
         }
     }
 
-    // A,B,C,D
+    // Takes in `A,B,C,D`.
     fn set_types(&mut self, value: &[u8])
         ensures { self.new ≡ with_types value.now self.old }
     {
@@ -116,7 +117,7 @@ impl Support {
     }
 }
 
-// The key of a token, and its value, empty where it has none.
+// Returns the key of a token and its value, which is empty if it has none.
 fn key_and_value(token: &[u8]) -> (&[u8], &[u8])
     ensures { (result.0.now, result.1.now) ≡ key_and_value token.now (cut 61 token.now) }
 {
@@ -126,7 +127,7 @@ fn key_and_value(token: &[u8]) -> (&[u8], &[u8])
     }
 }
 
-// How many bytes stand before the first such byte.
+// Returns how many bytes stand before the first `byte`.
 fn count_front(text: &[u8], byte: u8) -> usize
     ensures value { result ≡ front_len byte text.now }
     ensures within { result ≤ length text.now }
@@ -138,7 +139,7 @@ fn count_front(text: &[u8], byte: u8) -> usize
     count
 }
 
-// The text before and after the first such byte.
+// Returns the text before and after the first `byte`.
 fn cut(text: &[u8], byte: u8) -> Option<(&[u8], &[u8])>
     ensures { MatchOption result (cut byte text.now ≡ None) (λ parts. cut byte text.now ≡ Some (parts.0.now, parts.1.now)) }
 {

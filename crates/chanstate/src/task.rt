@@ -1,4 +1,4 @@
-// What is to be done with the members of a channel, made before anything changes.
+// What is to be done with the members of a channel, prepared before anything changes.
 ghost use Rattle.std.specs.Prelude.{◌≡◌, IfOk, length};
 ghost use Rattle.chanstate.specs.Tasks.{done_by, IsKeyed, places_for};
 ghost use Rattle.chanstate.specs.Members.{arrived, unmarked, renamed};
@@ -12,16 +12,16 @@ use std::alloc::Global;
 /// What is to be done with the members of a channel.
 #[derive(Drop)]
 pub enum Task {
-    // Someone comes.
+    // Someone joins.
     Arrive { key: Vec<u8>, one: Member },
-    // The member of the old nick, if there is one, has the other.
+    // The member called `old`, if there is one, changes nick.
     Rename { old: Text, key: Vec<u8>, nick: Text },
     // Several are listed, in their order.
     List(Vec<(Vec<u8>, Member)>),
 }
 
 impl Task {
-    // A person comes.
+    // Prepares the join of `person`.
     pub(crate) fn arrive(alloc: Global, person: Person<'_>) -> Result<Task, NoMemory>
         ensures keyed { IfOk result (λ task. IsKeyed task) }
         ensures done { IfOk result (λ task. done_by task ≡ arrived (unmarked person.entry.nick.now person.entry.user.now person.entry.host.now)) }
@@ -31,7 +31,7 @@ impl Task {
         Ok(Task::Arrive { key, one })
     }
 
-    // The member of the old nick has the new one.
+    // Prepares the change of nick from `old` to `new`.
     pub(crate) fn rename(alloc: Global, old: &[u8], new: &[u8]) -> Result<Task, NoMemory>
         ensures keyed { IfOk result (λ task. IsKeyed task) }
         ensures done { IfOk result (λ task. done_by task ≡ renamed old.now new.now) }
@@ -44,7 +44,7 @@ impl Task {
         })
     }
 
-    // How many places it may fill.
+    // Returns how many places it may fill.
     pub(crate) fn places(&self) -> usize
         ensures { result ≡ places_for self.now }
     {

@@ -11,7 +11,7 @@ use bytetext::{NoMemory, Text};
 use std::alloc::Global;
 
 impl ChanState {
-    // Whether the bot is on the channel, which has another topic.
+    // Returns whether the bot is on `channel`, and its topic is not `topic`.
     fn retitles(&self, channel: &[u8], topic: &[u8]) -> bool
         ensures { result ≡ retitles topic.now (channel_in channel.now self.now) }
     {
@@ -21,7 +21,7 @@ impl ChanState {
         }
     }
 
-    // Makes another topic of a channel ready.
+    // Prepares another topic of a channel.
     pub(crate) fn ready_topic(
         &self,
         alloc: Global,
@@ -40,7 +40,7 @@ impl ChanState {
         })
     }
 
-    // Whether the bot is on the channel, and someone of this nick too, who has another address.
+    // Returns whether the bot is on `channel`, and a member called `nick` has another address.
     fn readdresses(&self, channel: &[u8], nick: &[u8], user: &[u8], host: &[u8]) -> bool
         ensures { result ≡ readdresses user.now host.now (member_in channel.now nick.now self.now) }
     {
@@ -53,7 +53,7 @@ impl ChanState {
         }
     }
 
-    // Makes another address of a member of a channel ready.
+    // Prepares another address of a member of a channel.
     pub(crate) fn ready_address(
         &self,
         alloc: Global,

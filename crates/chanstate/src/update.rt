@@ -16,8 +16,8 @@ use std::alloc::Global;
 use std::marker::Model;
 use std::mem;
 
-/// What was made of a message, with the state that it is for. Contracts see that state, and the state after the message
-/// where it takes memory.
+/// What was prepared for a message, with the state that it is for. Contracts see that state, and the state after the
+/// message if the message allocates.
 #[derive(Drop)]
 pub struct Made {
     state: ChanState,
@@ -36,7 +36,7 @@ impl Model for Made {
 }
 
 impl Made {
-    // The state as it is.
+    // Returns the state as it is.
     fn undone(self) -> ChanState
         ensures { result ≡ self.0 }
     {
@@ -49,7 +49,7 @@ impl Made {
         state
     }
 
-    // The state after the message.
+    // Returns the state after `message`.
     fn done(self, message: &Message) -> ChanState
         requires { Suits (items_of message.now) self.0 self.1 }
         ensures { result ≡ after message.now self.0 }
@@ -68,18 +68,19 @@ impl Made {
     }
 }
 
-/// A state that is about to take a message in: all room for it is there. Until [`commit`](Update::commit) or
-/// [`cancel`](Update::cancel), one of which has to come, the state is lent to this.
+/// A state that is about to take in a message, with everything allocated for it. It borrows the state until
+/// [`commit`](Update::commit) or [`cancel`](Update::cancel), one of which must be called.
 pub struct Update<'a, M> {
     state: &'a mut ChanState,
     made: M,
 }
 
 impl ChanState {
-    /// Makes all room that a message needs, before anything that is seen changes.
+    /// Allocates all that `message` needs, before anything visible changes.
     ///
     /// # Errors
-    /// `NoMemory` where room is refused, for the messages that [`apply`](ChanState::apply) names; the state is then as before.
+    /// Returns `NoMemory` if an allocation fails, for the messages that [`apply`](ChanState::apply) names; the state is
+    /// then unchanged.
     pub fn ready(&mut self, alloc: Global, message: &Message) -> Result<Update<'_, Made>, NoMemory>
         ensures* unchanged_at_err { sem 𝓛 (rests_if_refused self.entry result) }
         ensures same_reference { IfOk result (λ update. update.state.ghost_name ≡ self.entry.ghost_name) }
@@ -90,7 +91,7 @@ impl ChanState {
         Ok(Update { state: self, made })
     }
 
-    // Makes this the state.
+    // Makes `state` the state.
     fn put(&mut self, state: ChanState)
         ensures { self.new ≡ state }
     {
@@ -99,7 +100,7 @@ impl ChanState {
 }
 
 impl Update<'_, Made> {
-    /// Takes the message in that was made ready. Takes no memory.
+    /// Takes in `message`, which was made ready. Allocates nothing.
     pub fn commit(self, message: &Message)
         requires { Suits (items_of message.now) self.made.0 self.made.1 }
         ensures { self.exit.0.now ≡ after message.now self.entry.made.0 }
@@ -108,7 +109,7 @@ impl Update<'_, Made> {
         state.put(made.done(message));
     }
 
-    /// Gives the message up: the state is as before it was made ready. Takes no memory.
+    /// Gives the message up: the state is as it was before [`ready`](ChanState::ready). Allocates nothing.
     pub fn cancel(self)
         ensures { self.exit.0.now ≡ self.entry.made.0 }
     {
@@ -117,7 +118,7 @@ impl Update<'_, Made> {
     }
 }
 
-// What is made of a message. The state is then without what it held.
+// Prepares `message`. The state is left without what it held.
 fn make(state: &mut ChanState, alloc: Global, message: &Message) -> Result<Made, NoMemory>
     ensures ready { IfOk result (λ made. IsReady message.now state.old made) }
     ensures memory { OnErr result (takes_memory message.now state.old ≡ true) }

@@ -24,7 +24,7 @@ pub enum Verb {
     Other,
 }
 
-// Every command that has a word.
+// Every command that has a name.
 const ALL: [Verb; 15] = [
     Verb::RplWelcome,
     Verb::RplISupport,
@@ -44,7 +44,7 @@ const ALL: [Verb; 15] = [
 ];
 
 impl Verb {
-    // What stands in a message; any other command has no word.
+    // Returns the name that stands in a message; any other command has none.
     fn word(self) -> &'static [u8]
         ensures { result.now ≡ word_of self }
     {
@@ -69,7 +69,8 @@ impl Verb {
     }
 }
 
-/// The command by its name (RFC 2812 sections 3.1, 3.2, 3.3 and 5.1; for 005 RPL_ISUPPORT of today's servers).
+/// Returns the command called `command` (RFC 2812 sections 3.1, 3.2, 3.3 and 5.1; for 005 RPL_ISUPPORT of today's
+/// servers).
 pub fn read_verb(command: &[u8]) -> Verb
     ensures { result ≡ verb_of command.now }
 {

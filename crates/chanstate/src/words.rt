@@ -1,4 +1,4 @@
-// The parts of a parameter: channels with commas between, names with spaces between.
+// The parts of a parameter: channels separated by commas, names separated by spaces.
 ghost use Rattle.std.specs.Prelude.{◌≡◌, ◌≤◌, length, IfOk, IfErr, is_some, true, take, drop};
 ghost use Rattle.std.specs.List.{slice_get};
 ghost use Rattle.std.specs.Option.{option_copied};
@@ -10,7 +10,7 @@ use crate::support::Support;
 use bytetext::{NoMemory, Text};
 use std::alloc::Global;
 
-/// The parameter at this place, from 0.
+/// Returns the parameter at `index` of `params`, from 0.
 pub fn param(params: &[Text], index: usize) -> Option<&[u8]>
     ensures { option_copied result ≡ slice_get params.now index }
 {
@@ -20,7 +20,7 @@ pub fn param(params: &[Text], index: usize) -> Option<&[u8]>
     }
 }
 
-/// The parameter at this place, and the empty text where it is missing.
+/// Returns the parameter at `index` of `params`, from 0, or an empty text if it is missing.
 pub fn text_at(params: &[Text], index: usize) -> &[u8]
     ensures { result.now ≡ text_at params.now index }
 {
@@ -30,7 +30,7 @@ pub fn text_at(params: &[Text], index: usize) -> &[u8]
     }
 }
 
-/// The last parameter.
+/// Returns the last of `params`.
 pub fn last(params: &[Text]) -> Option<&[u8]>
     ensures { option_copied result ≡ last_of params.now }
 {
@@ -40,7 +40,7 @@ pub fn last(params: &[Text]) -> Option<&[u8]>
     }
 }
 
-/// The parameters from this place on.
+/// Returns those of `params` from the place `from` on.
 pub fn params_from(params: &[Text], from: usize) -> &[Text]
     ensures { result.now ≡ drop from params.now }
 {
@@ -51,7 +51,7 @@ pub fn params_from(params: &[Text], from: usize) -> &[Text]
     }
 }
 
-// How many signs stand before the nick.
+// Returns how many signs stand before the nick.
 fn count_signs(support: &Support, word: &[u8]) -> usize
     ensures value { result ≡ signs_len support.now word.now }
     ensures within { result ≤ length word.now }
@@ -63,7 +63,7 @@ fn count_signs(support: &Support, word: &[u8]) -> usize
     count
 }
 
-/// The signs of a word of a list of names, and the nick after them.
+/// Splits `word` of a list of names into its signs and the nick after them. `support` says which bytes are signs.
 pub fn split_signs<'a>(support: &Support, word: &'a [u8]) -> (&'a [u8], &'a [u8])
     ensures signs { result.0.now ≡ take (signs_len support.now word.now) word.now }
     ensures nick { result.1.now ≡ drop (signs_len support.now word.now) word.now }
@@ -71,7 +71,7 @@ pub fn split_signs<'a>(support: &Support, word: &'a [u8]) -> (&'a [u8], &'a [u8]
     word.split_at(count_signs(support, word))
 }
 
-/// A member of this nick, with the marks that stand before it and no address. Takes no memory.
+/// Creates a member called `nick`, with the marks that `signs` stand for and no address. Allocates nothing.
 pub fn shown(alloc: Global, signs: &[u8], nick: Text) -> Member
     ensures { result ≡ shown_by signs.now nick }
 {
@@ -85,10 +85,11 @@ pub fn shown(alloc: Global, signs: &[u8], nick: Text) -> Member
     }
 }
 
-/// A word of a list of names, as a member; none where no nick follows the signs.
+/// Returns the member that `word` of a list of names shows; `None` if no nick follows the signs. `support` says which
+/// bytes are signs.
 ///
 /// # Errors
-/// `NoMemory` where room for the nick is refused: never where no nick follows the signs.
+/// Returns `NoMemory` if the nick can't be allocated, never if no nick follows the signs.
 pub fn named_member(
     alloc: Global,
     support: &Support,

@@ -6,7 +6,7 @@ use Rattle.std.specs.Str.{bytes_eq}
 abbrev pub last_line : List ℕ
 last_line = 10 ∷ 46 ∷ 10 ∷ []
 
--- the lines before the last one, where it is there
+-- the lines before the last one, if the answer ends with it
 abbrev pub body_of : List ℕ → Option (List ℕ)
 body_of bytes =
     if bytes_eq bytes (46 ∷ 10 ∷ []) then Some []

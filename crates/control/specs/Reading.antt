@@ -57,7 +57,7 @@ unbind_said (kind ∷ proc ∷ []) = Err (Form word.Unbind)
 unbind_said (kind ∷ []) = Err (Form word.Unbind)
 unbind_said [] = Err (Form word.Unbind)
 
--- say LINE: as long as a line of IRC may be
+-- say LINE, which is at most as long as a line of IRC may be
 abbrev pub said : Option (List ℕ) → Result Command Advice
 said None = Err (Form word.Say)
 said (Some line) = if nat_lt MAX_LINE (length line) then Err (Form word.Say) else Ok (command.Say line)

@@ -31,6 +31,6 @@ all_words =
     AddBan ∷ AddHost ∷ AddUser ∷ Bind ∷ Bot ∷ Chan ∷ Compact ∷ DelBan ∷ DelHost ∷ DelUser ∷ Die ∷ Global ∷ Info ∷ Jump ∷ Say ∷ Show ∷
     Status ∷ Sticky ∷ Unbind ∷ []
 
--- the word that is spelled so: no two are spelled alike
+-- the word with this spelling: no two are spelled alike
 abbrev pub word_named : List ℕ → Option Word
 word_named spelling = find (λ word. bytes_eq (spelling_of word) spelling) all_words

@@ -4,20 +4,20 @@ use bytetext::Failure;
 use std::fmt;
 use std::fmt::Display;
 
-/// What to say instead of a command that is not understood, in the order in which it is looked for.
+/// What to say instead of a command that is not understood, in the order of the checks.
 #[derive(Clone, Copy, Debug, PartialEq, Eq)]
 pub enum Advice {
     /// It has more than 600 bytes.
     TooLong,
-    /// A NUL, a line feed or a carriage return stands in it.
+    /// It has a NUL, a line feed or a carriage return.
     BareByte,
-    /// The first word is none that there is.
+    /// The first word is unknown.
     Unknown,
-    /// The line is not formed as this word wants it.
+    /// The line does not have the form of this word.
     Form(Word),
 }
 
-/// Why a line is no command: what to say instead, or else a growth was refused.
+/// Why a line is no command: what to say instead, or `NoMemory` if an allocation failed.
 pub type CommandError = Failure<Advice>;
 
 impl Display for Advice {
@@ -34,7 +34,7 @@ impl Display for Advice {
     }
 }
 
-// How a command of this word is formed.
+// The form of a command of this word.
 fn form_of(word: Word) -> &'static str {
     match word {
         Word::AddBan =>

@@ -3,7 +3,7 @@ ghost use Rattle.std.specs.Prelude.{◌≡◌};
 ghost use Rattle.std.specs.Option.{option_copied};
 ghost use Rattle.control.specs.Answering.{body_of, is_refusal};
 
-/// The lines of an answer, where it is whole: without the line at its end that has a full stop alone.
+/// Returns the lines of `answer` if it is whole, without its last line, which is a full stop alone.
 pub fn body_of(answer: &[u8]) -> Option<&[u8]>
     ensures { option_copied result ≡ body_of answer.now }
 {
@@ -18,7 +18,7 @@ pub fn body_of(answer: &[u8]) -> Option<&[u8]>
     }
 }
 
-/// Whether the lines of an answer refuse the command: they begin with `refused` or with `fault`.
+/// Returns whether `body`, the lines of an answer, refuses the command: it begins with `refused` or with `fault`.
 pub fn is_refusal(body: &[u8]) -> bool
     ensures { result ≡ is_refusal body.now }
 {

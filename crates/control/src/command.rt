@@ -6,27 +6,27 @@ use userfile::Change;
 /// What an operator asks a running bot for.
 #[derive(Drop)]
 pub enum Command {
-    /// A change of the userfile. Whether its handles, masks and channels are of a good shape is not looked at.
+    /// To change the userfile. Nothing has checked that the handles, masks and channels are well formed.
     Change(Change),
-    /// The version and the records.
+    /// To show the version and the records.
     Show,
-    /// How the bot is.
+    /// To show the bot's status.
     Status,
-    /// A bind. Whether there is such a type, and whether flags and mask are of a good shape, is not looked at.
+    /// To add a bind. Nothing has checked that such a type exists, or that flags and mask are well formed.
     Bind(BindWords),
-    /// That a bind be taken away.
+    /// To remove a bind.
     Unbind(UnbindWords),
-    /// That the server be told a line of 1 to 510 bytes.
+    /// To send the server a line of 1 to 510 bytes.
     Say(Text),
-    /// That the journal be written anew.
+    /// To rewrite the journal.
     Compact,
-    /// That the bot leave its server for the next.
+    /// To leave the server for the next.
     Jump,
-    /// That the bot end, and the server be told this text, which may be empty.
+    /// To end, and to send the server this text, which may be empty.
     Die(Text),
 }
 
-/// The words of a bind that is to go. None is empty.
+/// The words of a bind to remove. None is empty.
 #[derive(Debug, Drop)]
 pub struct UnbindWords {
     /// The type, as the table of binds names it.

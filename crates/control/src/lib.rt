@@ -1,24 +1,24 @@
-//! What an operator says to a running bot, and how the bot's answer is formed.
+//! What an operator says to a running bot, and the form of the bot's answer.
 //!
-//! A command is a line of at most [`MAX_COMMAND`] bytes: a word, and the words that belong to it, with one space between.
-//! A last word in capitals below takes the rest of the line, and keeps its spaces.
+//! A command is a line of at most [`MAX_COMMAND`] bytes: a word, and the words that belong to it, with one space
+//! between. A last word that the table shows in capitals takes the rest of the line, and keeps its spaces.
 //!
-//! | Line | What it asks for |
+//! | Line | What the bot does |
 //! |---|---|
-//! | a change, as `adduser alice` or `chan alice #egg o` | that the userfile be changed so ([`scriptwords`]) |
-//! | `show` | the version and the records |
-//! | `status` | how the bot is |
-//! | `bind` type flags proc MASK | a bind, until the bot ends |
-//! | `unbind` type proc MASK | that the bind be taken away |
-//! | `say LINE` | that the server be told this line, of 1 to 510 bytes |
-//! | `compact` | that the journal be written anew |
-//! | `jump` | that the bot leave this server for the next |
-//! | `die TEXT` | that the bot end; the server is told the TEXT, which may be left out |
+//! | a change, such as `adduser alice` or `chan alice #egg o` | changes the userfile so ([`scriptwords`]) |
+//! | `show` | shows the version and the records |
+//! | `status` | shows its status |
+//! | `bind` type flags proc MASK | adds the bind, until the bot ends |
+//! | `unbind` type proc MASK | removes the bind |
+//! | `say LINE` | sends the server this line, of 1 to 510 bytes |
+//! | `compact` | rewrites the journal |
+//! | `jump` | leaves this server for the next |
+//! | `die TEXT` | ends, and sends the server the TEXT, which may be left out |
 //!
-//! [`Command::read`] answers what a line asks for, or what to say instead. Whether a change, a bind or a line of IRC is
-//! one that the bot takes is seen when the bot is asked.
+//! [`Command::read`] returns what a line asks for, or what to say instead. Only the bot, when it is asked, decides
+//! whether it accepts a change, a bind or a line of IRC.
 //!
-//! An answer is lines, and then a line with a full stop alone. [`body_of`] finds the lines of an answer that is whole, and
+//! An answer is lines, and then a line with a full stop alone. [`body_of`] returns the lines of a whole answer, and
 //! [`is_refusal`] whether they refuse the command.
 //!
 //! ```text

@@ -20,11 +20,11 @@ impl Command {
     ghost use Rattle.control.specs.declared.advice.Advice.TheVariants.{BareByte, TooLong};
     ghost use Rattle.control.specs.Reading.{Answers, command_of, is_bare};
 
-    /// What a line asks for, without its line feed.
+    /// Reads the command that `line`, without its line feed, asks for.
     ///
     /// # Errors
-    /// `Refused` with what to say instead; `NoMemory` where room is refused before that is seen, which is not for the
-    /// length, nor for a byte that no line may have.
+    /// `Refused` with what to say instead; `NoMemory` if an allocation fails before that is seen. The checks of the
+    /// length, and of bytes that no line may have, don't allocate.
     pub fn read(alloc: Global, line: &[u8]) -> Result<Command, CommandError>
         ensures reads { Answers (command_of line.now) result }
         ensures too_long { MAX_COMMAND < length line.now → result ≡ Err (failure.Refused TooLong) }
@@ -42,7 +42,7 @@ impl Command {
     }
 }
 
-// Whether a byte stands in a line that no line of IRC may have.
+// Whether a line has a byte that no line of IRC may have.
 fn has_bare_byte(line: &[u8]) -> bool
     ensures { result ≡ list_any is_bare line.now }
 {
@@ -163,7 +163,7 @@ fn say_said(alloc: Global, words: &[&[u8]]) -> Result<Command, CommandError>
     }
 }
 
-// What the server is told at the end.
+// What the bot sends to the server at its end.
 fn die_said(alloc: Global, words: &[&[u8]]) -> Result<Command, CommandError>
     ensures { Answers (die_said (map (λ word. word.now) words.now)) result }
 {
@@ -173,7 +173,7 @@ fn die_said(alloc: Global, words: &[&[u8]]) -> Result<Command, CommandError>
     }
 }
 
-// What is told; nothing where the rest of the line is empty.
+// This text, which is empty if the rest of the line is empty.
 fn die_text(alloc: Global, rest: Option<Text>) -> Text
     ensures { result ≡ die_text rest }
 {
@@ -207,7 +207,7 @@ fn bound(
     }))
 }
 
-// A bind that is to go, by its parts.
+// A bind to remove, by its parts.
 fn unbound(
     alloc: Global,
     kind: &[u8],
@@ -229,7 +229,7 @@ fn unbound(
     }))
 }
 
-// The line that the server is told, where it is one and not too long.
+// The line for the server, if there is one and it is not too long.
 fn said(line: Option<Text>) -> Result<Command, CommandError>
     ensures { Answers (said line) result }
 {

@@ -17,13 +17,13 @@ pub enum Word {
     Bot,
     /// A user's flags on a channel are set.
     Chan,
-    /// The journal is written anew.
+    /// The journal is rewritten.
     Compact,
-    /// A ban is taken away.
+    /// A ban is removed.
     DelBan,
-    /// A hostmask is taken away from a user.
+    /// A hostmask is removed from a user.
     DelHost,
-    /// A user is taken away.
+    /// A user is removed.
     DelUser,
     /// The bot ends.
     Die,
@@ -33,15 +33,15 @@ pub enum Word {
     Info,
     /// The bot leaves its server for the next.
     Jump,
-    /// The server is told a line.
+    /// The bot sends the server a line.
     Say,
     /// The records are shown.
     Show,
-    /// It is shown how the bot is.
+    /// The bot's status is shown.
     Status,
-    /// It is set whether a ban is sticky.
+    /// A ban is made sticky, or no longer sticky.
     Sticky,
-    /// A bind is taken away.
+    /// A bind is removed.
     Unbind,
 }
 
@@ -69,7 +69,7 @@ const ALL: [Word; 19] = [
 ];
 
 impl Word {
-    /// As operators spell it.
+    /// Returns the word as operators spell it.
     pub fn spelling(self) -> &'static str
         ensures { result.now ≡ spelling_of self }
     {
@@ -96,7 +96,7 @@ impl Word {
         }
     }
 
-    /// The word that is spelled so, byte for byte.
+    /// Returns the word that `spelling` spells, byte for byte.
     pub fn named(spelling: &[u8]) -> Option<Word>
         ensures { result ≡ word_named spelling.now }
     {

@@ -17,11 +17,11 @@ good dials = record dials { good = true }
 abbrev pub is_last : Dials → Bool
 is_last dials = suc dials.place == dials.servers
 
--- the next of the list, and after the last the first
+-- the next place of the list; after the last one the first again
 abbrev pub next_place : Dials → ℕ
 next_place dials = if is_last dials then 0 else suc dials.place
 
--- a round ends with the last
+-- a round ends with the last place
 abbrev pub next_round : Dials → ℕ
 next_round dials = if is_last dials then min (suc dials.round) (2 ^ 64 - 1) else dials.round
 

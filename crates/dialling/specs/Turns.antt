@@ -10,7 +10,7 @@ pub record Loss : Type 0 where
 abbrev pub after_loss : Dials → Loss → Dials
 after_loss dials loss = lost (record dials { good = dials.good || loss.was_good }) loss.now
 
--- after these, one after another
+-- after these losses, one after another
 abbrev pub after_losses : Dials → List Loss → Dials
 after_losses dials [] = dials
 after_losses dials (loss ∷ losses) = after_losses (after_loss dials loss) losses

@@ -11,19 +11,19 @@ pub const MAX_ADDRESSES: usize = 32;
 /// Why a try did not even begin.
 #[derive(Clone, Copy, Debug, PartialEq, Eq, Error)]
 pub enum DialFault {
-    /// The host is no address and no UTF-8.
+    /// The host is neither an address nor UTF-8.
     #[error("the host is no name: write it in letters, digits, dots and dashes")]
     Unreadable,
-    /// The resolver has no address of the host, or can't be asked.
+    /// The resolver knows no address of the host, or can't be asked.
     #[error("the host has no address: look at its name, or wait for the resolver")]
     Unknown,
-    /// The system does not begin to connect: no way leads to the address, or it has no more sockets.
+    /// The system does not begin to connect: no route leads to the address, or it has no more sockets.
     #[error("no way leads to the address, or this machine has no more sockets")]
     Unreached,
 }
 
-/// The address that a host spells, as `192.0.2.7` or `2001:db8::7` (RFC 4291 section 2.2), and this port; none where it
-/// spells none.
+/// Returns the address that `host` spells, such as `192.0.2.7` or `2001:db8::7` (RFC 4291 section 2.2), with `port`.
+/// Returns `None` if it spells none.
 pub fn literal(host: &[u8], port: u16) -> Option<SocketAddr>
     ensures { IsLiteral host.now port result }
 {
@@ -33,7 +33,7 @@ pub fn literal(host: &[u8], port: u16) -> Option<SocketAddr>
     }
 }
 
-// The address of a host in this round: the one that it spells, or one of those of its name.
+// The address of `host` in this round: the one that it spells, or one of its name's addresses.
 pub(crate) fn address_of<R: Net>(
     rt: &R,
     host: &[u8],
@@ -48,7 +48,7 @@ pub(crate) fn address_of<R: Net>(
     }
 }
 
-// One of the addresses of a name.
+// Looks a name up, and returns the address of this round.
 fn look_up<R: Net>(rt: &R, host: &[u8], port: u16, round: u64) -> Result<SocketAddr, DialFault> {
     let Ok(name) = str::from_utf8(host) else {
         return Err(DialFault::Unreadable);

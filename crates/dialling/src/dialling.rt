@@ -38,12 +38,12 @@ impl Model for Dialling {
     ghost invariant = { λ d. d.place < d.servers };
 }
 
-/// A connection that was begun, and to which address.
+/// A connection that was begun, and its address.
 #[derive(Drop)]
 pub struct Dialled {
-    /// The connection, which may still come to nothing.
+    /// The connection, which may still fail.
     pub socket: TcpSocket,
-    /// Where it leads.
+    /// The address to which it connects.
     pub address: SocketAddr,
 }
 
@@ -53,8 +53,8 @@ impl Dialling {
     ghost use Rattle.redial.specs.declared.redial.TheConstants.{FIRST_WAIT};
     ghost use Rattle.dialling.specs.Dials.{good, lost};
 
-    /// The first of so many servers is to be tried, at once. `number` is the bot's, and `most` the longest wait, in
-    /// seconds.
+    /// Creates a `Dialling` over a list of `servers` servers, the first of which is due at once. `number` is the bot's
+    /// number, and `most` the longest wait in seconds.
     pub fn new(number: u16, most: u16, servers: usize) -> Dialling
         requires most { FIRST_WAIT ≤ most }
         requires some { 0 < servers }
@@ -75,21 +75,21 @@ impl Dialling {
         }
     }
 
-    /// Whether a try is due at this second.
+    /// Returns whether a try is due at second `now`.
     pub fn is_due(&self, now: u64) -> bool
         ensures { IsTrue result ↔ (self.now.waits.due ≤ now) }
     {
         self.redial.is_due(now)
     }
 
-    /// The second at which the next try is due.
+    /// Returns the second at which the next try is due.
     pub fn due(&self) -> u64
         ensures { result ≡ self.now.waits.due }
     {
         self.redial.due()
     }
 
-    /// The place in the list of the server that is tried next, or is connected.
+    /// Returns the place in the list, from 0, of the server that is tried next or is connected.
     pub fn place(&self) -> usize
         ensures value { result ≡ self.now.place }
         ensures within { result < self.now.servers }
@@ -97,15 +97,16 @@ impl Dialling {
         self.place
     }
 
-    /// The connection was good: whoever owns it has seen it hold, or its other end has shown who it is. Where it is
-    /// lost, the first wait is the shortest again.
+    /// Records that the connection was good: its owner has seen it hold, or its other end has shown who it is. After
+    /// its loss the first wait is the shortest again.
     pub fn good(&mut self)
         ensures { self.new ≡ good self.old }
     {
         self.is_good = true;
     }
 
-    /// At this second a try failed, or a connection was lost. The next server of the list is due then, after the wait.
+    /// Records that a try failed at second `now`, or that a connection was lost then. The next server of the list is
+    /// due after the wait.
     pub fn lost(&mut self, now: u64)
         requires { now < MOMENTS_END }
         ensures value { self.new ≡ lost self.old now }
@@ -123,12 +124,13 @@ impl Dialling {
         }
     }
 
-    /// Begins to connect to a server, which is to be the one at [`Dialling::place`]: looks its name up, where the
-    /// host is no address already, and connects to the address of this round. Returns when the resolver has answered,
-    /// before there is a connection. It is watched under this token.
+    /// Begins to connect to `host` and `port`, which are to be those of the server at [`Dialling::place`]. Looks the
+    /// name up if the host is not already an address, and connects to the address of this round. Returns when the
+    /// resolver has answered, before the connection exists. `registry` watches it under `token`.
     ///
     /// # Errors
-    /// `Unreadable`, `Unknown` and `Unreached` as they say. The try has failed then: [`Dialling::lost`] is to follow.
+    /// `Unreadable`, `Unknown` and `Unreached`, as [`DialFault`] describes them. The try has then failed: call
+    /// [`Dialling::lost`] next.
     pub fn connect<R: Net>(
         &self,
         rt: &R,
@@ -145,10 +147,10 @@ impl Dialling {
     }
 }
 
-/// The law of turns: each server of the list is tried before one is tried again. It does nothing: what it ensures
-/// holds of any list.
+/// The law of turns: each server of the list is tried before one is tried again. The function does nothing; what it
+/// ensures holds for any list.
 pub fn law_of_turns()
-    // From any try on, so many tries as there are servers reach each of them, whenever they are lost, good or not.
+    // From any try on, as many tries as there are servers reach each of them, whenever they are lost, good or not.
     ensures each { (dials : Dials) (place : ℕ) → dials.place < dials.servers → place < dials.servers
         → IsTriedSoon dials place }
 {}

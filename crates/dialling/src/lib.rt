@@ -1,9 +1,9 @@
 //! Which server is tried next, at which of its addresses, and when.
 //!
-//! A bot has a list of servers. A [`Dialling`] goes through them in turn: each is tried before one is tried again. In
-//! each round through the list a server whose name has several addresses is tried at the next of them, of at most 32.
-//! When, says [`redial`]: the first wait is 2 seconds, each loss doubles it up to a most, and after a connection that
-//! was good it is 2 seconds again.
+//! A bot has a list of servers. A [`Dialling`] goes through them in turn: it tries each before it tries one again. If a
+//! server's name has several addresses, each round through the list tries the next of them, of at most 32. [`redial`]
+//! says when the next try is due: the first wait is 2 seconds, each loss doubles it up to a maximum, and after a good
+//! connection it is 2 seconds again.
 //!
 //! ```text
 //! let mut dialling = Dialling::new(0, 300, servers.len());
@@ -19,8 +19,8 @@
 //! dialling.lost(now);     // it is over: the next server, in two seconds
 //! ```
 //!
-//! A name is looked up in [`Dialling::connect`] alone, so only when a try is due; the resolver may take its time, and
-//! the program waits for it. A host that is an address already needs none.
+//! Only [`Dialling::connect`] looks a name up, so only when a try is due. The resolver may take its time, and the
+//! program blocks meanwhile. A host that is an address already needs no lookup.
 #![tactic(auto)]
 
 mod address;

@@ -8,16 +8,16 @@ pub record FileState : Type 0 where
   pub file : Told  -- what the file was told
   pub broken : Bool  -- whether the file failed
 
--- the file was told all that a read gives
+-- all that a read gives was written to the file
 abbrev pub IsTold : FileState → Type 0
 IsTold disk = disk.file.holds ≡ disk.mirror.content
 
--- and that was brought to its device
+-- all of it was also synced to the file's device
 pub record IsKept (disk : FileState) : Type 0 where
   pub told : IsTold disk
   pub kept : IsTrue disk.file.kept
 
--- until the file fails, it was told all that a read gives, and no fault of the mirror is planned
+-- until the file fails, all that a read gives was written to it, and no fault of the mirror is planned
 pub record IsInStep (disk : FileState) : Type 0 where
   pub told : disk.broken ≡ false → IsTold disk
   pub steady : disk.mirror.plan.works ≡ None

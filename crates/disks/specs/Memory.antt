@@ -40,7 +40,7 @@ pub record IsKept (events : List Event) (content torn : List ℕ) (same content_
   pub content_fits : length torn ≤ content_room
   pub torn_fits : length content ≤ torn_room
 
--- a fault more, and nothing else
+-- one fault more, and nothing else
 pub record Fails (old new : Memory) : Type 0 where
   pub events : new.events ≡ old.events
   pub content : new.content ≡ old.content

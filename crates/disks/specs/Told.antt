@@ -1,4 +1,4 @@
--- A file as contracts see it: what it was told, as far as the system answered.
+-- A file as contracts see it: what was written to it, as far as the system reported.
 use Rattle.std.specs.Prelude.{ℕ, ℤ, ◌+◌, List, [], ◌∷◌, ◌++◌, length, take, drop, Bool}
 use Rattle.storage.specs.Events.{Event}
 
@@ -11,7 +11,8 @@ pub record Told : Type 0 where
 abbrev pub with_text : ℕ → List ℕ → List ℕ → List ℕ
 with_text at text bytes = take at bytes ++ (text ++ drop (at + length text) bytes)
 
--- what a file holds that held `found` before these writes, the newest first; each is noted with the text that was written
+-- what a file that held `found` holds after these writes, the newest first; each is noted with the text that was
+-- written
 abbrev pub after_writes : List ℕ → List Event → List ℕ
 after_writes found [] = found
 after_writes found (event ∷ past) = with_text event.at event.seen (after_writes found past)

@@ -1,11 +1,11 @@
-// Texts put over bytes in room that is there.
+// Puts texts over bytes in room that was made before.
 ghost use Rattle.std.specs.Prelude.{◌≡◌, ◌<◌, ◌≤◌, ◌+◌, ◌++◌, length, take, drop, replicate, vec_len, OnOk, OnErr};
 ghost use Rattle.std.specs.Vec.{vec_capacity};
 ghost use Rattle.storage.specs.Calls.{Holds, read_count};
 
 use bytetext::NoMemory;
 
-/// Writes a text over the bytes from an offset on.
+/// Writes `text` over the bytes from the offset `at` on.
 fn overwrite(bytes: &mut [u8], at: usize, text: &[u8])
     requires { at + length text.now ≤ length bytes.old }
     ensures { Holds bytes.old at text.now bytes.new }
@@ -14,7 +14,7 @@ fn overwrite(bytes: &mut [u8], at: usize, text: &[u8])
     bytes[at..end].copy_from_slice(text);
 }
 
-/// Puts a text after the bytes.
+/// Appends `text` to the bytes.
 pub(crate) fn put_after(bytes: &mut Vec<u8>, text: &[u8])
     requires { vec_len bytes.old + length text.now ≤ vec_capacity bytes.old }
     ensures items { bytes.new.items ≡ bytes.old.items ++ text.now }
@@ -25,7 +25,7 @@ pub(crate) fn put_after(bytes: &mut Vec<u8>, text: &[u8])
     }
 }
 
-/// Puts a text over the bytes from an offset on, and past their end.
+/// Writes `text` over the bytes from the offset `at` on, and past their end.
 pub(crate) fn put(bytes: &mut Vec<u8>, at: usize, text: &[u8])
     requires inside { at ≤ vec_len bytes.old }
     requires room { at + length text.now ≤ vec_capacity bytes.old }
@@ -41,7 +41,7 @@ pub(crate) fn put(bytes: &mut Vec<u8>, at: usize, text: &[u8])
     }
 }
 
-/// Sets the bytes of a range.
+/// Sets `count` bytes from the offset `at` on to `byte`.
 pub(crate) fn fill(bytes: &mut [u8], at: usize, count: usize, byte: u8)
     requires { at + count ≤ length bytes.old }
     ensures { Holds bytes.old at (replicate count byte) bytes.new }
@@ -50,7 +50,7 @@ pub(crate) fn fill(bytes: &mut [u8], at: usize, count: usize, byte: u8)
     bytes[at..end].fill(byte);
 }
 
-/// Makes `copy` the same as `bytes`, where the first `same` bytes are the same already.
+/// Makes `copy` equal to `bytes`, when their first `same` bytes are already equal.
 pub(crate) fn copy_rest(copy: &mut Vec<u8>, bytes: &[u8], same: usize)
     requires inside { same ≤ length bytes.now }
     requires front { take same copy.old.items ≡ take same bytes.now }
@@ -63,7 +63,7 @@ pub(crate) fn copy_rest(copy: &mut Vec<u8>, bytes: &[u8], same: usize)
     put_after(copy, &bytes[same..]);
 }
 
-/// Reads the bytes from an offset on, and answers how many there were.
+/// Reads the bytes from the offset `at` on into `buf`, and returns how many it read.
 pub(crate) fn read_from(bytes: &[u8], at: usize, buf: &mut [u8]) -> usize
     ensures count { result ≡ read_count bytes.now at (length buf.old) }
     ensures bytes { buf.new ≡ take result (drop at bytes.now) ++ drop result buf.old }
@@ -76,7 +76,7 @@ pub(crate) fn read_from(bytes: &[u8], at: usize, buf: &mut [u8]) -> usize
     count
 }
 
-/// Makes room up to an offset.
+/// Makes room up to the offset `end`.
 pub(crate) fn make_room(bytes: &mut Vec<u8>, end: usize) -> Result<(), NoMemory>
     ensures room { OnOk result (end ≤ vec_capacity bytes.new) }
     ensures items { bytes.new.items ≡ bytes.old.items }

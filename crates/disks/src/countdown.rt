@@ -2,7 +2,7 @@
 ghost use Rattle.std.specs.Prelude.{◌≡◌, ◌↔◌, IsTrue};
 ghost use Rattle.disks.specs.Plans.{IsDue, fewer, fewer_once};
 
-/// Whether a call fails whose fault was planned: once the count is 0 it and all later ones do.
+/// Whether a call fails whose fault is planned: once `left` is 0, this call and all later ones fail.
 pub(crate) fn is_over(left: &mut Option<u64>) -> bool
     ensures due { IsTrue result ↔ IsDue left.old }
     ensures counted { left.new ≡ fewer left.old }
@@ -17,7 +17,7 @@ pub(crate) fn is_over(left: &mut Option<u64>) -> bool
     }
 }
 
-/// Whether a call fails whose fault was planned: once the count is 0 it does, and no later one.
+/// Whether a call fails whose fault is planned: once `left` is 0, this call fails and no later one does.
 pub(crate) fn is_due(left: &mut Option<u64>) -> bool
     ensures due { IsTrue result ↔ IsDue left.old }
     ensures counted { left.new ≡ fewer_once left.old }

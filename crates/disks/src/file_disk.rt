@@ -20,13 +20,13 @@ use storage::{Disk, DiskFault};
 
 /// A disk in a file. Each write and sync goes to the file, and a read gives what the mirror in memory holds.
 ///
-/// What contracts say of a `FileDisk` is said of its mirror, and of what the file was told: after a write it was told
-/// all that a read gives, and after a sync or an opening that was brought to its device. That the file holds what it was
-/// told, and that a crash leaves of it what the mirror says may be left, is assumed of the system and the device, and no
-/// contract can say it.
+/// Contracts of a `FileDisk` speak of its mirror and of what was written to the file. After a write, all that a read
+/// gives was written to the file; after a sync or an opening, it was also synced to the device. Two things are assumed
+/// of the system and the device, since no contract can state them: the file holds what was written to it, and a crash
+/// leaves of the file what the mirror says may be left.
 ///
-/// After a fault of the file each read, write and sync refuses, also after `reopen`: what a failed write left in the
-/// file is known to a new program alone, which reads it.
+/// After the file fails, each read, write and sync fails, even after `reopen`. Only a new program, which reads the
+/// file, learns what a failed write left in it.
 pub struct FileDisk {
     file: ToldFile,
     mirror: MemDisk,
@@ -55,13 +55,13 @@ impl Model for FileDisk {
 }
 
 impl FileDisk {
-    /// The disk in a file that was opened for reading and writing. The file is locked until the disk is dropped, so
-    /// that no second program uses it; it is read, and what it holds is written once more and brought to its device. It
-    /// stays under its descriptor, but for one of the three that are the standard streams': then it gets another.
+    /// Opens the disk in `file`, a file that was opened for reading and writing. Locks the file until the disk is
+    /// dropped, so that no second program uses it; reads it; then writes its content again and syncs it to the device.
+    /// The file keeps its descriptor, unless that is one of the three of the standard streams: then it gets another.
     ///
     /// # Errors
-    /// `InUse`, `Unreadable` and `NotKept` as they say; `NoMemory` where room for what the file holds is refused, or
-    /// the system has none.
+    /// `InUse`, `Unreadable` and `NotKept` as they say; `NoMemory` if it cannot allocate room for the file's content,
+    /// or the system is out of memory.
     pub fn new(alloc: Global, file: File) -> Result<FileDisk, FileDiskError>
         ensures settled { IfOk result (λ disk. disk.mirror.events ≡ []) }
         ensures kept { IfOk result IsKept }
@@ -76,10 +76,10 @@ impl FileDisk {
         })
     }
 
-    /// The disk in the file at a path. Its name is brought to its device too.
+    /// Opens the disk in the file at `path`, and syncs the file's name to the device too.
     ///
     /// # Errors
-    /// `Missing` where there is no such file, `Unreadable` where it can't be opened for reading and writing; else as of
+    /// `Missing` if there is no such file, `Unreadable` if it can't be opened for reading and writing; otherwise as for
     /// `new`.
     pub fn open<R: AllocGlobal + Files<File = File>>(
         rt: &R,
@@ -94,11 +94,11 @@ impl FileDisk {
         open_at(rt, path, options)
     }
 
-    /// The disk in the file at a path, which is made where it is missing, for its owner's eyes alone (mode 600). Its
-    /// name is brought to its device.
+    /// Opens the disk in the file at `path`. If the file is missing, creates it, readable by its owner alone (mode
+    /// 600). Syncs the file's name to the device.
     ///
     /// # Errors
-    /// `Missing` where its folder is; else as of `open`.
+    /// `Missing` if its folder is missing; otherwise as for `open`.
     pub fn make<R: AllocGlobal + Files<File = File>>(
         rt: &R,
         path: &str,
@@ -113,7 +113,7 @@ impl FileDisk {
     }
 }
 
-/// The disk in the file at a path that is opened so.
+/// Opens the disk in the file at `path` with these `options`.
 fn open_at<R: AllocGlobal + Files<File = File>>(
     rt: &R,
     path: &str,
@@ -142,7 +142,7 @@ fn break_off(broken: &mut bool, mirror: &mut MemDisk) -> DiskFault
     DiskFault
 }
 
-/// Brings what was written to a file to its device, or notes that it is broken.
+/// Syncs what was written to a file to its device, or notes that the file is broken.
 fn sync_or_break_off(file: &mut ToldFile, broken: &mut bool)
     ensures same { file.new.holds ≡ file.old.holds }
     ensures kept { broken.new ≡ false → IsTrue file.new.kept }
@@ -172,7 +172,7 @@ impl Disk for FileDisk {
         self.mirror.read(at, buf)
     }
 
-    /// It takes no memory where there is room up to that end.
+    /// Allocates nothing if there is room up to `end` already.
     fn reserve(&mut self, end: usize, calls: usize) -> Result<(), NoMemory>
         ensures calls { OnOk result (calls ≤ (state_of self.new.mirror).calls) }
         ensures end { OnOk result (end ≤ (state_of self.new.mirror).end) }
@@ -185,7 +185,7 @@ impl Disk for FileDisk {
         self.mirror.reserve(end, calls)
     }
 
-    /// At `Ok` the file was told what the disk now holds.
+    /// At `Ok`, what the disk now holds was written to the file.
     fn write_at(&mut self, at: usize, bytes: &[u8]) -> Result<(), DiskFault>
         requires inside { at ≤ length (state_of self.old.mirror).seen }
         requires room { at + length bytes.now ≤ (state_of self.old.mirror).end }
@@ -214,7 +214,7 @@ impl Disk for FileDisk {
         }
     }
 
-    /// At `Ok` the file was told what the disk holds, and that was brought to its device.
+    /// At `Ok`, what the disk holds was written to the file and synced to its device.
     fn sync(&mut self) -> Result<(), DiskFault>
         requires { 0 < (state_of self.old.mirror).calls }
         ensures settled { OnOk result (IsSettled (state_of self.new.mirror)) }
@@ -233,8 +233,8 @@ impl Disk for FileDisk {
         }
     }
 
-    /// What was written is brought to its device: a file loses nothing where the program goes on. Where that fails, each
-    /// later call refuses.
+    /// Syncs what was written to the device: a file loses nothing while the program goes on. If that fails, each later
+    /// call fails.
     fn reopen(&mut self)
         ensures left { may_leave (state_of self.old.mirror) (state_of self.new.mirror).seen }
         ensures settled { IsSettled (state_of self.new.mirror) }

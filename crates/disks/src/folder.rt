@@ -8,11 +8,11 @@ use std::os::unix::fs::DirBuilderExt;
 use std::path::Path;
 use std::rt::Files;
 
-/// Makes a folder for its owner alone (mode 700), where it isn't there, and brings its name to its device.
+/// Creates `folder`, for its owner alone (mode 700), if it doesn't exist yet, and syncs its name to its device.
 ///
 /// # Errors
-/// `Missing` where the folder above it is, `Unreadable` where it can't be made, `NotKept` where the device fails,
-/// `NoMemory` where the system has none.
+/// `Missing` if the folder above it is missing, `Unreadable` if it can't be created, `NotKept` if the device fails,
+/// `NoMemory` if the system is out of memory.
 pub fn make_folder<R: Files<File = File>>(rt: &R, folder: &str) -> Result<(), FileDiskError> {
     match DirBuilder::new().mode(0o700).create(rt, folder) {
         Ok(()) => {}
@@ -24,13 +24,13 @@ pub fn make_folder<R: Files<File = File>>(rt: &R, folder: &str) -> Result<(), Fi
     sync_folder(rt, folder_of(folder))
 }
 
-/// Gives a folder another name beside its own, and brings that to its device. Disks in its files go on in them: so two
-/// files can be made whole under one name, and be there under the other at once, or not at all.
+/// Renames the folder `from` to `to`, in the same parent folder, and syncs that to its device. Disks in its files stay
+/// usable. So two files can be completed under one name, and then appear under the other name together, or not at all.
 ///
 /// # Errors
-/// `InUse` where a folder with files has the other name: another program was faster. `Missing` where there is no such
-/// folder, `Unreadable` where it can't be renamed, `NotKept` where the device fails, `NoMemory` where the system has
-/// none.
+/// `InUse` if a folder with files has the name `to`: another program was faster. `Missing` if there is no folder
+/// `from`, `Unreadable` if it can't be renamed, `NotKept` if the device fails, `NoMemory` if the system is out of
+/// memory.
 pub fn rename_folder<R: Files<File = File>>(
     rt: &R,
     from: &str,
@@ -48,12 +48,12 @@ pub fn rename_folder<R: Files<File = File>>(
     sync_folder(rt, folder_of(to))
 }
 
-/// Brings the names that a folder holds to its device: after it, a file that was made in the folder or renamed there is
-/// found under its name whatever crash comes.
+/// Syncs the names in `folder` to its device. After it, a file that was created or renamed in the folder is found under
+/// its name whatever crash comes.
 ///
 /// # Errors
-/// `Missing` and `Unreadable` where the folder can't be opened, `NotKept` where its device fails, `NoMemory` where the
-/// system has none.
+/// `Missing` and `Unreadable` if the folder can't be opened, `NotKept` if its device fails, `NoMemory` if the system is
+/// out of memory.
 pub fn sync_folder<R: Files<File = File>>(rt: &R, folder: &str) -> Result<(), FileDiskError> {
     let mut options = OpenOptions::new();
     options.read(true);
@@ -67,7 +67,7 @@ pub fn sync_folder<R: Files<File = File>>(rt: &R, folder: &str) -> Result<(), Fi
     }
 }
 
-/// The folder that names the file or folder of a path.
+/// Returns the folder that holds the file or folder at `path`.
 pub(crate) fn folder_of(path: &str) -> &str {
     match Path::new(path).parent() {
         Some(folder) => {

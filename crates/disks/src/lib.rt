@@ -1,8 +1,8 @@
 //! Disks in memory and in files.
 //!
-//! A [`MemDisk`] is bytes in memory. Its faults are planned: a write or sync from which on it fails until it is opened
-//! again, and what the crash then leaves of the ranges that were written and not kept ([`Tear`]); or a read that fails
-//! once. So a test can stop a program at each call of a device.
+//! A [`MemDisk`] is bytes in memory. Its faults are planned. From a given write or sync on, all of these fail until the
+//! disk is reopened, and the plan says what the crash then leaves of the ranges that were written and not kept
+//! ([`Tear`]). Or one read fails once. So a test can stop a program at each call of a device.
 //!
 //! ```text
 //! let mut disk = MemDisk::new(alloc);
@@ -12,8 +12,8 @@
 //! disk.reopen();                     // holds what the crash left
 //! ```
 //!
-//! A [`FileDisk`] keeps its bytes in a file, and a mirror of them in memory. A [`Pair`] is the two of a journal. Two
-//! files that are to be there both or not at all are made in a folder that then gets its name:
+//! A [`FileDisk`] keeps its bytes in a file, and a mirror of them in memory. A [`Pair`] is the two disks of a journal.
+//! Two files that must appear together or not at all are created in a folder, which is then renamed:
 //!
 //! ```text
 //! make_folder(rt, "bot/new")?;

@@ -15,18 +15,19 @@ use std::marker::Model;
 use std::mem;
 use storage::{Disk, DiskFault, History};
 
-/// A disk in memory. It fails where that is planned, and a crash leaves what is planned of the writes that weren't kept.
+/// A disk in memory. It fails when a plan says so, and a crash leaves what the plan says of the writes that weren't
+/// kept.
 pub struct MemDisk {
     /// What a read gives.
     content: Vec<u8>,
     /// What a crash leaves.
     torn: Vec<u8>,
-    /// As many first bytes are the same in both.
+    /// How many first bytes are the same in both.
     same: usize,
     tear: Tear,
-    /// How many more writes and syncs work, where a fault is planned.
+    /// How many more writes and syncs work, if a fault is planned.
     works: Option<u64>,
-    /// How many more reads work, where a fault of one is planned.
+    /// How many more reads work, if a fault of one is planned.
     reads: Option<u64>,
     failures: u64,
     history: History,
@@ -68,7 +69,7 @@ impl Model for MemDisk {
 }
 
 impl MemDisk {
-    /// An empty disk, which grows on this allocator. Takes no memory.
+    /// Creates an empty disk, which grows on `alloc`. Allocates nothing.
     pub fn new(alloc: Global) -> MemDisk
         ensures { result ≡ empty }
     {
@@ -84,10 +85,10 @@ impl MemDisk {
         }
     }
 
-    /// A disk that holds these bytes, with nothing pending.
+    /// Creates a disk that holds `content`, with nothing pending.
     ///
     /// # Errors
-    /// `NoMemory` where room for a copy is refused: never where there are no bytes.
+    /// `NoMemory` if it cannot allocate room for a copy; never if `content` is empty.
     pub fn holding(alloc: Global, content: Vec<u8>) -> Result<MemDisk, NoMemory>
         ensures events { IfOk result (λ disk. disk.events ≡ []) }
         ensures content { IfOk result (λ disk. disk.content ≡ content.items) }
@@ -110,9 +111,9 @@ impl MemDisk {
         })
     }
 
-    /// Plans a crash: of the writes and syncs from now on the stated one (from 1) and all later ones fail, until
-    /// `reopen`; that then leaves `tear` in the ranges that were written and not kept, a failed write's among them.
-    /// Call it with nothing pending.
+    /// Plans a crash. The write or sync with the number `fail_at` (counted from 1, from now on) and all later ones fail
+    /// until `reopen`, which then leaves `tear` in the ranges that were written and not kept, those of failed writes
+    /// among them. Call it with nothing pending.
     pub fn plan(&mut self, fail_at: u64, tear: Tear)
         requires { 0 < fail_at }
         ensures { self.new ≡ with_plan (with_crash fail_at tear self.old.plan) self.old }
@@ -121,7 +122,8 @@ impl MemDisk {
         self.tear = tear;
     }
 
-    /// Plans that the stated read (from 1) from now on fails, once, whatever `reopen` does between.
+    /// Plans that the read with the number `fail_at` (counted from 1, from now on) fails, once, even if `reopen` comes
+    /// before it.
     pub fn plan_read(&mut self, fail_at: u64)
         requires { 0 < fail_at }
         ensures { self.new ≡ with_plan (with_read fail_at self.old.plan) self.old }
@@ -129,7 +131,7 @@ impl MemDisk {
         self.reads = Some(fail_at - 1);
     }
 
-    /// Opens the disk again where nothing that was written is lost. It ends no plan.
+    /// Reopens the disk when nothing that was written is lost. It ends no plan.
     pub(crate) fn reopen_kept(&mut self)
         ensures same { SameBytes (state_of self.old) (state_of self.new) }
         ensures settled { IsSettled (state_of self.new) }
@@ -162,7 +164,7 @@ impl Disk for MemDisk {
         self.failures
     }
 
-    /// A read fails exactly where that is planned.
+    /// A read fails exactly when that is planned.
     fn read(&mut self, at: usize, buf: &mut [u8]) -> Result<usize, DiskFault>
         ensures count { IfOk result (λ n. n ≡ read_count (state_of self.old).seen at (length buf.old)) }
         ensures bytes { IfOk result (λ n. buf.new ≡ take n (drop at (state_of self.old).seen) ++ drop n buf.old) }
@@ -182,7 +184,7 @@ impl Disk for MemDisk {
         Ok(read_from(&self.content, at, buf))
     }
 
-    /// It takes no memory where there is room up to that end.
+    /// Allocates nothing if there is room up to `end` already.
     fn reserve(&mut self, end: usize, calls: usize) -> Result<(), NoMemory>
         ensures calls { OnOk result (calls ≤ (state_of self.new).calls) }
         ensures end { OnOk result (end ≤ (state_of self.new).end) }
@@ -199,7 +201,7 @@ impl Disk for MemDisk {
         make_room(&mut self.torn, end)
     }
 
-    /// A write fails exactly where that is planned. Until it is kept the crash leaves the planned tear of it.
+    /// A write fails exactly when that is planned. Until it is kept, a crash leaves the planned tear of it.
     fn write_at(&mut self, at: usize, bytes: &[u8]) -> Result<(), DiskFault>
         requires inside { at ≤ length (state_of self.old).seen }
         requires room { at + length bytes.now ≤ (state_of self.old).end }
@@ -226,7 +228,7 @@ impl Disk for MemDisk {
         Ok(())
     }
 
-    /// A sync fails exactly where that is planned. After one that works a crash leaves what a read gives.
+    /// A sync fails exactly when that is planned. After one that works, a crash leaves what a read gives.
     fn sync(&mut self) -> Result<(), DiskFault>
         requires { 0 < (state_of self.old).calls }
         ensures settled { OnOk result (IsSettled (state_of self.new)) }
@@ -250,7 +252,7 @@ impl Disk for MemDisk {
         Ok(())
     }
 
-    /// The planned crash: it ends the plan of a write or sync, not that of a read.
+    /// Performs the planned crash. It ends the plan of a write or sync, but not that of a read.
     fn reopen(&mut self)
         ensures left { may_leave (state_of self.old) (state_of self.new).seen }
         ensures settled { IsSettled (state_of self.new) }

@@ -8,7 +8,7 @@ use std::fs::File;
 use std::rt::Files;
 use storage::Disk;
 
-/// The two disks of a journal, in the order in which it is given them.
+/// The two disks of a journal, in the order in which the journal takes them.
 #[derive(Drop)]
 pub struct Pair {
     pub first: FileDisk,
@@ -16,10 +16,10 @@ pub struct Pair {
 }
 
 impl Pair {
-    /// The disks in the files at two paths, which have to be there.
+    /// Opens the disks in the files at the paths `first` and `second`, which must exist.
     ///
     /// # Errors
-    /// As of `FileDisk::open`.
+    /// As for `FileDisk::open`.
     pub fn open<R: AllocGlobal + Files<File = File>>(
         rt: &R,
         first: &str,
@@ -33,11 +33,11 @@ impl Pair {
         Ok(Pair { first, second })
     }
 
-    /// The disks in the files at two paths, which are made where they are missing.
+    /// Opens the disks in the files at the paths `first` and `second`, and creates the files that are missing.
     ///
     /// # Errors
-    /// `Missing` where one alone is missing and the other one holds something: a journal is on two files. Else as of
-    /// `FileDisk::make`.
+    /// `Missing` if only one file is missing and the other one holds something: a journal needs both files. Otherwise
+    /// as for `FileDisk::make`.
     pub fn make<R: AllocGlobal + Files<File = File>>(
         rt: &R,
         first: &str,
@@ -67,7 +67,7 @@ impl Pair {
     }
 }
 
-/// The disk in the file at a path, where there is one.
+/// Opens the disk in the file at `path`, if there is one.
 fn found<R: AllocGlobal + Files<File = File>>(
     rt: &R,
     path: &str,
@@ -81,7 +81,7 @@ fn found<R: AllocGlobal + Files<File = File>>(
     }
 }
 
-/// A new file's disk beside an empty one.
+/// Creates a disk in a new file at `path`, if `other` is empty.
 fn make_beside<R: AllocGlobal + Files<File = File>>(
     rt: &R,
     path: &str,

@@ -9,15 +9,15 @@ use crate::bytes::{fill, put};
 /// What a crash leaves in the ranges that were written and not kept.
 #[derive(Clone, Copy, Debug, PartialEq, Eq)]
 pub enum Tear {
-    /// What was there before: none of the writes counts.
+    /// What was there before the writes: none of them counts.
     Old,
     /// What was written.
     New,
-    /// This byte all over.
+    /// This byte in the whole range.
     Fill(u8),
 }
 
-/// Makes an image what a crash leaves of it after a write.
+/// Changes `image` to what a crash leaves of it after a write of `text` at the offset `at`.
 pub(crate) fn tear_range(image: &mut Vec<u8>, tear: Tear, at: usize, text: &[u8])
     requires { at + length text.now ≤ vec_capacity image.old }
     ensures torn { Torn at (length text.now) image.old.items image.new.items }

@@ -1,4 +1,4 @@
-// A file, and what it was told.
+// A file, and a record of what was written to it.
 ghost use Rattle.std.specs.Prelude.{◌≡◌, ◌≤ℤ◌, pos, IfOk, OnOk, IsTrue};
 ghost use Rattle.std.specs.Fd.{file_raw_fd};
 ghost use Rattle.storage.specs.Calls.{Holds};
@@ -16,13 +16,13 @@ use storage::{DiskFault, History};
 /// The first descriptor that belongs to none of the standard streams.
 const FIRST_OWN: i32 = 3;
 
-/// A locked file, and for contracts what it was told.
+/// A locked file, and for contracts what was written to it.
 ///
-/// The calls of the system stand here alone. A clause says what the system answered; that a file holds what was written
-/// to it, and keeps what was brought to its device, is assumed.
+/// All calls of the system stand here. A clause says what the system reported; that a file holds what was written to
+/// it, and keeps what was synced to its device, is assumed.
 pub(crate) struct ToldFile {
     file: File,
-    /// What was found in it, for contracts alone.
+    /// What was found in the file, for contracts alone.
     found: Snapshot<Vec<u8>>,
     /// What was written since, for contracts alone.
     written: History,
@@ -59,14 +59,14 @@ impl Model for ToldFile {
 }
 
 impl ToldFile {
-    /// Takes an open file: locks it, reads it, writes what was read once more, and brings that to its device.
+    /// Takes over the open `file`: locks it, reads it, writes its content again, and syncs that to the device.
     ///
-    /// It is written once more since a process before may have seen a sync fail: the system then takes what was written
-    /// for kept, though the device lacks it, and a further sync succeeds.
+    /// The content is written again because an earlier process may have seen a sync fail. After that the system counts
+    /// what was written as kept although the device lacks it, and another sync succeeds.
     ///
     /// # Errors
-    /// `InUse`, `Unreadable` and `NotKept` as they say; `NoMemory` where room for what the file holds is refused, or
-    /// the system has none.
+    /// `InUse`, `Unreadable` and `NotKept` as they say; `NoMemory` if it cannot allocate room for the file's content,
+    /// or the system is out of memory.
     pub(crate) fn open(alloc: Global, file: File) -> Result<(ToldFile, Vec<u8>), FileDiskError>
         ensures holds { IfOk result (λ opened. opened.0.holds ≡ opened.1.items) }
         ensures kept { IfOk result (λ opened. IsTrue opened.0.kept) }
@@ -85,7 +85,7 @@ impl ToldFile {
         Ok((opened, bytes))
     }
 
-    /// Writes a text at an offset.
+    /// Writes `text` at the offset `at`.
     pub(crate) fn write_at(&mut self, at: usize, text: &[u8]) -> Result<(), DiskFault>
         ensures written { OnOk result (Holds self.old.holds at text.now self.new.holds) }
     {
@@ -99,7 +99,7 @@ impl ToldFile {
         }
     }
 
-    /// Brings what was written to its device.
+    /// Syncs what was written to the device.
     pub(crate) fn sync(&mut self) -> Result<(), DiskFault>
         ensures same { self.new.holds ≡ self.old.holds }
         ensures kept { OnOk result (IsTrue self.new.kept) }
@@ -114,8 +114,8 @@ impl ToldFile {
     }
 }
 
-/// The file under a descriptor that is no standard stream's. A program that is started with one of its streams closed
-/// gets that one's number for the next file that it opens, and what it prints would go over what the file holds.
+/// Moves the file to a descriptor that no standard stream uses. A program started with one of its streams closed gets
+/// that stream's number for the next file that it opens, and what it prints would overwrite the file.
 fn under_own_descriptor(file: File) -> Result<File, FileDiskError>
     ensures { IfOk result (λ file. pos 3 ≤ℤ file_raw_fd file) }
 {
@@ -134,7 +134,7 @@ fn under_own_descriptor(file: File) -> Result<File, FileDiskError>
     }
 }
 
-/// Takes a file's lock.
+/// Locks a file.
 fn lock(file: &File) -> Result<(), FileDiskError> {
     match file.try_lock() {
         Ok(()) => Ok(()),
@@ -143,7 +143,7 @@ fn lock(file: &File) -> Result<(), FileDiskError> {
     }
 }
 
-/// What a file holds.
+/// Reads a file's content.
 fn read_file(alloc: Global, file: &File) -> Result<Vec<u8>, FileDiskError> {
     let len = match file.metadata() {
         Ok(metadata) => metadata.len() as usize,
@@ -156,7 +156,7 @@ fn read_file(alloc: Global, file: &File) -> Result<Vec<u8>, FileDiskError> {
     }
 }
 
-/// Writes what a file holds once more, and brings it to its device.
+/// Writes a file's content again, and syncs it to its device.
 fn keep_again(file: &File, bytes: &[u8]) -> Result<(), FileDiskError> {
     match file.write_all_at(bytes, 0) {
         Ok(()) => {}

@@ -13,7 +13,8 @@ use std::str;
 use std::time::Clock;
 use streams::{Duplex, ReadError, read_up_to};
 
-/// Runs the bot of a configuration file, until it is told to end.
+/// Runs the bot of the configuration file `file`, with the procs in `store`, until it is asked to end. Returns the exit
+/// status.
 pub fn run_file<
     R: Print + Eprint + AllocGlobal + Net + Clock + Files<File = File> + RandomSource,
     B: Run,
@@ -28,7 +29,8 @@ pub fn run_file<
     }
 }
 
-/// Says whether a bot can run by a configuration file. Nothing else is opened.
+/// Says whether a bot can run by the configuration file `file`, with the procs in `store`. Opens nothing else. Returns
+/// the exit status.
 pub fn check_file<R: Eprint + AllocGlobal + Files<File = File>, B: Run>(
     rt: &R,
     store: &ProcStore<Ours, B>,
@@ -44,7 +46,7 @@ pub fn check_file<R: Eprint + AllocGlobal + Files<File = File>, B: Run>(
     }
 }
 
-// What a configuration file says, or the status after what is wrong with it was told.
+// What a configuration file says. If something is wrong with it, reports that and returns the status.
 fn settings_of<R: Eprint + AllocGlobal + Files<File = File>>(
     rt: &R,
     file: &str,
@@ -69,7 +71,7 @@ fn settings_of<R: Eprint + AllocGlobal + Files<File = File>>(
     }
 }
 
-// The bytes of a file, and one more than a configuration may have at most.
+// The bytes of a file, at most one more than a configuration may have.
 fn bytes_of<R: AllocGlobal + Files<File = File>>(rt: &R, file: &str) -> Result<Vec<u8>, ReadError> {
     let Ok(opened) = File::open(rt, file) else {
         return Err(ReadError::Fault);
@@ -78,7 +80,7 @@ fn bytes_of<R: AllocGlobal + Files<File = File>>(rt: &R, file: &str) -> Result<V
     read_up_to(rt.alloc(), &mut stream, MAX_FILE + 1)
 }
 
-// Tells why a bot does not run, or runs no longer.
+// Reports why a bot does not run, or no longer runs.
 fn told<R: Eprint>(rt: &R, file: &str, settings: &Settings, error: RunError) -> u8 {
     let folder = str::from_utf8(settings.folder.as_bytes()).unwrap_or("the folder");
     let _told = match error.subject() {

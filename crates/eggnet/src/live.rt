@@ -7,7 +7,7 @@ use std::io;
 use std::net::Net;
 use streams::Duplex;
 
-/// Plays the live script on standard input.
+/// Plays the live script on standard input, with the procs in `store`. Returns the exit status.
 pub fn live_script<R: Input + Print + Eprint + AllocGlobal + Net, B: Run>(
     rt: &R,
     store: ProcStore<Ours, B>,
@@ -19,7 +19,7 @@ pub fn live_script<R: Input + Print + Eprint + AllocGlobal + Net, B: Run>(
     }
 }
 
-// Tells why a live botnet ended early.
+// Reports why a live botnet ended early.
 fn live_told<R: Eprint>(rt: &R, error: LiveError) -> u8 {
     let status = match error {
         LiveError::Script(_) => FAULT,

@@ -1,22 +1,23 @@
 //! Bots of IRC that share a userfile: each as a process of its own, and nets of them for trying things out.
 //!
-//! `eggnet run CONFIG` is the bot of a configuration file, until it is told to end. `eggnet check CONFIG` reads the file
-//! and ends; nothing is opened. `eggnet tell FOLDER WORDS..` gives a command to the bot that runs on this folder, and
-//! prints its answer. `eggnet show FOLDER` prints the version and the records of a bot, whether it runs or not.
+//! `eggnet run CONFIG` runs the bot of a configuration file, until it is asked to end. `eggnet check CONFIG` reads the
+//! file and ends; it opens nothing else. `eggnet tell FOLDER WORDS..` gives a command to the bot that runs on this
+//! folder, and prints its answer. `eggnet show FOLDER` prints the version and the records of a bot, whether it runs or
+//! not.
 //!
-//! `eggnet replay` reads a script, on standard input or in a file that is named, does its commands with a botnet in
-//! memory, and prints the transcript. `eggnet picture` draws such a script's run, as SVG. `eggnet live` reads a live
-//! script on standard input, and does its commands with a server, a hub and leaves that talk over sockets of this
-//! machine. It prints what the script has shown and what its guests have heard. `eggnet serve PORT` keeps a small IRC
-//! server running on this machine, for other programs. It prints the port, which the system chooses where PORT is 0, and
-//! then serves until it is ended.
+//! `eggnet replay` reads a script from standard input or a named file, runs its commands with a botnet in memory, and
+//! prints the transcript. `eggnet picture` draws such a script's run, as SVG. `eggnet live` reads a live script from
+//! standard input, and runs its commands with a server, a hub and leaves that talk over sockets of this machine. It
+//! prints what the script has shown and what its guests have heard. `eggnet serve PORT` runs a small IRC server on this
+//! machine, for other programs. It prints the port, which the system chooses if PORT is 0, and then serves until it is
+//! ended.
 //!
 //! Binds may call the procs of `eggprocs`, whose first page lists them.
 //!
-//! It ends with status 0 when all is done; 1 for a faulty configuration, another bot's journal, a command that a bot
-//! refuses or does not understand, and a script that breaks a rule; 2 for a command line that is not understood; 3 where
-//! reading, writing, a folder, a disk or a socket fails, where no bot runs, and where a live botnet stalls; 4 where
-//! memory runs out. Standard error says which.
+//! The program ends with status 0 when all is done; 1 for a faulty configuration, another bot's journal, a command that
+//! a bot refuses or does not understand, and a script that breaks a rule; 2 for a command line that is not understood;
+//! 3 if reading, writing, a folder, a disk or a socket fails, if no bot runs, or if a live botnet stalls; 4 if memory
+//! runs out. Standard error says which.
 #![tactic(auto)]
 
 mod configuration;

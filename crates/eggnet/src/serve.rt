@@ -10,14 +10,14 @@ use std::io::ErrorKind;
 use std::net::Net;
 use std::time::Clock;
 
-// How long it waits for sockets at most after a turn in which nothing moved, in milliseconds: then it looks at the clock.
+// The longest wait for sockets after a turn in which nothing moved, in milliseconds; then it looks at the clock.
 const REST: u64 = 1_000;
 
-// Why it serves no longer.
+// Why it no longer serves.
 enum ServeError {
-    // The port can't be listened on, or no socket waited for.
+    // The port can't be listened on, or the wait for sockets failed.
     Socket(SocketFault),
-    // The port can't be told on standard output.
+    // The port can't be written to standard output.
     Write,
     // Memory ran out.
     NoMemory,
@@ -38,8 +38,8 @@ impl From<NoMemory> for ServeError {
     }
 }
 
-/// Listens on this port of 127.0.0.1, or where it is 0 on one that the system chooses, prints the port, and serves until
-/// that can't go on.
+/// Listens on `port` of 127.0.0.1, or if it is 0 on one that the system chooses. Prints the port, and serves until that
+/// can't go on. Returns the exit status.
 pub fn serve_port<R: Print + Eprint + AllocGlobal + Net + Clock>(rt: &R, port: u16) -> u8 {
     match serve(rt, port) {
         Ok(()) => 0,
@@ -71,7 +71,8 @@ fn serve<R: Net + Clock + Print + AllocGlobal>(rt: &R, port: u16) -> Result<(), 
     Ok(())
 }
 
-// Lets in who waits, hears everyone, sends what is to be sent, and lets go who is gone. Whether anything moved.
+// Accepts waiting guests, hears all of them, sends what is queued, and drops those who are gone. Returns whether
+// anything moved.
 fn turn(alloc: Global, house: &mut House) -> Result<bool, NoMemory> {
     let came = house.let_in(alloc)?;
     let heard = house.read()?;

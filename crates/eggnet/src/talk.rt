@@ -10,7 +10,7 @@ use std::rt::Files;
 use std::time::Clock;
 use streams::{Duplex, WriteFault, write_out};
 
-/// Tells the bot that runs on a folder a line, and prints what it answers.
+/// Sends `line` to the bot that runs on `folder`, and prints what it answers. Returns the exit status.
 pub fn tell_folder<R: Input + Print + Eprint + AllocGlobal + Net + Clock>(
     rt: &R,
     folder: &str,
@@ -29,7 +29,7 @@ pub fn tell_folder<R: Input + Print + Eprint + AllocGlobal + Net + Clock>(
     }
 }
 
-/// Prints the version and the records of the bot of a folder.
+/// Prints the version and the records of the bot of `folder`. Returns the exit status.
 pub fn show_folder<R: Input + Print + Eprint + AllocGlobal + Net + Clock + Files<File = File>>(
     rt: &R,
     folder: &str,
@@ -40,7 +40,7 @@ pub fn show_folder<R: Input + Print + Eprint + AllocGlobal + Net + Clock + Files
     }
 }
 
-// Prints a text, and answers this status where it could be printed.
+// Prints a text, and returns `status` if it could be printed.
 fn printed<R: Input + Print + Eprint>(rt: &R, text: &[u8], status: u8) -> u8 {
     let mut stream = Duplex::new(rt.reader(), io::writer(rt));
     match write_out(&mut stream, text) {
@@ -49,7 +49,7 @@ fn printed<R: Input + Print + Eprint>(rt: &R, text: &[u8], status: u8) -> u8 {
     }
 }
 
-// Tells why a bot was not asked or did not answer.
+// Reports why a bot was not asked or did not answer.
 fn not_asked<R: Eprint>(rt: &R, folder: &str, error: AskError) -> u8 {
     let fault = match error {
         Failure::Refused(fault) => fault,

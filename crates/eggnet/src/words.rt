@@ -10,25 +10,25 @@ const VERSION: &str = "0.1.0";
 /// What the program is to do.
 #[derive(Drop)]
 pub enum Task<'a> {
-    /// The script in this file, or else on standard input, is to be replayed.
+    /// Replay the script in this file, or else on standard input.
     Replay(Option<&'a str>),
-    /// The run of the script in this file, or else on standard input, is to be drawn.
+    /// Draw the run of the script in this file, or else on standard input.
     Picture(Option<&'a str>),
-    /// The live script on standard input is to be played.
+    /// Play the live script on standard input.
     Live,
-    /// The small server is to listen on this port.
+    /// Listen on this port with the small server.
     Serve(u16),
-    /// The bot of this configuration file is to run.
+    /// Run the bot of this configuration file.
     Run(&'a str),
-    /// This configuration file is to be read.
+    /// Check this configuration file.
     Check(&'a str),
-    /// The bot of this folder is to be told this line.
+    /// Send this line to the bot of this folder.
     Tell(&'a str, Vec<u8>),
-    /// The records of this folder's bot are to be printed.
+    /// Print the version and the records of this folder's bot.
     Show(&'a str),
 }
 
-/// Prints what clap says of a command line that it doesn't take, or its help, or the version.
+/// Prints `error`: what clap says of a command line that it rejects, its help, or the version. Returns the exit status.
 pub fn refused<R: Print + Eprint>(rt: &R, error: &Error) -> u8 {
     if error.kind() == ErrorKind::OutOfMemory {
         return out_of_memory(rt);
@@ -43,10 +43,10 @@ pub fn refused<R: Print + Eprint>(rt: &R, error: &Error) -> u8 {
     }
 }
 
-/// What the words after the program's name ask for.
+/// Returns the task that `words` ask for. The first of them is the program's name.
 ///
 /// # Errors
-/// Clap's, and where memory is refused.
+/// Those of clap, which also has one for a failed allocation.
 pub fn task_of<'a>(alloc: Global, words: &'a [String]) -> Result<Task<'a>, Error> {
     let matches = command(alloc)?.try_get_matches_from(words)?;
     match matches.subcommand() {

@@ -3,22 +3,22 @@ use Rattle.std.specs.Prelude.{ℕ, ◌-◌, ◌==◌, not, Bool, List, [], lengt
 use Rattle.chanstate.specs.Speech.{first_word}
 use Rattle.procstore.specs.declared.call.Call.{Call}
 
--- the argument at a place, and the empty text where there is none
+-- the argument at a place, or the empty text if there is none
 abbrev pub arg_at : List (List ℕ) → ℕ → List ℕ
 arg_at args place = unwrap_or (slice_get args place) []
 
--- the last argument, and the empty text where there is none
+-- the last argument, or the empty text if there is none
 abbrev pub last_of : List (List ℕ) → List ℕ
 last_of args = unwrap_or (slice_get args (length args - 1)) []
 
--- who says or does something: the nick, and the handle
+-- the caller, who says or does something: the nick, and the handle
 abbrev pub nick_of : Call → List ℕ
 nick_of call = arg_at call.args 0
 
 abbrev pub handle_of : Call → List ℕ
 handle_of call = arg_at call.args 2
 
--- the channel of what is said or done there, and what is said there after the command's word
+-- the channel on which something is said or done, and what is said there after the command's word
 abbrev pub channel_of : Call → List ℕ
 channel_of call = arg_at call.args 3
 
@@ -29,7 +29,7 @@ said_of call = arg_at call.args 4
 abbrev pub timer_text : Call → List ℕ
 timer_text call = arg_at call.args 0
 
--- what is said to the bot after the command's word
+-- what the caller says to the bot after the command's word
 abbrev pub told_of : Call → List ℕ
 told_of call = arg_at call.args 3
 
@@ -37,6 +37,6 @@ told_of call = arg_at call.args 3
 abbrev pub has_word : List ℕ → Bool
 has_word text = not (length (first_word text) == 0)
 
--- a text, or another one where it is empty
+-- a text, or another one if it is empty
 abbrev pub or_else : List ℕ → List ℕ → List ℕ
 or_else text other = if length text == 0 then other else text

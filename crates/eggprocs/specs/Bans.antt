@@ -1,4 +1,4 @@
--- What `ban`, `unban` and `lift` ask for.
+-- What `ban`, `unban` and `lift` request.
 use Rattle.std.specs.Prelude.{ℕ, nat_lt, nat_le, ◌==◌, ◌*◌, ◌&&◌, List, [], ◌∷◌, ◌++◌, take, min, length, Bool, if◌then◌else◌, codes, Option, Some, None}
 use Rattle.bytetext.specs.declared.moment.TheConstants.{MOMENTS_END}
 use Rattle.scriptwords.specs.Words.{number_below}
@@ -28,7 +28,7 @@ mask_of call = first_word (said_of call)
 abbrev pub minutes_in : List ℕ → Option ℕ
 minutes_in text = number_below 4294967296 (first_word text)
 
--- a text as far as a ban takes it for a comment
+-- a text, cut to the length of a ban's comment
 abbrev pub short : List ℕ → List ℕ
 short text = take (min (length text) MAX_COMMENT) text
 
@@ -37,7 +37,7 @@ abbrev pub comment_after : Option ℕ → List ℕ → List ℕ
 comment_after None text = short text
 comment_after (Some minutes) text = short (after_word text)
 
--- when a ban ends: so many minutes on, and never where these or the second are not known
+-- when a ban ends: this number of minutes after the second; never if either is not known
 abbrev pub end_of : Option ℕ → Option ℕ → ℕ
 end_of None minutes = 0
 end_of (Some second) None = 0
@@ -53,12 +53,12 @@ ban_of call seen = ban_in call seen.second (after_word (said_of call))
 
 -- ---- its end on the channel
 
--- a call of `lift` so much later, with the channel and the mask
+-- a call of `lift` with the channel and the mask, after this interval
 abbrev pub lift_wish : Call → ℕ → TimerWish
 lift_wish call interval =
     record { interval = interval; count = 1; proc = codes "lift"; text = channel_of call ++ codes " " ++ mask_of call }
 
--- by seconds, or by minutes where these are more than a utimer counts
+-- in seconds, or in minutes if there are more than a utimer counts
 abbrev pub lift_after : Call → ℕ → Action
 lift_after call minutes =
     if nat_le minutes UTIMER_MINUTES then Utimer (lift_wish call (minutes * 60)) else Timer (lift_wish call minutes)
@@ -72,27 +72,27 @@ abbrev pub and_then : Action → Action → Option Action → List Action
 and_then first second None = first ∷ second ∷ []
 and_then first second (Some third) = first ∷ second ∷ third ∷ []
 
--- ---- what is asked for
+-- ---- what is requested
 
--- a mode of the mask on the channel
+-- a mode on the channel with the command's mask
 abbrev pub mode_of : List ℕ → Call → Action
 mode_of sign call = put mode_queue (mode (channel_of call) sign (mask_of call))
 
--- what `ban` asks for: the ban in the userfile, and on the channel, and there its end
+-- what `ban` requests: the ban in the userfile, the ban on the channel, and later its end there
 abbrev pub asked_by_ban : Bool → Call → Seen → List Action
 asked_by_ban may call seen =
     if may && is_hostmask (mask_of call)
     then and_then (Ask (ban_of call seen)) (mode_of (codes "+b") call) (lift_of call (minutes_in (after_word (said_of call))))
     else []
 
--- what `unban` asks for: that it goes from both
+-- what `unban` requests: the end of the ban in the userfile and on the channel
 abbrev pub asked_by_unban : Bool → Call → List Action
 asked_by_unban may call =
     if may && is_hostmask (mask_of call)
     then Ask (DelBan (channel_of call) (mask_of call)) ∷ mode_of (codes "-b") call ∷ []
     else []
 
--- what `lift` asks for, with a timer's text of a channel and a mask: that the ban goes from the channel
+-- what `lift` requests, for a timer's text of a channel and a mask: the end of the ban on the channel
 abbrev pub asked_by_lift : Call → Seen → List Action
 asked_by_lift call seen =
     if is_timer call.kind && (is_op_of (first_word (timer_text call)) seen && has_word (after_word (timer_text call)))

@@ -1,4 +1,4 @@
--- What the procs ask for that look at nothing but their call.
+-- What the procs request that use nothing but their call.
 use Rattle.std.specs.Prelude.{ℕ, List, [], ◌∷◌, Bool, true, false, if◌then◌else◌, codes, Option, Some, None}
 use Rattle.userfile.specs.declared.change.Change.TheVariants.{AddUser}
 use Rattle.outqueue.specs.declared.queue.Queue.TheVariants.{Help}
@@ -11,7 +11,7 @@ use Rattle.procstore.specs.declared.kind.Kind.TheVariants.{Bot, Time, Cron, Time
 use Rattle.eggprocs.specs.Args.{arg_at, last_of}
 use Rattle.eggprocs.specs.Lines.{privmsg}
 
--- kinds whose last argument is what stands behind a first word
+-- the kinds whose last argument is the text after a first word
 abbrev pub is_command : Kind → Bool
 is_command Msg = true
 is_command Pub = true
@@ -31,19 +31,19 @@ is_command Time = false
 is_command Cron = false
 is_command Timer = false
 
--- what `adduser` asks for: a user whose handle is the text
+-- what `adduser` requests: a user whose handle is the text
 abbrev pub asked_by_adduser : Call → List Action
 asked_by_adduser call = if is_command call.kind then Ask (AddUser (last_of call.args)) ∷ [] else []
 
--- what `tick` asks for, whatever it is called for: a call of `quiet` ten seconds on, once, with an empty text
+-- what `tick` requests, whatever event calls it: one call of `quiet` after ten seconds, with an empty text
 abbrev pub asked_by_tick : List Action
 asked_by_tick = Utimer (record { interval = 10; count = 1; proc = codes "quiet"; text = [] }) ∷ []
 
--- what `tell` asks for: that the hub is told the text
+-- what `tell` requests: that the bot sends the text to the hub
 abbrev pub asked_by_tell : Call → List Action
 asked_by_tell call = if is_command call.kind then SendBot (record { to = 0; text = last_of call.args }) ∷ [] else []
 
--- where what is said is said again: on its channel, or to the nick that said it privately
+-- which argument says where to repeat a text: its channel, or the nick that said it privately
 abbrev pub place_of : Kind → Option ℕ
 place_of Pub = Some 3
 place_of Pubm = Some 3
@@ -63,7 +63,7 @@ place_of Time = None
 place_of Cron = None
 place_of Timer = None
 
--- what `echo` asks for: that the text is said again
+-- what `echo` requests: that the bot repeats the text
 abbrev pub asked_by_echo_at : Call → Option ℕ → List Action
 asked_by_echo_at call None = []
 asked_by_echo_at call (Some place) =

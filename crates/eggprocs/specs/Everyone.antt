@@ -1,4 +1,5 @@
--- What `opall` asks for: that those who are on a channel as the bot gets op get what `autoop` gives to who joins.
+-- What `opall` requests: when the bot gets op, the members of the channel get what `autoop` gives to a person who
+-- joins.
 use Rattle.std.specs.Prelude.{ℕ, not, ◌&&◌, ◌||◌, List, [], ◌∷◌, ◌++◌, take, Bool, if◌then◌else◌, codes, Option, Some, None}
 use Rattle.std.specs.List.{filter_map}
 use Rattle.std.specs.Option.{option_map}
@@ -19,7 +20,7 @@ use Rattle.eggprocs.specs.Channel.{put}
 use Rattle.eggprocs.specs.Lines.{mode, who}
 use Rattle.eggprocs.specs.Rights.{has_flag, is_join, is_mode}
 
--- ---- what it is called for
+-- ---- the events that call it
 
 -- the bot's own join
 abbrev pub is_own_join : Call → Seen → Bool
@@ -41,26 +42,26 @@ abbrev pub flags_of_member : Call → Seen → Member → PersonFlags
 flags_of_member call seen member =
     flags_of seen.sight.records.users (handle_of seen.sight.records.users (address_of member)) (channel_of call)
 
--- whether a member is left as it is: the bot itself, whom the mode makes op, and who is op already
+-- whether a member gets no mode: the bot itself, which the mode makes op, and a member who is op already
 abbrev pub is_left : Seen → Member → Bool
 is_left seen member = member.op || is_same member.nick seen.sight.channels.nick
 
--- op for the flag a, else voice for the flag g, unless it is there
+-- op for the flag a, else voice for the flag g unless the member has it
 abbrev pub change_lacked : Bool → PersonFlags → Option (List ℕ)
 change_lacked voiced flags =
     if has_flag AUTO_OP flags then Some (codes "+o") else (if has_flag AUTO_VOICE flags && not voiced then Some (codes "+v") else None)
 
--- what a member gets
+-- the change of mode for a member, if any
 abbrev pub change_of : Call → Seen → Member → Option (List ℕ)
 change_of call seen member = if is_left seen member then None else change_lacked member.voice (flags_of_member call seen member)
 
 abbrev pub mode_for : Call → Seen → Member → Option Action
 mode_for call seen member = option_map (λ change. put mode_queue (mode (channel_of call) change member.nick)) (change_of call seen member)
 
--- ---- what is asked for
+-- ---- what is requested
 
--- as the bot joins, who is there, since the server names hosts only to who asks; as it gets op, these modes for the first
--- eight members who lack one, in the order in which they came
+-- When the bot joins, a list of the members, since the server sends hosts only on request. When it gets op, these modes
+-- for the first eight members that lack one, in the order in which they came.
 abbrev pub asked_by_opall : Call → Seen → List Action
 asked_by_opall call seen =
     if is_own_join call seen then put Server (who (channel_of call)) ∷ []

@@ -1,4 +1,4 @@
--- What `info` and `greet` ask for, by the info lines of users.
+-- What `info` and `greet` request, given the info lines of users.
 use Rattle.std.specs.Prelude.{ℕ, ◌==◌, not, ◌&&◌, List, [], ◌∷◌, ◌++◌, length, if◌then◌else◌, codes}
 use Rattle.std.specs.Str.{bytes_eq}
 use Rattle.userfile.specs.declared.change.Change.{Change}
@@ -16,21 +16,22 @@ use Rattle.eggprocs.specs.Lines.{privmsg}
 use Rattle.eggprocs.specs.People.{told, asked_unless}
 use Rattle.eggprocs.specs.Rights.{is_join, is_msg}
 
--- the info line of who calls
+-- the info line of the caller
 abbrev pub info_by : Call → Seen → List ℕ
 info_by call seen = info_of seen.sight.records.users (handle_of call)
 
 -- ---- info
 
--- the info line that a text means: itself, and an empty one for the word none
+-- the info line that a text means: the text itself, or an empty one for the word none
 abbrev pub info_in : List ℕ → List ℕ
 info_in text = if bytes_eq text (codes "none") then [] else text
 
--- the change that a text means: of the info line of who calls
+-- the change that a text means: of the caller's info line
 abbrev pub set_by : Call → Change
 set_by call = SetInfo (handle_of call) (info_in (told_of call))
 
--- what `info` asks for of whom the userfile knows: to be told the own info line, or that it is what the text means
+-- what `info` requests for a caller whom the userfile knows: a NOTICE with the info line, or the change that the text
+-- means
 abbrev pub asked_by_known : Call → Seen → List Action
 asked_by_known call seen =
     if length (told_of call) == 0 then told call (or_else (info_by call seen) (codes "you have no info line")) ∷ []
@@ -48,7 +49,7 @@ asked_by_info call seen =
 abbrev pub greeting : List ℕ → List ℕ → List ℕ
 greeting nick info = codes "[" ++ nick ++ codes "] " ++ info
 
--- what `greet` asks for: that the info line of who joins is said on the channel, where there is one
+-- what `greet` requests: that the bot says on the channel the info line of the person who joins, if there is one
 abbrev pub asked_by_greet : Call → Seen → List Action
 asked_by_greet call seen =
     if is_join call.kind && not (length (info_by call seen) == 0)

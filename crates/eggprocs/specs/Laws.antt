@@ -1,4 +1,4 @@
--- Who gets nothing done.
+-- Laws of the procs: when nothing is done, and for whose call.
 use Rattle.std.specs.Prelude.{◌≡◌, ℕ, ◌&&◌, ◌||◌, Bool, true, false, List, [], None, codes}
 use Rattle.std.specs.List.{list_all, list_any}
 use Rattle.std.specs.Str.{bytes_eq}
@@ -24,29 +24,29 @@ use Rattle.eggprocs.specs.Procs.{ours}
 use Rattle.eggprocs.specs.Rights.{flags_by, has_flag, global_by, is_bot_op}
 use Rattle.eggprocs.specs.Whereabouts.{shared}
 
--- who calls has a flag neither everywhere nor on the call's channel
+-- the caller has a flag neither everywhere nor on the call's channel
 abbrev pub Lacks : ℕ → Call → Seen → Type 0
 Lacks letter call seen =
     (has_letter (flags_by call seen).global letter ≡ false) × (has_letter (flags_by call seen).chan letter ≡ false)
 
--- whatever the proc of this name answers, it asks for nothing
+-- whatever the proc of this name answers, it requests nothing
 abbrev pub DoesNothing : List ℕ → Call → Seen → Type 0
 DoesNothing name call seen = (reply : Reply) → IsKept ours name call seen reply → reply.actions ≡ []
 
--- a proc does nothing for who lacks this flag
+-- a proc does nothing for a caller who lacks this flag
 abbrev pub IsOnlyFor : ℕ → List ℕ → Type 0
 IsOnlyFor letter name = (call : Call) (seen : Seen) → Lacks letter call seen → DoesNothing name call seen
 
--- a proc does nothing for who lacks both these flags
+-- a proc does nothing for a caller who lacks both these flags
 abbrev pub IsOnlyForEither : ℕ → ℕ → List ℕ → Type 0
 IsOnlyForEither one other name =
     (call : Call) (seen : Seen) → Lacks one call seen → Lacks other call seen → DoesNothing name call seen
 
--- a proc does nothing where the bot is no operator of the call's channel
+-- a proc does nothing if the bot is no operator of the call's channel
 abbrev pub IsOnlyByOps : List ℕ → Type 0
 IsOnlyByOps name = (call : Call) (seen : Seen) → is_bot_op call seen ≡ false → DoesNothing name call seen
 
--- an action that asks for a change of the userfile
+-- an action that requests a change of the userfile
 abbrev pub is_ask : Action → Bool
 is_ask (Ask change) = true
 is_ask (Timer wish) = false
@@ -55,12 +55,12 @@ is_ask (KillTimer name) = false
 is_ask (SendBot wish) = false
 is_ask (Put wish) = false
 
--- whatever the proc of this name answers, it asks for no change
+-- whatever the proc of this name answers, it requests no change
 abbrev pub AsksNoChange : List ℕ → Call → Seen → Type 0
 AsksNoChange name call seen =
     (reply : Reply) → IsKept ours name call seen reply → list_any is_ask reply.actions ≡ false
 
--- an action that asks for a change that makes an owner, or is of one
+-- an action that requests a change that makes an owner or changes one
 abbrev pub is_ask_for_owners : Seen → Action → Bool
 is_ask_for_owners seen (Ask change) = is_for_owners change seen
 is_ask_for_owners seen (Timer wish) = false
@@ -69,13 +69,13 @@ is_ask_for_owners seen (KillTimer name) = false
 is_ask_for_owners seen (SendBot wish) = false
 is_ask_for_owners seen (Put wish) = false
 
--- a proc asks for no such change for who does not have n everywhere
+-- a proc requests no such change for a caller who does not have n everywhere
 abbrev pub SparesOwners : List ℕ → Type 0
 SparesOwners name =
     (call : Call) (seen : Seen) → has_letter (global_by call seen) OWNER ≡ false
     → (reply : Reply) → IsKept ours name call seen reply → list_any (is_ask_for_owners seen) reply.actions ≡ false
 
--- a proc asks for no change for who has neither m nor n everywhere
+-- a proc requests no change for a caller who has neither m nor n everywhere
 abbrev pub IsOnlyForMasters : List ℕ → Type 0
 IsOnlyForMasters name =
     (call : Call) (seen : Seen)
@@ -98,7 +98,7 @@ is_info_of handle (AddBan channel mask creator expires comment) = false
 is_info_of handle (DelBan channel mask) = false
 is_info_of handle (SetSticky channel mask on) = false
 
--- an action that asks for no change, or for one of the info line of who calls
+-- an action that requests no change, or one of the caller's info line
 abbrev pub is_own : Call → Action → Bool
 is_own call (Ask change) = is_info_of (handle_of call) change
 is_own call (Timer wish) = true
@@ -107,17 +107,17 @@ is_own call (KillTimer name) = true
 is_own call (SendBot wish) = true
 is_own call (Put wish) = true
 
--- whatever the proc of this name answers, it asks for no change but of the info line of who calls
+-- whatever the proc of this name answers, it requests no change except of the caller's info line
 abbrev pub ChangesOwnInfo : List ℕ → Type 0
 ChangesOwnInfo name =
     (call : Call) (seen : Seen) (reply : Reply) → IsKept ours name call seen reply → list_all (is_own call) reply.actions ≡ true
 
--- a proc asks for no change for who is not known
+-- a proc requests no change for a caller whom the userfile does not know
 abbrev pub IsOnlyForKnown : List ℕ → Type 0
 IsOnlyForKnown name =
     (call : Call) (seen : Seen) → user_of (handle_of call) seen.sight.records.users ≡ None → AsksNoChange name call seen
 
--- a proc does nothing for who has no info line
+-- a proc does nothing for a caller without an info line
 abbrev pub IsOnlyWithInfo : List ℕ → Type 0
 IsOnlyWithInfo name = (call : Call) (seen : Seen) → info_by call seen ≡ [] → DoesNothing name call seen
 
@@ -138,8 +138,8 @@ is_due_to call seen (SendBot wish) member = false
 abbrev pub is_due : Call → Seen → Action → Bool
 is_due call seen action = list_any (is_due_to call seen action) (members_in (channel_of call) seen.sight.channels)
 
--- save as the bot itself joins, whatever the proc of this name answers, it gives op and voice to members who have the flag, and does
--- nothing else
+-- except when the bot itself joins, whatever the proc of this name answers, it gives op and voice to members who have
+-- the flag, and does nothing else
 abbrev pub GivesWhatIsDue : List ℕ → Type 0
 GivesWhatIsDue name =
     (call : Call) (seen : Seen) → is_own_join call seen ≡ false
@@ -147,7 +147,8 @@ GivesWhatIsDue name =
 
 -- ---- where people are
 
--- to who shares no channel with the one who is asked for, a proc answers by the records, whatever else the channels hold
+-- if the caller shares no channel with the nick in question, a proc answers by the records alone, whatever else the
+-- channels hold
 abbrev pub KeepsChannelsApart : List ℕ → Type 0
 KeepsChannelsApart name =
     (call : Call) (one other : Seen) → one.sight.records ≡ other.sight.records → shared call one ≡ None → shared call other ≡ None

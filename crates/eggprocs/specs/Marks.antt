@@ -1,4 +1,4 @@
--- What `stick`, `unstick` and `bans` ask for.
+-- What `stick`, `unstick` and `bans` request.
 use Rattle.std.specs.Prelude.{ℕ, ◌-◌, Bool, true, false, List, [], ◌∷◌, ◌++◌, map, take, drop, if◌then◌else◌, unwrap_or, codes, Option, Some, None}
 use Rattle.scriptwords.specs.Words.{number_below}
 use Rattle.userfile.specs.declared.change.Change.{Change}
@@ -16,7 +16,7 @@ use Rattle.eggprocs.specs.People.{told, for_masters}
 
 -- ---- the changes that texts mean
 
--- MASK CHANNEL: of the ban of all channels where no channel is named
+-- MASK CHANNEL: of the ban on all channels if no channel is given
 abbrev pub marked : List ℕ → Bool → Option Change
 marked text on = if has_word text then Some (SetSticky (first_word (after_word text)) (first_word text) on) else None
 
@@ -40,16 +40,16 @@ ban_text ban = or_else ban.channel (codes "*") ++ codes " " ++ ban.mask ++ codes
 abbrev pub told_ban : Call → Ban → Action
 told_ban call ban = told call (ban_text ban)
 
--- how many bans a text leaves out: those before the number that it begins with, counted from 1
+-- how many bans a text leaves out: those before the number with which it begins, counted from 1
 abbrev pub left_out : List ℕ → ℕ
 left_out text = unwrap_or (number_below 65536 (first_word text)) 1 - 1
 
--- a line for each ban, and one where there is none
+-- a NOTICE for each ban, or one if there is none
 abbrev pub told_bans : Call → List Ban → List Action
 told_bans call [] = told call (codes "there is no such ban") ∷ []
 told_bans call (ban ∷ bans) = map (told_ban call) (ban ∷ bans)
 
--- what `bans` asks for: that a master is told the bans, as many as an answer has room for
+-- what `bans` requests: NOTICEs that list the bans to a master, as many as an answer has room for
 abbrev pub asked_by_bans : Standing → Call → Seen → List Action
 asked_by_bans Elsewhere call seen = []
 asked_by_bans Stranger call seen = told call for_masters ∷ []

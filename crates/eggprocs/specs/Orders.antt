@@ -11,7 +11,7 @@ use Rattle.eggprocs.specs.Marks.{stick, unstick}
 use Rattle.eggprocs.specs.People.{asked_by_command, plus_user, minus_user, plus_host, minus_host, chattr}
 use Rattle.eggprocs.specs.Rights.{standing_of}
 
--- what is told where a word is missing
+-- what the NOTICE says if a word is missing
 abbrev pub usage_of : Order → List ℕ
 usage_of PlusUser = codes "use +user HANDLE"
 usage_of MinusUser = codes "use -user HANDLE"
@@ -31,6 +31,6 @@ wish_of Chattr text = chattr text
 wish_of Stick text = stick text
 wish_of Unstick text = unstick text
 
--- what such a command asks for
+-- what such a command requests
 abbrev pub asked_by_order : Order → Call → Seen → List Action
 asked_by_order order call seen = asked_by_command (standing_of call seen) call seen (usage_of order) (wish_of order (told_of call))

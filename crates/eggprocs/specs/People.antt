@@ -1,4 +1,4 @@
--- What the procs ask for by which masters change the userfile, and what they say.
+-- What the procs request by which masters change the userfile, and what they say.
 use Rattle.std.specs.Prelude.{ℕ, Bool, false, not, ◌&&◌, ◌||◌, List, [], ◌∷◌, ◌++◌, if◌then◌else◌, codes, Option, Some, None}
 use Rattle.std.specs.List.{flat_map}
 use Rattle.flagexpr.specs.declared.fault.FlagFault.{FlagFault}
@@ -26,22 +26,22 @@ use Rattle.eggprocs.specs.Channel.{put}
 use Rattle.eggprocs.specs.Lines.{notice}
 use Rattle.eggprocs.specs.Rights.{is_owner}
 
--- who calls is told something
+-- a NOTICE to the caller
 abbrev pub told : Call → List ℕ → Action
 told call words = put Help (notice (nick_of call) words)
 
--- a stranger is told this, whatever the command
+-- what the NOTICE to a stranger says, whatever the command
 abbrev pub for_masters : List ℕ
 for_masters = codes "only masters and owners may do that"
 
--- a change is asked for, or it is told why the userfile does not take it
+-- the request of a change, or a NOTICE of why the userfile refuses it
 abbrev pub asked_unless : Option ChangeFault → Call → Change → List Action
 asked_unless None call change = Ask change ∷ told call (codes "this waits for the next pump") ∷ []
 asked_unless (Some fault) call change = told call (codes "that is refused: " ++ fault_code fault) ∷ []
 
--- ---- what is for owners alone
+-- ---- what only owners may do
 
--- the user that a change is of, if it is of one
+-- the user that a change is about, if it is about one
 abbrev pub handle_in : Change → List ℕ
 handle_in (AddUser handle) = handle
 handle_in (DelUser handle) = handle
@@ -68,27 +68,27 @@ makes_owner (DelBan channel mask) = false
 makes_owner (SetInfo handle info) = false
 makes_owner (SetSticky channel mask on) = false
 
--- a change that makes an owner, or is of one
+-- whether a change makes an owner or changes one
 abbrev pub is_for_owners : Change → Seen → Bool
 is_for_owners change seen = makes_owner change || has_letter (flags_of seen.sight.records.users (handle_in change) []).global OWNER
 
 abbrev pub for_owners : List ℕ
 for_owners = codes "only owners may do that"
 
--- what a master's command asks for: its change, unless that is for owners, or to be told how it is used
+-- what a master's command requests: its change, unless that is for owners, or a NOTICE of how it is used
 abbrev pub asked_by_master : Call → Seen → List ℕ → Option Change → List Action
 asked_by_master call seen usage None = told call usage ∷ []
 asked_by_master call seen usage (Some change) =
     if is_for_owners change seen && not (is_owner call seen) then told call for_owners ∷ []
     else asked_unless (refusal seen.sight.records change) call change
 
--- what a command to the bot asks for
+-- what a command to the bot requests
 abbrev pub asked_by_command : Standing → Call → Seen → List ℕ → Option Change → List Action
 asked_by_command Elsewhere call seen usage wish = []
 asked_by_command Stranger call seen usage wish = told call for_masters ∷ []
 asked_by_command Master call seen usage wish = asked_by_master call seen usage wish
 
--- ---- the changes that texts mean, where they have all the words
+-- ---- the changes that texts mean, if they have all the words
 
 -- HANDLE
 abbrev pub plus_user : List ℕ → Option Change
@@ -124,12 +124,12 @@ spaced mask = codes " " ++ mask
 abbrev pub listed : List (List ℕ) → List ℕ
 listed masks = flat_map spaced masks
 
--- an info line, where there is one
+-- an info line, if there is one
 abbrev pub info_text : List ℕ → List ℕ
 info_text [] = []
 info_text (b ∷ bs) = codes "; info: " ++ b ∷ bs
 
--- what is said of a user
+-- what the NOTICE says about a user
 abbrev pub described : Option User → List ℕ
 described None = codes "there is no such user"
 described (Some user) =

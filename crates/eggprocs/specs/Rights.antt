@@ -1,5 +1,5 @@
--- Who may have something done, by the flags of the handle that the bot gives to a call (Eggdrop's flags, in its document
--- on users and flags).
+-- Which callers may use a proc, by the flags of the handle that the bot gives to a call (Eggdrop's flags, in its
+-- document on users and flags).
 use Rattle.std.specs.Prelude.{ℕ, List, ◌&&◌, ◌||◌, Bool, true, false, []}
 use Rattle.flagexpr.specs.Letters.{has_letter}
 use Rattle.userfile.specs.declared.flags.PersonFlags.{PersonFlags}
@@ -15,7 +15,8 @@ use Rattle.eggprocs.specs.declared.rights.Standing.{Standing}
 use Rattle.eggprocs.specs.declared.rights.Standing.TheVariants.{Elsewhere, Stranger, Master}
 use Rattle.eggprocs.specs.Args.{handle_of, channel_of}
 
--- what a call is for: the first word of what is said on a channel, a join, the first word of what is said to the bot, a timer, or a mode
+-- what a call is for: the first word of a text on a channel, a join, the first word of a text to the bot, a timer, or a
+-- mode
 abbrev pub is_pub : Kind → Bool
 is_pub Pub = true
 is_pub Raw = false
@@ -111,7 +112,7 @@ is_mode Time = false
 is_mode Cron = false
 is_mode Timer = false
 
--- the flags of who calls, with those on the call's channel
+-- the flags of the caller, with those on the call's channel
 abbrev pub flags_by : Call → Seen → PersonFlags
 flags_by call seen = flags_of seen.sight.records.users (handle_of call) (channel_of call)
 
@@ -123,11 +124,11 @@ has_flag letter flags = has_letter flags.global letter || has_letter flags.chan 
 abbrev pub is_op_of : List ℕ → Seen → Bool
 is_op_of channel seen = is_op (member_in channel seen.sight.channels.nick seen.sight.channels)
 
--- the same of the call's channel
+-- the same for the call's channel
 abbrev pub is_bot_op : Call → Seen → Bool
 is_bot_op call seen = is_op_of (channel_of call) seen
 
--- a word on a channel on which the bot is an operator, of who has the flag o, or one of o and v
+-- a word on a channel on which the bot is an operator, from a caller who has the flag o, or one of o and v
 abbrev pub is_from_op : Call → Seen → Bool
 is_from_op call seen = is_pub call.kind && (is_bot_op call seen && has_flag OP (flags_by call seen))
 
@@ -135,7 +136,7 @@ abbrev pub is_from_voice : Call → Seen → Bool
 is_from_voice call seen =
     is_pub call.kind && (is_bot_op call seen && (has_flag OP (flags_by call seen) || has_flag VOICE (flags_by call seen)))
 
--- the flags that somebody has everywhere
+-- the flags that the caller has everywhere
 abbrev pub global_by : Call → Seen → ℕ
 global_by call seen = (flags_of seen.sight.records.users (handle_of call) []).global
 
@@ -146,7 +147,8 @@ is_owner call seen = has_letter (global_by call seen) OWNER
 abbrev pub is_master : Call → Seen → Bool
 is_master call seen = has_letter (global_by call seen) MASTER || has_letter (global_by call seen) OWNER
 
--- who says something to the bot: a master or a stranger. Elsewhere nobody does.
+-- the standing of the person who says something to the bot: a master or a stranger; Elsewhere if the call is for
+-- something else
 abbrev pub standing_if : Bool → Bool → Standing
 standing_if false master = Elsewhere
 standing_if true false = Stranger

@@ -1,8 +1,9 @@
--- What `seen` asks for: to be told whether somebody is here.
+-- What `seen` requests: a NOTICE that says whether somebody is here.
 --
--- Who asks is told of no channel that he is not on: a bot is on channels that are secret to others, and a word to it must
--- not tell who is there. On a channel he is told of that one alone, and by a message of the first one on which both are.
--- Of anyone else he is told whether the userfile has a user of that name, and the same wherever else that one is.
+-- The answer names no channel that the caller is not on: a bot is on channels that are secret to others, and a word to
+-- it must not reveal who is on them. A word on a channel asks about that channel alone, and a private message about the
+-- first channel on which both are. For anyone else the answer says whether the userfile has a user of that name, and it
+-- is the same wherever else that one is.
 use Rattle.std.specs.Prelude.{ℕ, ◌&&◌, List, [], ◌∷◌, ◌++◌, Bool, find, if◌then◌else◌, codes, is_some, Option, Some, None}
 use Rattle.userfile.specs.Held.{has_user}
 use Rattle.chanstate.specs.Speech.{first_word}
@@ -24,25 +25,25 @@ sought call = first_word (last_of call.args)
 abbrev pub is_there : List ℕ → Seen → List ℕ → Bool
 is_there nick seen channel = is_some (member_in channel nick seen.sight.channels)
 
--- the channel on which it is asked, if both are there
+-- the channel of the call, if both are on it
 abbrev pub asked_here : Call → Seen → Option (List ℕ)
 asked_here call seen =
     if is_there (nick_of call) seen (channel_of call) && is_there (sought call) seen (channel_of call) then Some (channel_of call) else None
 
--- the first of those on which who asks is that the other is on too, in the order in which the bot joined them
+-- the first channel with both the caller and the other, in the order in which the bot joined them
 abbrev pub first_shared : Call → Seen → Option (List ℕ)
 first_shared call seen = find (is_there (sought call) seen) (channels_with (nick_of call) seen.sight.channels)
 
 abbrev pub shared : Call → Seen → Option (List ℕ)
 shared call seen = if is_pub call.kind then asked_here call seen else first_shared call seen
 
--- ---- what is told
+-- ---- what the answer says
 
 -- NICK is on CHANNEL now
 abbrev pub on_now : List ℕ → List ℕ → List ℕ
 on_now nick channel = nick ++ codes " is on " ++ channel ++ codes " now"
 
--- what the records say of who is not here
+-- what the records say about a nick that is not here
 abbrev pub known_text : Bool → List ℕ
 known_text known = if known then codes " is not here, but known" else codes " is neither here nor known"
 
@@ -57,6 +58,6 @@ abbrev pub whereabouts : Call → Seen → List ℕ
 whereabouts call seen =
     if has_word (last_of call.args) then whereabouts_if (shared call seen) call seen else codes "use seen NICK"
 
--- what `seen` asks for: that whoever calls is told that
+-- what `seen` requests: a NOTICE to the caller that says that
 abbrev pub asked_by_seen : Call → Seen → List Action
 asked_by_seen call seen = if is_command call.kind then told call (whereabouts call seen) ∷ [] else []

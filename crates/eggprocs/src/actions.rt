@@ -1,4 +1,4 @@
-// What each proc asks for.
+// What each proc requests.
 ghost use Rattle.std.specs.Prelude.{◌≡◌, IfOk};
 ghost use Rattle.eggprocs.specs.Procs.{actions_by};
 
@@ -19,7 +19,7 @@ use bytetext::NoMemory;
 use procstore::{Actions, Call, View};
 use std::alloc::Global;
 
-// What a proc asks for, by its call and what it sees.
+// What a proc requests, given its call and what it sees.
 #[tactic(auto, unfolding(crate::specs::Procs::actions_by))]
 pub(crate) fn actions_by(
     alloc: Global,

@@ -6,7 +6,7 @@ ghost use Rattle.eggprocs.specs.Args.{arg_at, last_of, nick_of, handle_of, chann
 use bytetext::Text;
 use procstore::Call;
 
-// The argument at a place, and the empty text where there is none.
+// The argument at a place, or the empty text if there is none.
 pub(crate) fn arg_at(args: &[Text], place: usize) -> &[u8]
     ensures { result.now ≡ arg_at args.now place }
 {
@@ -26,28 +26,28 @@ pub(crate) fn last_of(args: &[Text]) -> &[u8]
     }
 }
 
-// Who says or does something.
+// The nick of the caller, who says or does something.
 pub(crate) fn nick_of(call: &Call) -> &[u8]
     ensures { result.now ≡ nick_of call.now }
 {
     arg_at(call.args.as_slice(), 0)
 }
 
-// The handle of who says or does something.
+// The handle of the caller.
 pub(crate) fn handle_of(call: &Call) -> &[u8]
     ensures { result.now ≡ handle_of call.now }
 {
     arg_at(call.args.as_slice(), 2)
 }
 
-// The channel of what is said or done there.
+// The channel on which something is said or done.
 pub(crate) fn channel_of(call: &Call) -> &[u8]
     ensures { result.now ≡ channel_of call.now }
 {
     arg_at(call.args.as_slice(), 3)
 }
 
-// What is said on a channel after the command's word.
+// What the caller says on a channel after the command's word.
 pub(crate) fn said_of(call: &Call) -> &[u8]
     ensures { result.now ≡ said_of call.now }
 {
@@ -61,21 +61,21 @@ pub(crate) fn timer_text(call: &Call) -> &[u8]
     arg_at(call.args.as_slice(), 0)
 }
 
-// What is said to the bot after the command's word.
+// What the caller says to the bot after the command's word.
 pub(crate) fn told_of(call: &Call) -> &[u8]
     ensures { result.now ≡ told_of call.now }
 {
     arg_at(call.args.as_slice(), 3)
 }
 
-// A text, or another one where it is empty.
+// A text, or another one if it is empty.
 pub(crate) fn or_else<'a>(text: &'a [u8], other: &'a [u8]) -> &'a [u8]
     ensures { result.now ≡ or_else text.now other.now }
 {
     if text.is_empty() { other } else { text }
 }
 
-// How long the first word is.
+// The length of the first word.
 fn count_word(text: &[u8]) -> usize
     ensures value { result ≡ word_len text.now }
     ensures within { result ≤ length text.now }
@@ -87,7 +87,7 @@ fn count_word(text: &[u8]) -> usize
     count
 }
 
-// How many spaces stand in front.
+// The number of spaces at the front.
 fn count_spaces(text: &[u8]) -> usize
     ensures value { result ≡ spaces_len text.now }
     ensures within { result ≤ length text.now }
@@ -99,7 +99,7 @@ fn count_spaces(text: &[u8]) -> usize
     count
 }
 
-// The first word: empty where the text begins with a space.
+// The first word, which is empty if the text begins with a space.
 pub(crate) fn first_word(text: &[u8]) -> &[u8]
     ensures { result.now ≡ first_word text.now }
 {
@@ -114,7 +114,7 @@ pub(crate) fn after_word(text: &[u8]) -> &[u8]
     &rest[count_spaces(rest)..]
 }
 
-// Whether a text begins with a word: it isn't empty, and begins with no space.
+// Whether a text begins with a word: it isn't empty and doesn't begin with a space.
 pub(crate) fn has_word(text: &[u8]) -> bool
     ensures { result ≡ has_word text.now }
 {

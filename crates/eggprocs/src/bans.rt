@@ -14,7 +14,7 @@ use scriptwords::number;
 use std::alloc::Global;
 use userfile::{Change, MAX_COMMENT, expires_at, is_hostmask};
 
-/// The most minutes that a utimer counts as seconds.
+/// The maximum number of minutes for which a ban's timer counts seconds; above it, the timer counts minutes.
 pub const UTIMER_MINUTES: u32 = 16_666;
 
 // The mask that a command's text begins with.
@@ -46,7 +46,7 @@ fn comment_after(minutes: Option<u32>, text: &[u8]) -> &[u8]
     }
 }
 
-// A text as far as a ban takes it for a comment.
+// A text, cut to the length of a ban's comment.
 fn short(text: &[u8]) -> &[u8]
     ensures { result.now ≡ short text.now }
 {
@@ -66,7 +66,7 @@ fn end_of(second: Option<u64>, minutes: Option<u32>) -> u64
     }
 }
 
-// The ban that a command means, of which this follows the mask.
+// The ban that a command means, where this text follows the mask.
 fn ban_in(alloc: Global, call: &Call, second: Option<u64>, rest: &[u8]) -> Result<Change, NoMemory>
     ensures { IfOk result (λ change. change ≡ ban_in call.now second rest.now) }
 {
@@ -85,7 +85,7 @@ fn ban_in(alloc: Global, call: &Call, second: Option<u64>, rest: &[u8]) -> Resul
     })
 }
 
-// A call of `lift` so much later, with the channel and the mask.
+// A call of `lift` with the channel and the mask, after this interval.
 fn lift_wish(alloc: Global, call: &Call, interval: u32) -> Result<TimerWish, NoMemory>
     ensures { IfOk result (λ wish. wish ≡ lift_wish call.now interval) }
 {
@@ -112,7 +112,7 @@ fn lift_after(alloc: Global, call: &Call, minutes: u32) -> Result<Action, NoMemo
     }
 }
 
-// When the ban is to end on the channel, if it ends.
+// The later end of the ban on the channel, if it ends.
 fn lift_of(alloc: Global, call: &Call, minutes: Option<u32>) -> Result<Option<Action>, NoMemory>
     ensures { IfOk result (λ lift. lift ≡ lift_of call.now minutes) }
 {
@@ -122,7 +122,7 @@ fn lift_of(alloc: Global, call: &Call, minutes: Option<u32>) -> Result<Option<Ac
     }
 }
 
-// A mode of the mask on the channel.
+// A mode on the channel with the command's mask.
 fn mode_of(alloc: Global, sign: &[u8], call: &Call) -> Result<Action, NoMemory>
     ensures { IfOk result (λ action. action ≡ mode_of sign.now call.now) }
 {
@@ -131,7 +131,7 @@ fn mode_of(alloc: Global, sign: &[u8], call: &Call) -> Result<Action, NoMemory>
     Ok(Action::Put(PutWish { queue, line }))
 }
 
-// What `ban` asks for: the ban in the userfile, and on the channel, and there its end.
+// What `ban` requests: the ban in the userfile, the ban on the channel, and later its end there.
 pub(crate) fn asked_by_ban(
     alloc: Global,
     may: bool,
@@ -150,7 +150,7 @@ pub(crate) fn asked_by_ban(
     and_then(alloc, Action::Ask(ban), sets, lift)
 }
 
-// What `unban` asks for: that the ban goes from both.
+// What `unban` requests: the end of the ban in the userfile and on the channel.
 pub(crate) fn asked_by_unban(alloc: Global, may: bool, call: &Call) -> Result<Actions, NoMemory>
     ensures { IfOk result (λ actions. actions ≡ asked_by_unban may call.now) }
 {
@@ -163,7 +163,7 @@ pub(crate) fn asked_by_unban(alloc: Global, may: bool, call: &Call) -> Result<Ac
     two(alloc, Action::Ask(Change::DelBan { channel, mask }), clears)
 }
 
-// What `lift` asks for, with a timer's text of a channel and a mask: that the ban goes from the channel.
+// What `lift` requests, for a timer's text of a channel and a mask: the end of the ban on the channel.
 pub(crate) fn asked_by_lift(
     alloc: Global,
     call: &Call,

@@ -1,4 +1,4 @@
-// The procs that look at nothing but their call.
+// The procs that use nothing but their call.
 ghost use Rattle.std.specs.Prelude.{◌≡◌, IfOk};
 ghost use Rattle.eggprocs.specs.Basics.{asked_by_adduser, asked_by_echo, asked_by_tick, asked_by_tell, is_command, place_of};
 
@@ -10,7 +10,7 @@ use procstore::{Action, Actions, BotWish, Call, Kind, PutWish, TimerWish};
 use std::alloc::Global;
 use userfile::Change;
 
-// What `adduser` asks for: a user whose handle is the text after the command.
+// What `adduser` requests: a user whose handle is the text after the command.
 pub(crate) fn asked_by_adduser(alloc: Global, call: &Call) -> Result<Actions, NoMemory>
     ensures { IfOk result (λ actions. actions ≡ asked_by_adduser call.now) }
 {
@@ -21,7 +21,7 @@ pub(crate) fn asked_by_adduser(alloc: Global, call: &Call) -> Result<Actions, No
     Actions::one(alloc, Action::Ask(Change::AddUser { handle }))
 }
 
-// What `tick` asks for: a call of `quiet` ten seconds on, once.
+// What `tick` requests: one call of `quiet` after ten seconds.
 pub(crate) fn asked_by_tick(alloc: Global) -> Result<Actions, NoMemory>
     ensures { IfOk result (λ actions. actions ≡ asked_by_tick) }
 {
@@ -36,7 +36,7 @@ pub(crate) fn asked_by_tick(alloc: Global) -> Result<Actions, NoMemory>
     Actions::one(alloc, Action::Utimer(wish))
 }
 
-// What `tell` asks for: that the hub is told the text after the command.
+// What `tell` requests: that the bot sends the text after the command to the hub.
 pub(crate) fn asked_by_tell(alloc: Global, call: &Call) -> Result<Actions, NoMemory>
     ensures { IfOk result (λ actions. actions ≡ asked_by_tell call.now) }
 {
@@ -47,7 +47,7 @@ pub(crate) fn asked_by_tell(alloc: Global, call: &Call) -> Result<Actions, NoMem
     Actions::one(alloc, Action::SendBot(BotWish { to: 0, text }))
 }
 
-// What `echo` asks for: that what was said is said again where it was said.
+// What `echo` requests: that the bot repeats what the caller said, where the caller said it.
 pub(crate) fn asked_by_echo(alloc: Global, call: &Call) -> Result<Actions, NoMemory>
     ensures { IfOk result (λ actions. actions ≡ asked_by_echo call.now) }
 {
@@ -60,7 +60,7 @@ pub(crate) fn asked_by_echo(alloc: Global, call: &Call) -> Result<Actions, NoMem
     Actions::one(alloc, Action::Put(PutWish { queue, line }))
 }
 
-// Where what is said is said again: the argument that is the channel, or the nick that said it privately.
+// Which argument says where to repeat a text: the channel, or the nick that said it privately.
 fn place_of(kind: Kind) -> Option<usize>
     ensures { result ≡ place_of kind }
 {
@@ -83,7 +83,7 @@ fn place_of(kind: Kind) -> Option<usize>
     }
 }
 
-// Whether a kind's last argument is what stands behind a first word.
+// Whether the last argument of this kind is the text after a first word.
 pub(crate) fn is_command(kind: Kind) -> bool
     ensures { result ≡ is_command kind }
 {

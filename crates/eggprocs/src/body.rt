@@ -1,11 +1,11 @@
-// What runs under the name of a proc.
+// The code that runs under the name of a proc.
 use crate::actions::actions_by;
 use crate::which::Which;
 use bytetext::NoMemory;
 use procstore::{Call, Reply, Run, View};
 use std::alloc::Global;
 
-/// The body of a proc. It makes the lists of its answers on an allocator of its own.
+/// The body of a proc. It allocates the lists of its answers on an allocator of its own.
 #[derive(Drop)]
 pub struct EggProc {
     alloc: Global,

@@ -12,21 +12,21 @@ use procstore::{Action, Actions, Call, PutWish, View};
 use std::alloc::Global;
 use userfile::PersonFlags;
 
-// A line for the server, and nothing else.
+// One line for the server, and no other action.
 pub(crate) fn one_line(alloc: Global, queue: Queue, line: Text) -> Result<Actions, NoMemory>
     ensures { IfOk result (λ actions. actions ≡ put queue line ∷ []) }
 {
     Actions::one(alloc, Action::Put(PutWish { queue, line }))
 }
 
-// Whom a command means.
+// The nick that a command is about.
 fn target_of(call: &Call) -> &[u8]
     ensures { result.now ≡ target_of call.now }
 {
     or_else(first_word(said_of(call)), nick_of(call))
 }
 
-// What `op`, `deop`, `voice` and `devoice` ask for: a mode of whom the command means.
+// What `op`, `deop`, `voice` and `devoice` request: a mode for the nick that the command is about.
 pub(crate) fn asked_for_mode(
     alloc: Global,
     may: bool,
@@ -42,7 +42,7 @@ pub(crate) fn asked_for_mode(
     one_line(alloc, Queue::Mode, line)
 }
 
-// What `autoop` gives to whom.
+// The mode that `autoop` gives to a person with these flags.
 fn change_for(flags: &PersonFlags) -> Option<&'static [u8]>
     ensures { option_copied result ≡ change_for flags.now }
 {
@@ -55,7 +55,7 @@ fn change_for(flags: &PersonFlags) -> Option<&'static [u8]>
     }
 }
 
-// What `autoop` asks for: op or voice of who joins.
+// What `autoop` requests: op or voice for the person who joins.
 pub(crate) fn asked_by_autoop(
     alloc: Global,
     call: &Call,
@@ -73,7 +73,7 @@ pub(crate) fn asked_by_autoop(
     one_line(alloc, Queue::Mode, line)
 }
 
-// What `kick` asks for: a kick of the nick that the text names, for the reason that follows it.
+// What `kick` requests: a kick of the nick that the text names, for the reason that follows it.
 pub(crate) fn asked_by_kick(alloc: Global, may: bool, call: &Call) -> Result<Actions, NoMemory>
     ensures { IfOk result (λ actions. actions ≡ asked_by_kick may call.now) }
 {
@@ -86,7 +86,7 @@ pub(crate) fn asked_by_kick(alloc: Global, may: bool, call: &Call) -> Result<Act
     one_line(alloc, Queue::Mode, line)
 }
 
-// What `topic` asks for: the text as the topic.
+// What `topic` requests: the text as the topic.
 pub(crate) fn asked_by_topic(alloc: Global, may: bool, call: &Call) -> Result<Actions, NoMemory>
     ensures { IfOk result (λ actions. actions ≡ asked_by_topic may call.now) }
 {
@@ -98,7 +98,7 @@ pub(crate) fn asked_by_topic(alloc: Global, may: bool, call: &Call) -> Result<Ac
     one_line(alloc, Queue::Server, line)
 }
 
-// What `invite` asks for: an invitation of the nick that the text names.
+// What `invite` requests: an invitation for the nick that the text names.
 pub(crate) fn asked_by_invite(alloc: Global, may: bool, call: &Call) -> Result<Actions, NoMemory>
     ensures { IfOk result (λ actions. actions ≡ asked_by_invite may call.now) }
 {

@@ -1,4 +1,4 @@
-// The proc that gives op and voice to those who are on a channel as the bot gets op there.
+// The proc that gives op and voice to the members of a channel when the bot gets op there.
 ghost use Rattle.std.specs.Prelude.{◌≡◌, ◌<◌, ◌≤◌, ◌++◌, length, take, IfOk, OnOk};
 ghost use Rattle.std.specs.List.{filter_map};
 ghost use Rattle.std.specs.Option.{option_copied, option_to_list};
@@ -17,7 +17,7 @@ use rfccase::same;
 use std::alloc::Global;
 use userfile::PersonFlags;
 
-// What `opall` asks for: who is on a channel that the bot joins, and modes for them as it gets op.
+// What `opall` requests: a list of the members when the bot joins a channel, and modes for them when it gets op.
 pub(crate) fn asked_by_opall(
     alloc: Global,
     call: &Call,
@@ -53,7 +53,7 @@ fn gives_bot_op(call: &Call, view: &View<'_>) -> bool
         && same(arg_at(args, 5), view.channels().own_nick())
 }
 
-// The modes of the first members who lack one.
+// Modes for the first members that lack one.
 fn modes_for(
     alloc: Global,
     call: &Call,
@@ -70,7 +70,7 @@ fn modes_for(
     Ok(actions)
 }
 
-// Puts an action, if there is one, after the others, if there are fewer than eight.
+// Appends an action, if there is one and the list has fewer than eight.
 fn push_if_room(actions: &mut Actions, wish: Option<Action>) -> Result<(), NoMemory>
     ensures room { OnOk result (length actions.old < MAX_ACTIONS → actions.new ≡ actions.old ++ option_to_list wish) }
     ensures full { OnOk result (MAX_ACTIONS ≤ length actions.old → actions.new ≡ actions.old) }
@@ -99,7 +99,7 @@ fn mode_for(
     Ok(Some(Action::Put(PutWish { queue, line })))
 }
 
-// What a member gets.
+// The change of mode for a member, if any.
 fn change_of(
     alloc: Global,
     call: &Call,
@@ -115,7 +115,7 @@ fn change_of(
     Ok(change_lacked(member.voice, &flags))
 }
 
-// Whether a member is the bot itself, or op already.
+// Whether a member gets no mode: it is the bot itself, or an operator already.
 fn is_left(view: &View<'_>, member: &Member) -> bool
     ensures { result ≡ is_left view.now member.now }
 {
@@ -149,7 +149,7 @@ fn address_of(alloc: Global, member: &Member) -> Result<Text, NoMemory>
     Ok(Text::new(who))
 }
 
-// Op for the flag a, else voice for the flag g, unless it is there.
+// Op for the flag a, else voice for the flag g unless the member has it.
 fn change_lacked(voiced: bool, flags: &PersonFlags) -> Option<&'static [u8]>
     ensures { option_copied result ≡ change_lacked voiced flags.now }
 {

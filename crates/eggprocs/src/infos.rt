@@ -12,7 +12,7 @@ use procstore::{Action, Actions, Call, PutWish, View};
 use std::alloc::Global;
 use userfile::Change;
 
-// The info line of who calls.
+// The info line of the caller.
 fn info_by<'a>(call: &Call, view: &'a View<'_>) -> &'a [u8]
     ensures { result.now ≡ info_by call.now view.now }
 {
@@ -30,7 +30,7 @@ fn info_in(text: &[u8]) -> &[u8]
     }
 }
 
-// The change that a text means: of the info line of who calls.
+// The change that a text means: of the caller's info line.
 fn set_by(alloc: Global, call: &Call) -> Result<Change, NoMemory>
     ensures { IfOk result (λ change. change ≡ set_by call.now) }
 {
@@ -39,7 +39,7 @@ fn set_by(alloc: Global, call: &Call) -> Result<Change, NoMemory>
     Ok(Change::SetInfo { handle, info })
 }
 
-// What `info` asks for: that who calls is told the own info line, or that it is what the text means.
+// What `info` requests: a NOTICE with the caller's info line, or the change that the text means.
 pub(crate) fn asked_by_info(
     alloc: Global,
     call: &Call,
@@ -56,7 +56,7 @@ pub(crate) fn asked_by_info(
     }
 }
 
-// The same of whom the userfile knows.
+// The same for a caller whom the userfile knows.
 fn asked_by_known(alloc: Global, call: &Call, view: &View<'_>) -> Result<Actions, NoMemory>
     ensures { IfOk result (λ actions. actions ≡ asked_by_known call.now view.now) }
 {
@@ -80,7 +80,7 @@ fn greeting(alloc: Global, nick: &[u8], info: &[u8]) -> Result<Text, NoMemory>
     Ok(Text::new(text))
 }
 
-// What `greet` asks for: that the info line of who joins is said on the channel, where there is one.
+// What `greet` requests: that the bot says on the channel the info line of the person who joins, if there is one.
 pub(crate) fn asked_by_greet(
     alloc: Global,
     call: &Call,

@@ -1,14 +1,15 @@
-// Who gets nothing done.
+// Laws of the procs: when nothing is done, and for whose call.
 ghost use Rattle.std.specs.Prelude.{codes};
 ghost use Rattle.eggprocs.specs.Laws.{IsOnlyFor, IsOnlyForEither, IsOnlyByOps, IsOnlyForMasters, SparesOwners};
 ghost use Rattle.eggprocs.specs.Laws.{ChangesOwnInfo, IsOnlyForKnown, IsOnlyWithInfo, GivesWhatIsDue, KeepsChannelsApart};
 
 use crate::rights::{AUTO_OP, AUTO_VOICE, OP, VOICE};
 
-/// A law, and no more: who has the flag `o` neither everywhere nor on the channel gets nothing done by the commands of a
-/// channel's operators; `voice` and `devoice` want one of `o` and `v`, and `autoop` one of `a` and `g`. `opall`, save as the
-/// bot itself joins, gives op to members who have the flag `a`, voice to those who have `g`, and does nothing else. This is of any
-/// answer that [`Ours`](crate::Ours) allows, whatever body stands in a store.
+/// A law; calling it does nothing. The commands of a channel's operators do nothing for a caller who has the flag `o`
+/// neither everywhere nor on the channel. `voice` and `devoice` require one of `o` and `v`, and `autoop` one of `a` and
+/// `g`. `opall`, except when the bot itself joins, gives op to members who have the flag `a` and voice to those who
+/// have `g`, and does nothing else. This holds for any answer that [`Ours`](crate::Ours) allows, whatever body a store
+/// has.
 pub fn commands_want_flags()
     ensures op { IsOnlyFor OP (codes "op") }
     ensures deop { IsOnlyFor OP (codes "deop") }
@@ -23,7 +24,7 @@ pub fn commands_want_flags()
     ensures opall { GivesWhatIsDue (codes "opall") }
 {}
 
-/// A law, and no more: nothing is done on a channel on which the bot itself is no operator.
+/// A law; calling it does nothing. On a channel on which the bot itself is no operator, these procs do nothing.
 pub fn commands_want_an_operator()
     ensures op { IsOnlyByOps (codes "op") }
     ensures deop { IsOnlyByOps (codes "deop") }
@@ -37,8 +38,8 @@ pub fn commands_want_an_operator()
     ensures unban { IsOnlyByOps (codes "unban") }
 {}
 
-/// A law, and no more: for who has neither of the flags `m` and `n` everywhere no change of the userfile is asked for by
-/// the commands of masters.
+/// A law; calling it does nothing. The commands of masters request no change of the userfile for a caller who has
+/// neither of the flags `m` and `n` everywhere.
 pub fn changes_want_a_master()
     ensures plus_user { IsOnlyForMasters (codes "+user") }
     ensures minus_user { IsOnlyForMasters (codes "-user") }
@@ -51,8 +52,8 @@ pub fn changes_want_a_master()
     ensures bans { IsOnlyForMasters (codes "bans") }
 {}
 
-/// A law, and no more: who does not have the flag `n` everywhere makes nobody an owner by these, and changes no owner: a
-/// master can't become one by a hostmask or a flag.
+/// A law; calling it does nothing. A caller who does not have the flag `n` everywhere can't make anybody an owner by
+/// these procs, and can't change an owner. So a master can't become an owner by a hostmask or a flag.
 pub fn changes_of_owners_want_an_owner()
     ensures plus_user { SparesOwners (codes "+user") }
     ensures minus_user { SparesOwners (codes "-user") }
@@ -64,19 +65,21 @@ pub fn changes_of_owners_want_an_owner()
     ensures unstick { SparesOwners (codes "unstick") }
 {}
 
-/// A law, and no more: `info` asks for no change but of the info line of who calls, and for none where the userfile does
-/// not know who calls.
+/// A law; calling it does nothing. `info` requests no change except of the caller's info line, and none if the userfile
+/// does not know the caller.
 pub fn info_is_of_who_asks()
     ensures own { ChangesOwnInfo (codes "info") }
     ensures known { IsOnlyForKnown (codes "info") }
 {}
 
-/// A law, and no more: `greet` does nothing for who has no info line, as nobody has whom the userfile does not know.
+/// A law; calling it does nothing. `greet` does nothing for a caller without an info line, such as one whom the
+/// userfile does not know.
 pub fn greetings_want_an_info()
     ensures greet { IsOnlyWithInfo (codes "greet") }
 {}
 
-/// A law, and no more: to who shares no channel with the one who is asked for, `seen` answers the same wherever that one is.
+/// A law; calling it does nothing. If the caller shares no channel with the nick in question, `seen` gives the same
+/// answer wherever that nick is.
 pub fn answers_keep_channels_apart()
     ensures seen { KeepsChannelsApart (codes "seen") }
 {}

@@ -1,79 +1,95 @@
 //! The procs of the programs: order on a channel, people of the userfile, and a few to try things out with.
 //!
-//! [`store`] makes a store of all of them, and a bind says which word or event calls which. What each answers is promised
-//! exactly ([`Ours`]): the code by the proc's name, and the actions by its name, its call and what it sees of its bot.
-//! `specs/Procs` has the names, and the other files of `specs/` what is asked for. `stop` answers 1, any other proc 0.
+//! [`store`] creates a store of all of them, and a bind says which word or event calls which proc. The promise [`Ours`]
+//! fixes each answer exactly: the code depends on the proc's name, and the actions on its name, its call and what it
+//! sees of its bot. `specs/Procs` has the names, and the other files of `specs/` say what each proc requests. `stop`
+//! answers 1, every other proc 0.
 //!
-//! A proc that is bound to another kind of event than its own asks for nothing. Where a table says flags, who calls has one
-//! of them everywhere or on the channel, by the handle under which the bot knows who calls; who has none gets nothing done
-//! ([`commands_want_flags`]). Nor is anything done on a channel on which the bot itself is no operator
+//! The caller is the person whose word or event calls the proc. A proc that is bound to another kind of event than its
+//! own requests nothing. If a table lists flags, the caller needs one of them, everywhere or on the channel, under the
+//! handle by which the bot knows the caller. A caller without the flag causes no action ([`commands_want_flags`]).
+//! Except for `opall` and `greet`, these procs also do nothing on a channel on which the bot itself is no operator
 //! ([`commands_want_an_operator`]).
 //!
-//! On a channel, where the words that follow the bind's own are:
+//! On a channel, where the words are those after the bind's own word:
 //!
-//! | Proc | Kind | Flags | Words | It asks for |
+//! | Proc | Kind | Flags | Words | What it requests |
 //! |---|---|---|---|---|
-//! | `op`, `deop` | `pub` | `o` | NICK or none | `MODE CHANNEL +o NICK`, or `-o`; of who says it where there is no word |
-//! | `voice`, `devoice` | `pub` | `o`, `v` | NICK or none | `MODE CHANNEL +v NICK`, or `-v`, likewise |
-//! | `autoop` | `join` | `a`, `g` | | `MODE CHANNEL +o NICK` of who joins with the flag `a`, else `+v` |
-//! | `opall` | `join`, `mode` | `a`, `g` | | `MODE CHANNEL +o NICK` of each member with the flag `a`, else `+v`, as the bot gets op there |
-//! | `kick` | `pub` | `o` | NICK REASON | `KICK CHANNEL NICK :REASON`; the reason is `request` where none is said |
+//! | `op`, `deop` | `pub` | `o` | NICK or none | `MODE CHANNEL +o NICK`, or `-o` |
+//! | `voice`, `devoice` | `pub` | `o`, `v` | NICK or none | `MODE CHANNEL +v NICK`, or `-v` |
+//! | `autoop` | `join` | `a`, `g` | | `MODE CHANNEL +o NICK`, or `+v` |
+//! | `opall` | `join`, `mode` | `a`, `g` | | `MODE CHANNEL +o NICK`, or `+v`, for members |
+//! | `kick` | `pub` | `o` | NICK REASON | `KICK CHANNEL NICK :REASON` |
 //! | `topic` | `pub` | `o` | TEXT | `TOPIC CHANNEL :TEXT` |
 //! | `invite` | `pub` | `o` | NICK | `INVITE NICK CHANNEL` |
-//! | `ban` | `pub` | `o` | MASK MINUTES COMMENT | the ban in the userfile, `MODE CHANNEL +b MASK`, and a call of `lift` when it ends |
-//! | `unban` | `pub` | `o` | MASK | its end in the userfile, and `MODE CHANNEL -b MASK` |
-//! | `greet` | `join` | | | `PRIVMSG CHANNEL :[NICK] INFO` of who joins and has an info line, whether the bot is an operator or not |
+//! | `ban` | `pub` | `o` | MASK MINUTES COMMENT | a ban, `MODE CHANNEL +b MASK`, and a later call of `lift` |
+//! | `unban` | `pub` | `o` | MASK | the end of the ban, and `MODE CHANNEL -b MASK` |
+//! | `greet` | `join` | | | `PRIVMSG CHANNEL :[NICK] INFO` |
 //!
-//! `opall` asks for the modes of the first eight members who lack one, in the order in which they came, and leaves out who is
-//! op. It goes by the hosts that the server has told, so that it asks for `WHO CHANNEL` as the bot itself joins.
+//! - `op`, `deop`, `voice` and `devoice` without a NICK change the caller's mode.
+//! - `autoop` gives op to a caller who joins with the flag `a`, and otherwise voice.
+//! - `opall` gives the same when the bot gets op: it requests modes for the first eight members that lack one, in the
+//!   order in which they came, and leaves out operators. It matches the hosts that the server has sent, so it requests
+//!   `WHO CHANNEL` when the bot itself joins.
+//! - `kick` without a REASON gives the reason `request`.
+//! - `ban` and `unban` change the ban in the userfile and on the channel. A ban ends MINUTES minutes after the second
+//!   that the bot's clock shows. In the userfile it never ends if no number of minutes below 2^32 follows the mask, if
+//!   that number is 0, or if the clock shows no second yet. COMMENT is what follows, up to 100 bytes.
+//! - `lift` is for the timer that `ban` requests: with the text CHANNEL MASK it requests `MODE CHANNEL -b MASK`. A
+//!   restart loses this timer like all timers of a bot, but the ban in the userfile still ends.
+//! - `greet` greets a caller who joins and has an info line, whether the bot is an operator or not. It greets nobody
+//!   without one ([`greetings_want_an_info`]).
 //!
-//! `lift` is for the timer that `ban` asks for: with the text CHANNEL MASK it asks for `MODE CHANNEL -b MASK`. A restart
-//! loses timers, as any bot's; the userfile's ban ends all the same.
+//! A command that lacks its nick, its text or a hostmask does nothing. Modes and kicks go into the mode queue, topics,
+//! invitations and WHO into the server queue, and greetings into the help queue.
 //!
-//! A ban ends so many minutes after the second that the bot's clock shows. Where no number of minutes below 2^32 follows the
-//! mask, or the clock shows no second yet, it does not end. The comment is what follows, as far as 100 bytes. What lacks its
-//! nick, its text or a hostmask does nothing. Modes and kicks go into the mode queue, topics, invitations and
-//! WHO into the server queue, greetings into the help queue. Who has no info line is not greeted ([`greetings_want_an_info`]).
+//! In private messages, for callers who have one of the flags `m` and `n` everywhere. Anyone else gets a NOTICE that
+//! says so, and no change ([`changes_want_a_master`]). An owner is a user with the flag `n`. A caller with `m` alone
+//! makes nobody an owner and changes no owner ([`changes_of_owners_want_an_owner`]):
 //!
-//! Privately, by who has one of the flags `m` and `n` everywhere; anyone else is told so, and gets no change
-//! ([`changes_want_a_master`]). Who has `m` alone makes nobody an owner, who has the flag `n`, and changes no owner
-//! ([`changes_of_owners_want_an_owner`]):
-//!
-//! | Proc | Kind | Words | It asks for |
+//! | Proc | Kind | Words | What it requests |
 //! |---|---|---|---|
-//! | `+user`, `-user` | `msg` | HANDLE | that a user is added, or goes |
-//! | `+host`, `-host` | `msg` | HANDLE MASK | that a user gets a hostmask, or loses it |
-//! | `chattr` | `msg` | HANDLE FLAGS | that these are the flags that a user has everywhere; `-` for none |
-//! | `whois` | `msg` | HANDLE | no change: it says the flags that a user has everywhere, the hostmasks, and the info line if there is one |
-//! | `stick`, `unstick` | `msg` | MASK CHANNEL | that the ban of this mask is sticky, or not: of the channel, or of all channels where none is named |
-//! | `bans` | `msg` | NUMBER or none | no change: it says at most eight bans, from that number on, counted from 1, and which are sticky |
+//! | `+user`, `-user` | `msg` | HANDLE | a new user, or the end of a user |
+//! | `+host`, `-host` | `msg` | HANDLE MASK | a new hostmask of a user, or the end of one |
+//! | `chattr` | `msg` | HANDLE FLAGS | these flags as all that a user has everywhere; `-` for none |
+//! | `whois` | `msg` | HANDLE | no change: it says a user's flags everywhere, hostmasks and info line |
+//! | `stick`, `unstick` | `msg` | MASK CHANNEL | that a ban is sticky, or not |
+//! | `bans` | `msg` | NUMBER or none | no change: it says at most eight bans, and which are sticky |
 //!
-//! Privately, by whom the userfile knows; anyone else is told so. No info line is changed but that of who asks
-//! ([`info_is_of_who_asks`]):
+//! - `stick` and `unstick` mark the ban of this mask on the channel, or on all channels if no channel is given.
+//! - `bans` starts at the ban of this number, counted from 1.
 //!
-//! | Proc | Kind | Words | It asks for |
+//! In private messages, for callers whom the userfile knows. Anyone else gets a NOTICE that says so. The only info line
+//! that changes is the caller's own ([`info_is_of_who_asks`]):
+//!
+//! | Proc | Kind | Words | What it requests |
 //! |---|---|---|---|
-//! | `info` | `msg` | TEXT or none | that this is the own info line, or an empty one for the text `none`; without a text it says the own info line |
+//! | `info` | `msg` | TEXT or none | this text as the caller's info line |
 //!
-//! By whoever asks. Who asks is told of no channel that he is not on ([`answers_keep_channels_apart`]):
+//! - The text `none` empties the info line. Without a text, `info` says the caller's info line.
 //!
-//! | Proc | Kind | Words | It asks for |
+//! For any caller. The answer names no channel that the caller is not on ([`answers_keep_channels_apart`]):
+//!
+//! | Proc | Kind | Words | What it requests |
 //! |---|---|---|---|
-//! | `seen` | `msg`, `pub` | NICK | no change: it says that NICK is on a channel, by a word there of that one alone, and by a message of the first one that who asks is on too; else whether the userfile has a user of that name |
+//! | `seen` | `msg`, `pub` | NICK | no change: it says whether NICK is on a channel |
 //!
-//! Each answers with one NOTICE to the nick, in the help queue: how it is used where a word is missing, the code of the
-//! refusal where the records refuse the change as they are, and else that the change waits for the next pump. `bans` has a
-//! NOTICE for each ban.
+//! - A word on a channel asks about that channel alone. A private message asks about the first channel with NICK on
+//!   which the caller is too. If that finds nothing, `seen` says whether the userfile has a user of that name.
 //!
-//! To try things out with, whoever calls:
+//! Each of these private commands, and `seen`, answers with one NOTICE to the nick, in the help queue: how it is used
+//! if a word is missing; the code of the refusal if the present records refuse the change; and otherwise that the
+//! change waits for the next pump. `bans` has a NOTICE for each ban.
 //!
-//! | Proc | Kind | Words | It asks for |
+//! To try things out with, for any caller:
+//!
+//! | Proc | Kind | Words | What it requests |
 //! |---|---|---|---|
 //! | `quiet`, `stop` | any | | nothing |
-//! | `adduser` | `msg`, `pub` | HANDLE | a user |
-//! | `tick` | any | | a call of `quiet` ten seconds on |
-//! | `tell` | `msg`, `pub` | TEXT | that the hub is told the text |
-//! | `echo` | `msg`, `msgm`, `pub`, `pubm` | TEXT | that it is said again, on the channel or to the nick |
+//! | `adduser` | `msg`, `pub` | HANDLE | a new user |
+//! | `tick` | any | | a call of `quiet` after ten seconds |
+//! | `tell` | `msg`, `pub` | TEXT | that the bot sends the text to the hub |
+//! | `echo` | `msg`, `msgm`, `pub`, `pubm` | TEXT | that the bot repeats it, on the channel or to the nick |
 //!
 //! ```text
 //! let store = store(alloc)?;                      // ProcStore<Ours, EggProc>

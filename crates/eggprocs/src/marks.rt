@@ -1,4 +1,4 @@
-// The procs of sticky bans, and the one that says which bans there are.
+// The procs of sticky bans, and the one that lists bans.
 ghost use Rattle.std.specs.Prelude.{◌≡◌, map, take, drop, IfOk};
 ghost use Rattle.procstore.specs.declared.limits.TheConstants.{MAX_ACTIONS};
 ghost use Rattle.eggprocs.specs.Args.{told_of};
@@ -28,7 +28,7 @@ pub(crate) fn unstick(alloc: Global, text: &[u8]) -> Result<Option<Change>, NoMe
     marked(alloc, text, false)
 }
 
-// A change of a ban's mark: of the ban of all channels where no channel is named.
+// A change of whether a ban is sticky: of the ban on all channels if no channel is given.
 fn marked(alloc: Global, text: &[u8], on: bool) -> Result<Option<Change>, NoMemory>
     ensures { IfOk result (λ wish. wish ≡ marked text.now on) }
 {
@@ -40,7 +40,7 @@ fn marked(alloc: Global, text: &[u8], on: bool) -> Result<Option<Change>, NoMemo
     Ok(Some(Change::SetSticky { channel, mask, on }))
 }
 
-// What `bans` asks for: that a master is told the bans, as many as an answer has room for.
+// What `bans` requests: NOTICEs that list the bans to a master, as many as an answer has room for.
 pub(crate) fn asked_by_bans(
     alloc: Global,
     call: &Call,
@@ -66,7 +66,7 @@ fn left_out(text: &[u8]) -> u16
     }
 }
 
-// A line for each ban after so many, and one where there is none.
+// A NOTICE for each ban after the first `left_out`, or one if there is none.
 fn told_bans(
     alloc: Global,
     call: &Call,
@@ -82,7 +82,7 @@ fn told_bans(
     some_bans(alloc, call, userfile, left_out)
 }
 
-// A line for each ban after so many.
+// A NOTICE for each ban after the first `left_out`.
 fn some_bans(
     alloc: Global,
     call: &Call,
@@ -105,7 +105,7 @@ fn some_bans(
     Ok(actions)
 }
 
-// Who calls is told a ban.
+// A NOTICE to the caller that shows a ban.
 fn told_ban(alloc: Global, call: &Call, ban: &Ban) -> Result<Action, NoMemory>
     ensures { IfOk result (λ action. action ≡ told_ban call.now ban.now) }
 {

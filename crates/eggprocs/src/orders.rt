@@ -22,7 +22,7 @@ pub enum Order {
     Unstick,
 }
 
-// What such a command asks for.
+// What such a command requests.
 pub(crate) fn asked_by_order(
     alloc: Global,
     order: Order,
@@ -35,7 +35,7 @@ pub(crate) fn asked_by_order(
     asked_by_command(alloc, call, view, usage_of(order), wish)
 }
 
-// What is told where a word is missing.
+// What the NOTICE says if a word is missing.
 fn usage_of(order: Order) -> &'static [u8]
     ensures { result.now ≡ usage_of order }
 {

@@ -19,13 +19,13 @@ use procstore::{Action, Actions, Call, PutWish, View};
 use std::alloc::Global;
 use userfile::{Change, ChangeFault, Hostmask, User};
 
-// What a stranger is told.
+// What the NOTICE to a stranger says.
 pub(crate) const FOR_MASTERS: &[u8] = b"only masters and owners may do that";
 
-// What a master is told who is no owner.
+// What the NOTICE to a master who is no owner says.
 const FOR_OWNERS: &[u8] = b"only owners may do that";
 
-// Who calls is told something.
+// A NOTICE to the caller.
 pub(crate) fn told(alloc: Global, call: &Call, words: &[u8]) -> Result<Action, NoMemory>
     ensures { IfOk result (λ action. action ≡ told call.now words.now) }
 {
@@ -34,7 +34,7 @@ pub(crate) fn told(alloc: Global, call: &Call, words: &[u8]) -> Result<Action, N
     Ok(Action::Put(PutWish { queue, line }))
 }
 
-// Who calls is told something, and that is all.
+// A NOTICE to the caller, and no other action.
 pub(crate) fn only_told(alloc: Global, call: &Call, words: &[u8]) -> Result<Actions, NoMemory>
     ensures { IfOk result (λ actions. actions ≡ told call.now words.now ∷ []) }
 {
@@ -42,7 +42,7 @@ pub(crate) fn only_told(alloc: Global, call: &Call, words: &[u8]) -> Result<Acti
     Actions::one(alloc, action)
 }
 
-// What a command to the bot asks for.
+// What a command to the bot requests.
 pub(crate) fn asked_by_command(
     alloc: Global,
     call: &Call,
@@ -60,7 +60,7 @@ pub(crate) fn asked_by_command(
     }
 }
 
-// What a master's command asks for: its change, unless that is for owners, or to be told how it is used.
+// What a master's command requests: its change, unless that is for owners, or a NOTICE of how it is used.
 fn asked_by_master(
     alloc: Global,
     call: &Call,
@@ -82,7 +82,7 @@ fn asked_by_master(
     }
 }
 
-// Whether a change makes an owner, or is of one.
+// Whether a change makes an owner or changes one.
 fn is_for_owners(change: &Change, view: &View<'_>) -> bool
     ensures { result ≡ is_for_owners change.now view.now }
 {
@@ -112,7 +112,7 @@ fn makes_owner(change: &Change) -> bool
     }
 }
 
-// The user that a change is of.
+// The user that a change is about.
 fn handle_in(change: &Change) -> &[u8]
     ensures { result.now ≡ handle_in change.now }
 {
@@ -133,7 +133,7 @@ fn handle_in(change: &Change) -> &[u8]
     }
 }
 
-// A change is asked for, or it is told why the userfile does not take it.
+// The request of a change, or a NOTICE of why the userfile refuses it.
 pub(crate) fn asked_unless(
     alloc: Global,
     fault: Option<ChangeFault>,
@@ -218,7 +218,7 @@ pub(crate) fn chattr(alloc: Global, text: &[u8]) -> Result<Option<Change>, NoMem
     Ok(Some(Change::SetGlobal { handle, flags }))
 }
 
-// What `whois` asks for: that a master is told who somebody is.
+// What `whois` requests: a NOTICE to a master that says who a user is.
 pub(crate) fn asked_by_whois(
     alloc: Global,
     call: &Call,
@@ -237,7 +237,7 @@ pub(crate) fn asked_by_whois(
     }
 }
 
-// What is said of the user that `whois` names.
+// What the NOTICE says about the user that `whois` names.
 fn whois(alloc: Global, call: &Call, view: &View<'_>) -> Result<Text, NoMemory>
     ensures { IfOk result (λ words.
         words ≡ described (user_of (first_word (told_of call.now)) view.now.sight.records.users)) }
@@ -245,7 +245,7 @@ fn whois(alloc: Global, call: &Call, view: &View<'_>) -> Result<Text, NoMemory>
     described(alloc, view.userfile().user(first_word(told_of(call))))
 }
 
-// What is said of a user.
+// What the NOTICE says about a user.
 fn described(alloc: Global, user: Option<&User>) -> Result<Text, NoMemory>
     ensures { IfOk result (λ words. words ≡ described (option_copied user.entry)) }
 {
@@ -263,7 +263,7 @@ fn described(alloc: Global, user: Option<&User>) -> Result<Text, NoMemory>
     Ok(Text::new(words))
 }
 
-// An info line, where there is one.
+// An info line, if there is one.
 fn info_text(alloc: Global, info: &[u8]) -> Result<Text, NoMemory>
     ensures { IfOk result (λ text. text ≡ info_text info.now) }
 {

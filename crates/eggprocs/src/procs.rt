@@ -9,10 +9,10 @@ use bytetext::{NoMemory, Text};
 use procstore::{Proc, ProcStore};
 use std::alloc::Global;
 
-/// A store of all the procs, in the order of [`EVERY`](crate::EVERY).
+/// Creates a store of all the procs, in the order of [`EVERY`](crate::EVERY).
 ///
 /// # Errors
-/// `NoMemory` where room is refused.
+/// `NoMemory` if memory cannot be allocated.
 pub fn store(alloc: Global) -> Result<ProcStore<Ours, EggProc>, NoMemory>
     ensures { IfOk result (λ store. store ≡ map name_of every) }
 {
@@ -30,7 +30,7 @@ fn store_of(alloc: Global, procs: &[Which]) -> Result<ProcStore<Ours, EggProc>, 
     Ok(store)
 }
 
-// Adds a proc. There are few, and their names differ, so that only memory can be lacking.
+// Adds a proc. There are few procs and their names differ, so only memory can be lacking.
 fn add(alloc: Global, store: &mut ProcStore<Ours, EggProc>, which: Which) -> Result<(), NoMemory>
     ensures { OnOk result (store.new ≡ store.old ++ name_of which ∷ []) }
 {

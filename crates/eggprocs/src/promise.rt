@@ -1,8 +1,8 @@
 // What the procs promise.
 use procstore::Promise;
 
-/// What the procs of the programs promise: the code of each, and just what it asks for, by its call and what it sees of
-/// its bot. Any of them may lack memory. `specs/Procs` has it, proc by proc.
+/// What the procs of the programs promise: each proc's code, and exactly what it requests, given its call and what it
+/// sees of its bot. Any of them may run out of memory. `specs/Procs` has the promise, proc by proc.
 #[derive(Drop)]
 pub struct Ours;
 

@@ -1,4 +1,4 @@
-// Who may have something done.
+// Which callers may use a proc.
 ghost use Rattle.std.specs.Prelude.{◌≡◌};
 ghost use Rattle.eggprocs.specs.Rights.{is_pub, is_join, is_msg, is_timer, is_mode, flags_by, has_flag, is_op_of, is_bot_op, is_from_op, is_from_voice, global_by, is_owner, is_master, standing_if, standing_of};
 
@@ -7,16 +7,16 @@ use flagexpr::Flags;
 use procstore::{Call, Kind, View};
 use userfile::PersonFlags;
 
-/// The flag of who gets op on joining a channel.
+/// The flag of users who get op when they join a channel.
 pub const AUTO_OP: u8 = b'a';
 
-/// The flag of who gets voice on joining a channel.
+/// The flag of users who get voice when they join a channel.
 pub const AUTO_VOICE: u8 = b'g';
 
 /// The flag of a channel's operators.
 pub const OP: u8 = b'o';
 
-/// The flag of who may have voice.
+/// The flag of users who may have voice.
 pub const VOICE: u8 = b'v';
 
 /// The flag of masters.
@@ -25,10 +25,10 @@ pub const MASTER: u8 = b'm';
 /// The flag of owners.
 pub const OWNER: u8 = b'n';
 
-/// Who says something to the bot.
+/// The standing of the person who says something to the bot.
 #[derive(Clone, Copy, Debug)]
 pub enum Standing {
-    /// Nobody: the call is for something else.
+    /// Nobody says anything to the bot: the call is for something else.
     Elsewhere,
     /// Somebody without the flags `m` and `n`.
     Stranger,
@@ -36,7 +36,7 @@ pub enum Standing {
     Master,
 }
 
-// Whether a call is for the first word of what is said on a channel.
+// Whether a call is for the first word of a text on a channel.
 pub(crate) fn is_pub(kind: Kind) -> bool
     ensures { result ≡ is_pub kind }
 {
@@ -50,7 +50,7 @@ pub(crate) fn is_join(kind: Kind) -> bool
     matches!(kind, Kind::Join)
 }
 
-// Whether a call is for the first word of what is said to the bot.
+// Whether a call is for the first word of a text to the bot.
 pub(crate) fn is_msg(kind: Kind) -> bool
     ensures { result ≡ is_msg kind }
 {
@@ -71,7 +71,7 @@ pub(crate) fn is_mode(kind: Kind) -> bool
     matches!(kind, Kind::Mode)
 }
 
-// The flags of who calls, with those on the call's channel.
+// The flags of the caller, with those on the call's channel.
 pub(crate) fn flags_by(call: &Call, view: &View<'_>) -> PersonFlags
     ensures { result ≡ flags_by call.now view.now }
 {
@@ -100,14 +100,14 @@ pub(crate) fn is_op_of(channel: &[u8], view: &View<'_>) -> bool
     channels.is_op(channel, channels.own_nick())
 }
 
-// Whether a call is a word, on a channel on which the bot is an operator, of who has the flag o.
+// Whether a call is a word on a channel on which the bot is an operator, and the caller has the flag o.
 pub(crate) fn is_from_op(call: &Call, view: &View<'_>) -> bool
     ensures { result ≡ is_from_op call.now view.now }
 {
     is_pub(call.kind) && is_bot_op(call, view) && has_flag(OP, &flags_by(call, view))
 }
 
-// Whether a call is a word, on a channel on which the bot is an operator, of who has one of the flags o and v.
+// Whether a call is a word on a channel on which the bot is an operator, and the caller has one of the flags o and v.
 pub(crate) fn is_from_voice(call: &Call, view: &View<'_>) -> bool
     ensures { result ≡ is_from_voice call.now view.now }
 {
@@ -115,21 +115,21 @@ pub(crate) fn is_from_voice(call: &Call, view: &View<'_>) -> bool
     is_pub(call.kind) && is_bot_op(call, view) && (has_flag(OP, &flags) || has_flag(VOICE, &flags))
 }
 
-// The flags that who calls has everywhere.
+// The flags that the caller has everywhere.
 fn global_by(call: &Call, view: &View<'_>) -> Flags
     ensures { result ≡ global_by call.now view.now }
 {
     view.userfile().flags_of(handle_of(call), b"").global
 }
 
-// Whether who calls has the flag n everywhere.
+// Whether the caller has the flag n everywhere.
 pub(crate) fn is_owner(call: &Call, view: &View<'_>) -> bool
     ensures { result ≡ is_owner call.now view.now }
 {
     global_by(call, view).has(OWNER)
 }
 
-// Whether who calls has one of the flags m and n everywhere.
+// Whether the caller has one of the flags m and n everywhere.
 fn is_master(call: &Call, view: &View<'_>) -> bool
     ensures { result ≡ is_master call.now view.now }
 {
@@ -137,7 +137,7 @@ fn is_master(call: &Call, view: &View<'_>) -> bool
     global.has(MASTER) || global.has(OWNER)
 }
 
-// Who says something to the bot.
+// The standing of the person who says something to the bot.
 pub(crate) fn standing_of(call: &Call, view: &View<'_>) -> Standing
     ensures { result ≡ standing_of call.now view.now }
 {

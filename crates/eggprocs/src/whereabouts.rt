@@ -11,7 +11,7 @@ use bytetext::{NoMemory, Text, TryCopy};
 use procstore::{Actions, Call, View};
 use std::alloc::Global;
 
-// What `seen` asks for: that whoever calls is told whether somebody is here.
+// What `seen` requests: a NOTICE to the caller that says whether somebody is here.
 pub(crate) fn asked_by_seen(
     alloc: Global,
     call: &Call,
@@ -53,7 +53,7 @@ fn is_there(nick: &[u8], view: &View<'_>, channel: &[u8]) -> bool
     view.channels().is_on(channel, nick)
 }
 
-// A channel on which both are of which it may be told.
+// A channel that has both the caller and the other, and that the answer may name.
 fn shared(alloc: Global, call: &Call, view: &View<'_>) -> Result<Option<Text>, NoMemory>
     ensures { IfOk result (λ channel. channel ≡ shared call.now view.now) }
 {
@@ -64,7 +64,7 @@ fn shared(alloc: Global, call: &Call, view: &View<'_>) -> Result<Option<Text>, N
     }
 }
 
-// The channel on which it is asked, if both are there.
+// The channel of the call, if both are on it.
 fn asked_here(alloc: Global, call: &Call, view: &View<'_>) -> Result<Option<Text>, NoMemory>
     ensures { IfOk result (λ channel. channel ≡ asked_here call.now view.now) }
 {
@@ -106,7 +106,7 @@ fn on_now(alloc: Global, nick: &[u8], channel: &[u8]) -> Result<Text, NoMemory>
     Ok(Text::new(words))
 }
 
-// What the records say of who is not here.
+// What the records say about a nick that is not here.
 fn by_records(alloc: Global, call: &Call, view: &View<'_>) -> Result<Text, NoMemory>
     ensures { IfOk result (λ words. words ≡ by_records call.now view.now) }
 {

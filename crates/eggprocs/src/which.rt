@@ -1,10 +1,10 @@
-// Which proc is meant.
+// The names of the procs.
 ghost use Rattle.std.specs.Prelude.{◌≡◌};
 ghost use Rattle.eggprocs.specs.Procs.{name_of, code_by};
 
 use procstore::Code;
 
-/// How many procs there are.
+/// The number of procs.
 pub const PROC_COUNT: usize = 30;
 
 /// Every proc, in the order in which [`store`](crate::store) adds them.
@@ -44,17 +44,17 @@ pub const EVERY: [Which; PROC_COUNT] = [
 /// A proc of the programs. The crate's first page says what each is for.
 #[derive(Clone, Copy, Debug)]
 pub enum Which {
-    /// `quiet`: asks for nothing.
+    /// `quiet`: requests nothing.
     Quiet,
-    /// `stop`: asks for nothing, and answers 1.
+    /// `stop`: requests nothing, and answers 1.
     Stop,
-    /// `adduser`: asks for a user.
+    /// `adduser`: requests a new user.
     AddUser,
-    /// `tick`: asks for a call of `quiet`.
+    /// `tick`: requests a call of `quiet`.
     Tick,
-    /// `tell`: tells the hub a text.
+    /// `tell`: sends a text to the hub.
     Tell,
-    /// `echo`: says a text again.
+    /// `echo`: repeats a text.
     Echo,
     /// `op`: makes somebody an operator of a channel.
     Op,
@@ -64,7 +64,7 @@ pub enum Which {
     Voice,
     /// `devoice`: the reverse of `voice`.
     Devoice,
-    /// `autoop`: gives op or voice to who joins.
+    /// `autoop`: gives op or voice to a person who joins.
     AutoOp,
     /// `kick`: kicks somebody from a channel.
     Kick,
@@ -76,38 +76,38 @@ pub enum Which {
     Ban,
     /// `unban`: the reverse of `ban`.
     Unban,
-    /// `lift`: ends a ban on its channel, for the timer that `ban` asks for.
+    /// `lift`: ends a ban on its channel, for the timer that `ban` requests.
     Lift,
-    /// `+user`: asks for a user.
+    /// `+user`: requests a new user.
     PlusUser,
-    /// `-user`: asks that a user goes.
+    /// `-user`: requests the end of a user.
     MinusUser,
-    /// `+host`: asks for a hostmask of a user.
+    /// `+host`: requests a new hostmask of a user.
     PlusHost,
-    /// `-host`: asks that a hostmask goes.
+    /// `-host`: requests the end of a user's hostmask.
     MinusHost,
-    /// `chattr`: asks for other flags of a user.
+    /// `chattr`: requests other flags of a user.
     Chattr,
     /// `whois`: says who a user is.
     Whois,
-    /// `info`: says the own info line, or asks for another one.
+    /// `info`: says the caller's info line, or requests another one.
     Info,
-    /// `greet`: says the info line of who joins.
+    /// `greet`: says the info line of a person who joins.
     Greet,
-    /// `stick`: asks that a ban is sticky.
+    /// `stick`: requests that a ban is sticky.
     Stick,
     /// `unstick`: the reverse of `stick`.
     Unstick,
-    /// `bans`: says which bans there are.
+    /// `bans`: lists the bans.
     Bans,
     /// `seen`: says whether somebody is here.
     Seen,
-    /// `opall`: gives op and voice to those on a channel as the bot gets op there.
+    /// `opall`: gives op and voice to the members of a channel when the bot gets op there.
     OpAll,
 }
 
 impl Which {
-    /// The name under which a store has the proc.
+    /// Returns the name under which a store has the proc.
     pub fn name(self) -> &'static [u8]
         ensures { result.now ≡ name_of self }
     {

@@ -1,11 +1,11 @@
-//! Replays or draws a script, as `eggnet` does: a program of its own, which is soon built.
+//! Replays or draws a script, as `eggnet` does: a program of its own, which builds fast.
 //!
-//! `eggreplay replay [FILE]` and `eggreplay picture [FILE]` are the commands `replay` and `picture` of `eggnet`, and end
-//! with the same statuses. It needs nothing of processes, sockets and command lines, so that without a proof it is built
-//! in half the time; `./eggnet` takes it for these two words where nothing is proved.
+//! `eggreplay replay [FILE]` and `eggreplay picture [FILE]` are the commands `replay` and `picture` of `eggnet`, and
+//! end with the same statuses. The program needs nothing of processes, sockets and command lines, so without a proof it
+//! builds in half the time. `./eggnet` runs it for these two words if nothing is proved.
 //!
-//! For the gate it draws the script in its file `stdin`, which has one of everything that is drawn but calls of procs. Its
-//! file `stdout` is the picture. It was looked at in a browser; whoever changes it looks at it again.
+//! In the gate it draws the script in its file `stdin`, which has one of everything that is drawn except calls of
+//! procs. Its file `stdout` is the picture. Somebody looked at it in a browser; whoever changes it looks at it again.
 #![tactic(auto)]
 
 use bytetext::NoMemory;

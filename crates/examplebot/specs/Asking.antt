@@ -1,4 +1,4 @@
--- What procs read of a call and of what they see, and what they ask for.
+-- What procs read of a call and of what they see, and the actions that they ask for.
 use Rattle.std.specs.Prelude.{ℕ, ◌+◌, nat_lt, Bool, ◌||◌, List, [], ◌∷◌, slice_get, unwrap_or, if◌then◌else◌, codes, Option, Some, None}
 use Rattle.std.specs.List.{concat}
 use Rattle.bytetext.specs.declared.moment.TheConstants.{MOMENTS_END}
@@ -14,11 +14,11 @@ use Rattle.procstore.specs.declared.action.Action.TheVariants.{Ask, Utimer, Put}
 use Rattle.procstore.specs.declared.call.Call.{Call}
 use Rattle.procstore.specs.Seen.{Seen}
 
--- an argument of a call, and the empty text where it has none at this place
+-- an argument of a call, or the empty text if it has none at this place
 abbrev pub arg_at : Call → ℕ → List ℕ
 arg_at call place = unwrap_or (slice_get call.args place) []
 
--- who does or says something, and on which channel
+-- the person who does or says something, and the channel
 abbrev pub nick_of : Call → List ℕ
 nick_of call = arg_at call 0
 
@@ -43,7 +43,7 @@ has_o call seen = has_o_in (flags_of seen.sight.records.users (handle_of call) (
 abbrev pub is_op : Call → Seen → Bool
 is_op call seen = is_op_there (member_in (channel_of call) (nick_of call) seen.sight.channels)
 
--- the second that is so many after that of the clock, which shows one before the year 3000, or none
+-- the second that comes this many seconds after the clock's, if the clock shows one before the year 3000; else none
 abbrev pub second_after : ℕ → Option ℕ → Option ℕ
 second_after seconds None = None
 second_after seconds (Some second) = if nat_lt second MOMENTS_END then Some (second + seconds) else None
@@ -52,11 +52,11 @@ second_after seconds (Some second) = if nat_lt second MOMENTS_END then Some (sec
 abbrev pub put : Queue → List (List ℕ) → Action
 put queue parts = Put (record { queue = queue; line = concat parts })
 
--- the same so many seconds later: a call of `put_later` with the line
+-- the same this many seconds later: a call of `put_later` with the line
 abbrev pub put_after : ℕ → List (List ℕ) → Action
 put_after seconds parts = Utimer (record { interval = seconds; count = 1; proc = codes "put_later"; text = concat parts })
 
--- and what that asks for
+-- and what `put_later` asks for: the line that is its timer's text
 abbrev pub put_later : Call → List Action
 put_later call = put Mode (arg_at call 0 ∷ []) ∷ []
 

@@ -11,12 +11,12 @@ use Rattle.procstore.specs.Promises.{Promised, promised}
 use Rattle.procstore.specs.Seen.{Seen}
 use Rattle.examplebot.specs.Asking.{nick_of, handle_of, channel_of, mask_of, has_o, is_op, second_after, put, put_after, put_later, ban}
 
--- who joins with the flag o gets op
+-- a member who joins with the flag o gets op
 abbrev pub op : Call → Seen → List Action
 op call seen =
     if has_o call seen then put Mode (codes "MODE " ∷ channel_of call ∷ codes " +o " ∷ nick_of call ∷ []) ∷ [] else []
 
--- nobody is banned before the clock's first reading, and else until this second
+-- before the clock's first reading nobody is banned; afterwards the ban lasts until this second
 abbrev pub banned_until : Option ℕ → Call → List Action
 banned_until None call = []
 banned_until (Some end) call =
@@ -25,15 +25,15 @@ banned_until (Some end) call =
     put Mode (codes "KICK " ∷ channel_of call ∷ codes " " ∷ nick_of call ∷ codes " :mind your words" ∷ []) ∷
     put_after 600 (codes "MODE " ∷ channel_of call ∷ codes " -b " ∷ mask_of call ∷ []) ∷ []
 
--- who says a bad word is banned for 600 seconds, save ops and who has the flag o
+-- whoever says a bad word is banned for 600 seconds, except ops and people with the flag o
 abbrev pub badword : Call → Seen → List Action
 badword call seen = if is_op call seen || has_o call seen then [] else banned_until (second_after 600 seen.second) call
 
--- the info line of who joins
+-- the info line of a member who joins
 abbrev pub info : Call → Seen → List ℕ
 info call seen = info_of seen.sight.records.users (handle_of call)
 
--- who joins with an info line is greeted by it, save the bot
+-- a member who joins and has an info line is greeted by it, except the bot
 abbrev pub greet : Call → Seen → List Action
 greet call seen =
     if length (info call seen) == 0 || bytes_eq (nick_of call) seen.sight.channels.nick then []
@@ -41,7 +41,7 @@ greet call seen =
 
 -- ---- by name
 
--- what a proc of this name asks for
+-- what the proc of this name asks for
 abbrev pub actions_of : List ℕ → Call → Seen → List Action
 actions_of name call seen =
     if bytes_eq name (codes "op") then op call seen
@@ -50,10 +50,10 @@ actions_of name call seen =
     else if bytes_eq name (codes "put_later") then put_later call
     else []
 
--- what it answers
+-- what that proc answers
 abbrev pub reply_of : List ℕ → Call → Seen → Reply
 reply_of name call seen = record { code = Zero; actions = actions_of name call seen }
 
--- that code, and just these actions
+-- the code is that one, and the actions are just these
 abbrev pub ours : Promised
 ours = promised (λ name call sight. Zero) (λ name call seen actions. actions ≡ actions_of name call seen)

@@ -1,4 +1,4 @@
-// What procs read of a call and a view, and what they ask for, in the words of `specs/Asking.antt`.
+// What procs read of a call and a view, and the actions that they ask for, in the words of `specs/Asking.antt`.
 ghost use Rattle.std.specs.Prelude.{◌≡◌, ◌≤◌, length, map, IfOk};
 ghost use Rattle.std.specs.List.{concat};
 ghost use Rattle.examplebot.specs.Asking.{arg_at, ban, channel_of, handle_of, has_o, is_op, mask_of, nick_of, put, put_after, put_later, second_after};
@@ -9,7 +9,7 @@ use procstore::{Action, Actions, Call, PutWish, TimerWish, View};
 use std::alloc::Global;
 use userfile::Change;
 
-// An argument of a call, and the empty text where there is none at this place.
+// Returns the call's argument at `place`, or the empty text if it has none there.
 pub(crate) fn arg_at(call: &Call, place: usize) -> &[u8]
     ensures { result.now ≡ arg_at call.now place }
 {
@@ -19,35 +19,35 @@ pub(crate) fn arg_at(call: &Call, place: usize) -> &[u8]
     }
 }
 
-// The nick of who does or says something.
+// Returns the nick of the person who does or says something.
 pub(crate) fn nick_of(call: &Call) -> &[u8]
     ensures { result.now ≡ nick_of call.now }
 {
     arg_at(call, 0)
 }
 
-// The handle of who that is, and `*` for somebody unknown.
+// Returns the handle of that person, `*` if unknown.
 pub(crate) fn handle_of(call: &Call) -> &[u8]
     ensures { result.now ≡ handle_of call.now }
 {
     arg_at(call, 2)
 }
 
-// The channel where that is.
+// Returns the channel on which it happens.
 pub(crate) fn channel_of(call: &Call) -> &[u8]
     ensures { result.now ≡ channel_of call.now }
 {
     arg_at(call, 3)
 }
 
-// The mask of who that is: any nick, and just this user and host.
+// Returns the mask of that person: any nick, and just this user and host.
 pub(crate) fn mask_of(alloc: Global, call: &Call) -> Result<Text, NoMemory>
     ensures { IfOk result (λ mask. mask ≡ mask_of call.now) }
 {
     text(alloc, &[b"*!", arg_at(call, 1)])
 }
 
-// Whether who that is has the flag o, everywhere or on the channel.
+// Returns whether that person has the flag o, everywhere or on the channel.
 pub(crate) fn has_o(call: &Call, view: &View<'_>) -> bool
     ensures { result ≡ has_o call.now view.now }
 {
@@ -55,14 +55,14 @@ pub(crate) fn has_o(call: &Call, view: &View<'_>) -> bool
     flags.global.has(b'o') || flags.chan.has(b'o')
 }
 
-// Whether who that is has op on the channel.
+// Returns whether that person has op on the channel.
 pub(crate) fn is_op(call: &Call, view: &View<'_>) -> bool
     ensures { result ≡ is_op call.now view.now }
 {
     view.channels().is_op(channel_of(call), nick_of(call))
 }
 
-// The second that is so many after that of the clock; none before the clock's first reading.
+// Returns the second that is `seconds` after that of the clock, or `None` before the clock's first reading.
 pub(crate) fn second_after(view: &View<'_>, seconds: u32) -> Option<u64>
     ensures { result ≡ second_after seconds view.now.second }
 {
@@ -72,7 +72,7 @@ pub(crate) fn second_after(view: &View<'_>, seconds: u32) -> Option<u64>
     }
 }
 
-// These parts, one after another.
+// Joins `parts`, one after another.
 fn text(alloc: Global, parts: &[&[u8]]) -> Result<Text, NoMemory>
     ensures { IfOk result (λ text. text ≡ concat (map (λ part. part.now) parts.now)) }
 {
@@ -83,7 +83,7 @@ fn text(alloc: Global, parts: &[&[u8]]) -> Result<Text, NoMemory>
     Ok(Text::new(text))
 }
 
-// A line of these parts for the server, in a queue.
+// Asks for a line to the server, made of `parts`, in `queue`.
 pub(crate) fn put(alloc: Global, queue: Queue, parts: &[&[u8]]) -> Result<Action, NoMemory>
     ensures { IfOk result (λ action. action ≡ put queue (map (λ part. part.now) parts.now)) }
 {
@@ -91,7 +91,7 @@ pub(crate) fn put(alloc: Global, queue: Queue, parts: &[&[u8]]) -> Result<Action
     Ok(Action::Put(PutWish { queue, line }))
 }
 
-// A line of these parts for the server, in the mode queue, so many seconds later.
+// Asks for a line to the server, made of `parts`, in the mode queue, `seconds` later.
 pub(crate) fn put_after(alloc: Global, seconds: u32, parts: &[&[u8]]) -> Result<Action, NoMemory>
     ensures { IfOk result (λ action. action ≡ put_after seconds (map (λ part. part.now) parts.now)) }
 {
@@ -105,7 +105,7 @@ pub(crate) fn put_after(alloc: Global, seconds: u32, parts: &[&[u8]]) -> Result<
     }))
 }
 
-// What the proc `put_later` asks for: the line that is its timer's text.
+// Returns what the proc `put_later` asks for: the line that is its timer's text.
 pub(crate) fn put_later(alloc: Global, call: &Call) -> Result<Actions, NoMemory>
     ensures { IfOk result (λ actions. actions ≡ put_later call.now) }
 {
@@ -113,7 +113,7 @@ pub(crate) fn put_later(alloc: Global, call: &Call) -> Result<Actions, NoMemory>
     Ok(these(vec![in alloc; line]?))
 }
 
-// A ban in the records, made by `egg`, that ends at this second.
+// Asks for a ban in the records, made by `egg`, that ends at the second `expires`.
 pub(crate) fn ban(
     alloc: Global,
     channel: &[u8],
@@ -136,7 +136,7 @@ pub(crate) fn ban(
     }))
 }
 
-// These actions, of which there are eight at most.
+// Wraps `actions`, of which there are eight at most.
 pub(crate) fn these(actions: Vec<Action>) -> Actions
     requires { length actions.items ≤ 8 }
     ensures { result ≡ actions.items }

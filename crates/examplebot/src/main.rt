@@ -1,7 +1,7 @@
 //! Three bots in one: `op` gives an op, `badword` bans for ten minutes, and `greet` greets.
 //!
-//! It replays the script on standard input, as `eggnet replay` does, with these procs in place of eggnet's: a script calls
-//! each of them, and shows the ban and its end.
+//! It replays the script on standard input, as `eggnet replay` does, with these procs instead of eggnet's. The script
+//! calls each of them, and shows the ban and its end.
 #![tactic(auto)]
 
 mod asking;

@@ -1,10 +1,10 @@
-// What runs under the names, and what it promises.
+// The procs that run under the names, and what they promise.
 use crate::procs::{NAMES, actions_of};
 use bytetext::{NoMemory, Text};
 use procstore::{AddError, Call, Code, Proc, ProcStore, Promise, Reply, Run, View};
 use std::alloc::Global;
 
-/// What the procs of this program promise: `specs/Ours.antt` has it, proc by proc.
+/// What the procs of this program promise, proc by proc, as `specs/Ours.antt` has it.
 #[derive(Drop)]
 pub struct Ours;
 
@@ -14,7 +14,7 @@ impl Promise for Ours {
     ghost promised = { ours };
 }
 
-/// The proc of a name. It makes its answers on an allocator of its own.
+/// The proc of a name. It allocates its answers on an allocator of its own.
 #[derive(Drop)]
 pub struct OurProc {
     alloc: Global,
@@ -36,10 +36,10 @@ impl Run for OurProc {
     }
 }
 
-/// A store of all of them.
+/// Creates a store of all procs.
 ///
 /// # Errors
-/// `NameTaken` where two have one name, and `NoMemory` where room is refused.
+/// `NameTaken` if two procs have one name, and `NoMemory` if an allocation fails.
 pub(crate) fn store(alloc: Global) -> Result<ProcStore<Ours, OurProc>, AddError> {
     let mut store = ProcStore::new(alloc);
     for name in NAMES {

@@ -1,4 +1,4 @@
-// Our procs: what each asks for, in the words of `specs/Ours.antt`.
+// Our procs, and the actions that each asks for, in the words of `specs/Ours.antt`.
 ghost use Rattle.std.specs.Prelude.{◌≡◌, IfOk};
 ghost use Rattle.examplebot.specs.Ours.{actions_of, badword, greet, op};
 
@@ -11,10 +11,10 @@ use outqueue::Queue;
 use procstore::{Actions, Call, View};
 use std::alloc::Global;
 
-/// The name of each proc.
+/// The names of the procs.
 pub(crate) const NAMES: [&[u8]; 4] = [b"op", b"badword", b"greet", b"put_later"];
 
-// What the proc of a name asks for.
+// Returns what the proc named `name` asks for.
 pub(crate) fn actions_of(
     alloc: Global,
     name: &[u8],
@@ -36,7 +36,7 @@ pub(crate) fn actions_of(
     }
 }
 
-// An op for who joins with the flag o.
+// Gives op to a member who joins with the flag o.
 fn op(alloc: Global, call: &Call, view: &View<'_>) -> Result<Actions, NoMemory>
     ensures { IfOk result (λ actions. actions ≡ op call.now view.now) }
 {
@@ -48,7 +48,7 @@ fn op(alloc: Global, call: &Call, view: &View<'_>) -> Result<Actions, NoMemory>
     Ok(these(vec![in alloc; gives]?))
 }
 
-// A kick and ten minutes' ban for who says a bad word, save ops and who has the flag o.
+// Kicks whoever says a bad word, and bans them for ten minutes, except ops and people with the flag o.
 fn badword(alloc: Global, call: &Call, view: &View<'_>) -> Result<Actions, NoMemory>
     ensures { IfOk result (λ actions. actions ≡ badword call.now view.now) }
 {
@@ -72,7 +72,7 @@ fn badword(alloc: Global, call: &Call, view: &View<'_>) -> Result<Actions, NoMem
     Ok(these(vec![in alloc; bans, sets, kick, lifts]?))
 }
 
-// The info line of who joins, if there is one, and if that isn't the bot.
+// Says the info line of a member who joins, if there is one and the member isn't the bot.
 fn greet(alloc: Global, call: &Call, view: &View<'_>) -> Result<Actions, NoMemory>
     ensures { IfOk result (λ actions. actions ≡ greet call.now view.now) }
 {

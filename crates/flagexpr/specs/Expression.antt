@@ -6,30 +6,30 @@ use Rattle.std.specs.List.{before_first, after_first, list_any}
 use Rattle.flagexpr.specs.Letters.{set_of, shares, is_within}
 use Rattle.flagexpr.specs.Faults.{is_sign, is_join}
 
--- the letters of a part, as sets: those asked for, and those ruled out
+-- the letters of a part, as sets: those that are wanted, and those that are forbidden
 pub record Part : Type 0 where
   pub wanted : ℕ
   pub forbidden : ℕ
 
--- the parts that stand against the global, the channel and the bot flags, and whether they are joined by `&`
+-- the parts that are compared with the global, the channel and the bot flags, and whether `&` joins them
 pub record Expression : Type 0 where
   pub every : Bool
   pub global : Part
   pub chan : Part
   pub bot : Part
 
--- the bytes of a part that stand under a sign, the last one before them; `current` is the sign before the text
+-- the bytes of a part for which a sign holds, the last one before each; `current` is the sign before the text
 abbrev pub bytes_under : ℕ → ℕ → List ℕ → List ℕ
 bytes_under sign current [] = []
 bytes_under sign current (byte ∷ bytes) =
     if is_sign byte then bytes_under sign byte bytes
     else (if current == sign then byte ∷ bytes_under sign current bytes else bytes_under sign current bytes)
 
--- what has no sign before it is wanted, as it is after `+`; what stands after `-` is forbidden
+-- a letter after `+`, or with no sign before it, is wanted; a letter after `-` is forbidden
 unfoldable pub part_of : List ℕ → Part
 part_of bytes = record { wanted = set_of (bytes_under 43 43 bytes); forbidden = set_of (bytes_under 45 43 bytes) }
 
--- the parts of a text, in order; one that is not there has no letters, nor has `*`
+-- the parts of a text, in order; a missing part has no letters, and neither has `*`
 unfoldable pub expression_of : List ℕ → Expression
 expression_of text =
     record {
@@ -39,11 +39,12 @@ expression_of text =
       bot = part_of (after_first is_join (after_first is_join text));
     }
 
--- whether some forbidden letter is in the set that its part stands against (our own choice: it refuses under `|` too)
+-- whether any forbidden letter is in the set that its part is compared with (our own choice: under `|` too, one such
+-- letter is enough to fail the expression)
 abbrev pub is_forbidden : Expression → ℕ → ℕ → ℕ → Bool
 is_forbidden e global chan bot = shares e.global.forbidden global || shares e.chan.forbidden chan || shares e.bot.forbidden bot
 
--- whether no part asks for a letter
+-- whether no part wants a letter
 abbrev pub wants_nothing : Expression → Bool
 wants_nothing e = e.global.wanted == 0 && e.chan.wanted == 0 && e.bot.wanted == 0
 
@@ -51,7 +52,7 @@ wants_nothing e = e.global.wanted == 0 && e.chan.wanted == 0 && e.bot.wanted == 
 abbrev pub has_each : Expression → ℕ → ℕ → ℕ → Bool
 has_each e global chan bot = is_within e.global.wanted global && is_within e.chan.wanted chan && is_within e.bot.wanted bot
 
--- whether some wanted letter is in its part's set
+-- whether at least one wanted letter is in its part's set
 abbrev pub has_some : Expression → ℕ → ℕ → ℕ → Bool
 has_some e global chan bot = shares e.global.wanted global || shares e.chan.wanted chan || shares e.bot.wanted bot
 

@@ -1,4 +1,4 @@
--- Which texts are refused, and why (our own choice throughout).
+-- Which texts are rejected, and why (our own choice throughout).
 use Rattle.std.specs.Prelude.{ℕ, ◌==◌, nat_lt, Bool, false, ◌&&◌, ◌||◌, List, [], ◌∷◌, codes, count_by, Option, Some, None, if◌then◌else◌}
 use Rattle.std.specs.List.{list_all, list_any}
 use Rattle.std.specs.Char.{is_ascii_alphabetic}
@@ -17,7 +17,7 @@ is_lone byte [] = false
 is_lone byte (only ∷ []) = only == byte
 is_lone byte (first ∷ second ∷ more) = false
 
--- flags are letters alone, or `-`
+-- flags are only letters, or `-` alone
 unfoldable pub flags_fault : List ℕ → Option FlagFault
 flags_fault text = if is_lone 45 text || list_all is_ascii_alphabetic text then None else Some BadLetter
 
@@ -29,7 +29,7 @@ is_sign byte = byte == 43 || byte == 45
 abbrev pub is_join : ℕ → Bool
 is_join byte = byte == 124 || byte == 38
 
--- what an expression is written with, unless it is `*` alone
+-- a byte that may stand in an expression other than `*` alone
 abbrev pub has_place : ℕ → Bool
 has_place byte = is_ascii_alphabetic byte || is_sign byte || is_join byte
 

@@ -1,5 +1,5 @@
 -- Sets of letters, a to z and A to Z, as numbers: a to z are bits 0 to 25, A to Z are bits 26 to 51. The letters are
--- Eggdrop's flags, of which the capitals are free for use (its documents on users and flags); the bits are our own choice.
+-- Eggdrop's flags; its documents on users and flags leave the capitals free for use. The bits are our own choice.
 use Rattle.std.specs.Prelude.{ℕ, ◌-◌, ◌^◌, ◌==◌, nat_le, Bool, true, ◌&&◌, List, [], ◌∷◌, codes, filter, fold, if◌then◌else◌}
 use Rattle.std.specs.List.{list_all, list_any}
 use Rattle.std.specs.Char.{is_ascii_alphabetic}
@@ -26,7 +26,7 @@ set_of bytes = fold with_letter 0 bytes
 unfoldable pub letters : List ℕ
 letters = codes "abcdefghijklmnopqrstuvwxyzABCDEFGHIJKLMNOPQRSTUVWXYZ"
 
--- whether some letter is in both sets
+-- whether any letter is in both sets
 unfoldable pub shares : ℕ → ℕ → Bool
 shares flags others = list_any (λ letter. has_letter flags letter && has_letter others letter) letters
 
@@ -34,7 +34,7 @@ shares flags others = list_any (λ letter. has_letter flags letter && has_letter
 unfoldable pub is_within : ℕ → ℕ → Bool
 is_within flags others = list_all (λ letter. if has_letter flags letter then has_letter others letter else true) letters
 
--- the letters of a set in order, or `-` where there are none, as Eggdrop prints them
+-- the letters of a set in order, or `-` if there are none, as Eggdrop prints them
 abbrev pub dash_for_none : List ℕ → List ℕ
 dash_for_none [] = codes "-"
 dash_for_none (letter ∷ more) = letter ∷ more

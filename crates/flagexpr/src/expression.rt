@@ -26,12 +26,12 @@ impl Model for Part {
     ghost inverse = { λ p. record { wanted = p.wanted; forbidden = p.forbidden } };
 }
 
-/// Which flags are asked for, and which are ruled out.
+/// Which flags are wanted, and which are forbidden.
 ///
-/// An expression is `*` alone, which anybody meets, or one to three parts that stand against a person's global, channel
-/// and bot flags in this order, joined by `|` only or by `&` only. A part is letters with signs, and may be empty. A
-/// sign holds until the next one or the end of its part: after `+`, or with no sign before it, a letter is wanted, and
-/// after `-` it is forbidden.
+/// An expression is `*` alone, which anybody meets, or one to three parts, joined by `|` only or by `&` only. The parts
+/// are compared with a person's global, channel and bot flags, in this order. A part is letters with signs, and may be
+/// empty. A sign holds until the next one or the end of its part: after `+`, or with no sign before it, a letter is
+/// wanted, and after `-` it is forbidden.
 ///
 /// Contracts see the sets of wanted and forbidden letters of the three parts, and whether `&` joins them.
 #[derive(Clone, Copy, Debug)]
@@ -53,11 +53,11 @@ impl Model for FlagExpr {
 }
 
 impl FlagExpr {
-    /// The expression that a text spells. Takes no memory.
+    /// Parses the expression that `text` spells. Does not allocate.
     ///
     /// # Errors
-    /// In this order: `BadLetter` where a byte is no letter, sign or join, unless the text is `*` alone; `MixedJoin`
-    /// where it has both joins; `TooManyParts` where it has more than two.
+    /// In this order: `BadLetter` if a byte is not a letter, sign or join, unless the text is `*` alone; `MixedJoin` if
+    /// it has both joins; `TooManyParts` if it has more than two.
     #[tactic(auto, unfolding(crate::specs::Expression::expression_of))]
     pub fn parse(text: &[u8]) -> Result<FlagExpr, FlagFault>
         ensures fault { result_err result ≡ expression_fault text.now }
@@ -76,10 +76,11 @@ impl FlagExpr {
         })
     }
 
-    /// Whether a person with these flags meets the expression.
+    /// Returns whether a person with the flags `global`, `chan` and `bot` meets the expression.
     ///
-    /// One without letters is met. Otherwise no forbidden letter may be in its part's set, under either join; and where
-    /// letters are wanted, under `|` or in a single part one of them has to be in its part's set, under `&` each.
+    /// Anybody meets an expression without letters. Otherwise no forbidden letter may be in its part's set, under
+    /// either join. If letters are wanted, one of them must be in its part's set under `|` or in a single part, and
+    /// each of them under `&`.
     #[tactic(auto, unfolding(crate::specs::Expression::meets))]
     pub fn meets(&self, global: Flags, chan: Flags, bot: Flags) -> bool
         ensures { result ≡ meets self.now global chan bot }
@@ -101,7 +102,7 @@ impl FlagExpr {
         }
     }
 
-    // Whether some forbidden letter is in its part's set.
+    // Whether any forbidden letter is in its part's set.
     fn is_forbidden(&self, global: Flags, chan: Flags, bot: Flags) -> bool
         ensures { result ≡ is_forbidden self.now global chan bot }
     {
@@ -110,7 +111,7 @@ impl FlagExpr {
             || self.bot.forbidden.shares(bot)
     }
 
-    // Whether no part asks for a letter.
+    // Whether no part wants a letter.
     fn wants_nothing(&self) -> bool
         ensures { result ≡ wants_nothing self.now }
     {
@@ -120,7 +121,7 @@ impl FlagExpr {
     }
 }
 
-// Why a text is no expression.
+// Why a text is not an expression.
 #[tactic(auto, unfolding(crate::specs::Faults::expression_fault))]
 fn fault_of(text: &[u8]) -> Option<FlagFault>
     ensures { result ≡ expression_fault text.now }
@@ -140,7 +141,7 @@ fn fault_of(text: &[u8]) -> Option<FlagFault>
     None
 }
 
-// Whether an expression may have each of these bytes.
+// Whether each of these bytes may stand in an expression.
 fn have_place(text: &[u8]) -> bool
     ensures { result ≡ list_all has_place text.now }
 {
@@ -152,14 +153,14 @@ fn have_place(text: &[u8]) -> bool
     true
 }
 
-// How many joins there are.
+// The number of joins.
 fn count_joins(text: &[u8]) -> usize
     ensures { result ≡ count_by is_join text.now }
 {
     text.iter().filter(|b| is_join(**b)).count()
 }
 
-// Whether an expression may have this byte, unless it is `*` alone.
+// Whether this byte may stand in an expression other than `*` alone.
 fn has_place(byte: u8) -> bool
     ensures { result ≡ has_place byte }
 {
@@ -173,7 +174,7 @@ fn is_join(byte: u8) -> bool
     byte == b'|' || byte == b'&'
 }
 
-// What stands before the first join and what after it.
+// Splits a text at its first join: what is before it, and what is after it.
 fn cut(text: &[u8]) -> (&[u8], &[u8])
     ensures before { result.0.now ≡ before_first is_join text.now }
     ensures after { result.1.now ≡ after_first is_join text.now }
@@ -185,7 +186,7 @@ fn cut(text: &[u8]) -> (&[u8], &[u8])
     (&text[..at], &text[at + 1..])
 }
 
-// The place of the first join, or the length where there is none.
+// The index of the first join, or the length if there is none.
 fn first_join(text: &[u8]) -> usize
     ensures at { result ≡ position_or_len is_join text.now }
     ensures within { result ≤ length text.now }
@@ -198,7 +199,7 @@ fn first_join(text: &[u8]) -> usize
     text.len()
 }
 
-// The letters of a part, by the sign that they stand under.
+// The letters of a part, by the sign that holds for each.
 #[tactic(auto, unfolding(crate::specs::Expression::part_of))]
 fn part_of(bytes: &[u8]) -> Part
     ensures { result ≡ part_of bytes.now }

@@ -17,7 +17,7 @@ const LETTERS: [u8; 52] = *b"abcdefghijklmnopqrstuvwxyzABCDEFGHIJKLMNOPQRSTUVWXY
 /// A set of letters, `a` to `z` and `A` to `Z`.
 ///
 /// Contracts see it as a number below 2 ^ 52 whose bits 0 to 25 stand for `a` to `z` and bits 26 to 51 for `A` to
-/// `Z`. Two sets are equal as numbers exactly where they have the same letters.
+/// `Z`. Two sets are equal as numbers exactly if they have the same letters.
 #[derive(Clone, Copy, Debug, PartialEq, Eq)]
 pub struct Flags {
     bits: u64,
@@ -36,17 +36,17 @@ impl Model for Flags {
 }
 
 impl Flags {
-    /// No letters.
+    /// Returns the set without letters.
     pub fn empty() -> Flags
         ensures { result ≡ 0 }
     {
         Flags { bits: 0 }
     }
 
-    /// The letters of a text, in any order and as often as one likes; `-` and the empty text have none.
+    /// Parses `text` as a set of letters, in any order and with repeats; `-` and the empty text have none.
     ///
     /// # Errors
-    /// `BadLetter` where a byte is no letter, unless the text is `-` alone.
+    /// `BadLetter` if a byte is not a letter, unless the text is `-` alone.
     #[tactic(auto, unfolding(crate::specs::Faults::flags_fault))]
     pub fn parse(text: &[u8]) -> Result<Flags, FlagFault>
         ensures fault { result_err result ≡ flags_fault text.now }
@@ -71,7 +71,8 @@ impl Flags {
         flags
     }
 
-    /// The set of these bits: bits 0 to 25 are `a` to `z`, bits 26 to 51 are `A` to `Z`. `None` where another is set.
+    /// Creates the set of these `bits`: bits 0 to 25 are `a` to `z`, bits 26 to 51 are `A` to `Z`. Returns `None` if
+    /// any other bit is set.
     pub fn from_bits(bits: u64) -> Option<Flags>
         ensures { SomeIff result (bits < 2 ^ 52) bits }
     {
@@ -82,7 +83,7 @@ impl Flags {
         }
     }
 
-    /// The set as bits, as [`Flags::from_bits`] takes them.
+    /// Returns the set as bits, as [`Flags::from_bits`] takes them.
     pub fn bits(self) -> u64
         ensures value { result ≡ self }
         ensures small { result < 2 ^ 52 }
@@ -92,7 +93,7 @@ impl Flags {
         self.bits
     }
 
-    /// Whether this letter is in the set; no other byte is.
+    /// Returns whether `letter` is in the set. A byte that is not a letter never is.
     #[tactic(auto, unfolding(crate::specs::Letters::has_letter))]
     pub fn has(self, letter: u8) -> bool
         ensures { result ≡ has_letter self letter }
@@ -100,7 +101,7 @@ impl Flags {
         letter.is_ascii_alphabetic() && self.bits >> place_of(letter) & 1 == 1
     }
 
-    /// Whether there is no letter.
+    /// Returns whether the set has no letters.
     pub fn is_empty(self) -> bool
         ensures { IsTrue result ↔ (self ≡ 0) }
     {
@@ -120,7 +121,7 @@ impl Flags {
         }
     }
 
-    // Whether some letter is in both sets.
+    // Whether any letter is in both sets.
     pub(crate) fn shares(self, other: Flags) -> bool
         ensures { result ≡ shares self other }
     {
@@ -134,11 +135,11 @@ impl Flags {
         self.bits & other.bits == self.bits
     }
 
-    /// The letters as text, `a` to `z` and then `A` to `Z`, or `-` where there are none. [`Flags::parse`] reads it
-    /// again as this set.
+    /// Returns the letters as text, `a` to `z` and then `A` to `Z`, or `-` if there are none. [`Flags::parse`] turns
+    /// the text back into this set.
     ///
     /// # Errors
-    /// `NoMemory` where room for the text is refused.
+    /// `NoMemory` if the text cannot be allocated.
     pub fn text(self, alloc: Global) -> Result<Text, NoMemory>
         ensures text { IfOk result (λ text. text ≡ spelling self) }
         ensures again { IfOk result (λ text. set_of text ≡ self) }
@@ -148,7 +149,7 @@ impl Flags {
         Ok(Text::new(bytes))
     }
 
-    // Those of some letters that are in the set, in their order.
+    // Those of the given letters that are in the set, in their order.
     fn kept(self, alloc: Global, letters: &[u8]) -> Result<Vec<u8>, NoMemory>
         ensures kept { IfOk result (λ kept. kept.items ≡ filter (has_letter self) letters.now) }
         ensures small { self < 2 ^ 52 }
@@ -176,7 +177,7 @@ fn place_of(letter: u8) -> u32
     }
 }
 
-// The letters, or `-` where there are none.
+// The letters, or `-` if there are none.
 fn or_dash(mut letters: Vec<u8>) -> Result<Vec<u8>, NoMemory>
     ensures { IfOk result (λ bytes. bytes.items ≡ dash_for_none letters.items) }
 {
@@ -186,7 +187,7 @@ fn or_dash(mut letters: Vec<u8>) -> Result<Vec<u8>, NoMemory>
     Ok(letters)
 }
 
-// Whether a text is `-` or letters alone.
+// Whether a text is `-` or only letters.
 fn are_flags(text: &[u8]) -> bool
     ensures { result ≡ (is_lone 45 text.now || list_all is_ascii_alphabetic text.now) }
 {

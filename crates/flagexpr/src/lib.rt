@@ -1,9 +1,9 @@
 //! Flags and flag expressions, as Eggdrop's Tcl commands document describes them.
 //!
 //! [`Flags`] are a set of letters, `a` to `z` and `A` to `Z`. A user has one set for the bot as a whole, one for each
-//! channel and one for bots. A bind carries a [`FlagExpr`], which says whose flags let the bind be called: one to three
-//! parts, which stand against those three sets in that order, joined by `|` only or by `&` only. Letters after `-` are
-//! forbidden, the others are wanted. Nothing here takes memory but [`Flags::text`].
+//! channel and one for bots. A bind has a [`FlagExpr`], which says whose flags allow a call of the bind: one to three
+//! parts, joined by `|` only or by `&` only, which are compared with those three sets in that order. Letters after `-`
+//! are forbidden, the others are wanted. Only [`Flags::text`] allocates.
 //!
 //! ```text
 //! let expression = FlagExpr::parse(b"m|o")?;

@@ -1,4 +1,4 @@
--- What each side says before the first frame, and what its code stands for. A key is the block that RFC 2104 makes of
+-- What each side sends before the first frame, and what its code stands for. A key is the block that RFC 2104 makes of
 -- the secret; the number of a net and a nonce are texts of digits.
 use Rattle.std.specs.Prelude.{ℕ, List, [], ◌∷◌, ◌++◌, codes, decimal, Option, Some, None}
 use Rattle.hex.specs.Hex.{encode_lower}
@@ -14,12 +14,12 @@ abbrev pub name_of : Speaker → List ℕ
 name_of Hub = codes "hub"
 name_of Leaf = codes "leaf"
 
--- the number of a net; who keeps none yet says -
+-- the number of a net; a leaf that keeps none yet sends -
 abbrev pub net_word : Option (List ℕ) → List ℕ
 net_word None = codes "-"
 net_word (Some net) = net
 
--- who speaks, the leaf's number, the net that the speaker knows, and the leaf's nonce
+-- the speaker, the leaf's number, the net that the speaker knows, and the leaf's nonce
 abbrev pub front : Speaker → Meeting → List ℕ
 front speaker meeting =
     name_of speaker ++ codes " " ++ decimal meeting.leaf ++ codes " " ++ net_word meeting.net ++ codes " " ++ meeting.leaf_nonce

@@ -1,4 +1,4 @@
--- What the bytes of a connection say before the first frame.
+-- What the bytes of a connection mean before the first frame.
 use Rattle.std.specs.Prelude.{ℕ, ◌+◌, ◌-◌, ◌==◌, not, Bool, List, take}
 use Rattle.std.specs.Prelude.{drop, position, codes, decimal}
 use Rattle.std.specs.Prelude.{Option, Some, None, if◌then◌else◌}
@@ -23,13 +23,13 @@ is_letter b = not (b == 32)
 abbrev pub word_of : List ℕ → List ℕ
 word_of line = take_while is_letter line
 
--- those after it
+-- the bytes after that space
 abbrev pub rest_of : List ℕ → List ℕ
 rest_of line = drop (prefix_len is_letter line + 1) line
 
 -- ---- numbers
 
--- a number below 65,536, as it is written: without a needless zero
+-- a number below 65,536, written without leading zeros
 abbrev pub as_written : List ℕ → Option ℕ → Option ℕ
 as_written word None = None
 as_written word (Some value) = if bytes_eq (decimal value) word then Some value else None
@@ -39,7 +39,7 @@ number_in word = as_written word (number_from 0 word)
 
 -- ---- what a line says
 
--- the net of which a leaf is, if it keeps its number
+-- the number of the leaf's net, if the leaf keeps it
 abbrev pub some_net : Option (List ℕ) → Option (Option (List ℕ))
 some_net None = None
 some_net (Some net) = Some (Some net)
@@ -47,7 +47,7 @@ some_net (Some net) = Some (Some net)
 abbrev pub net_in : List ℕ → Option (Option (List ℕ))
 net_in word = if bytes_eq word (codes "-") then Some None else some_net (digits_in 16 word)
 
--- leaf N NET NONCE CODE, of which each word is one
+-- leaf N NET NONCE CODE, each of them one word
 abbrev pub asked : Option ℕ → Option (Option (List ℕ)) → Option (List ℕ) → Option (List ℕ) → Option Ask
 asked (Some leaf) (Some net) (Some nonce) (Some code) = Some (record { leaf = leaf; net = net; nonce = nonce; code = code })
 asked (Some leaf) (Some net) (Some nonce) None = None
@@ -65,7 +65,7 @@ ask_after words =
 abbrev pub ask_in : List ℕ → Option Ask
 ask_in line = if bytes_eq (take 5 line) (codes "leaf ") then ask_after (drop 5 line) else None
 
--- hub NET CODE, of which each word is one
+-- hub NET CODE, each of them one word
 abbrev pub answered : Option (List ℕ) → Option (List ℕ) → Option Answer
 answered (Some net) (Some code) = Some (record { net = net; code = code })
 answered (Some net) None = None

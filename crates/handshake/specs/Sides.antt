@@ -1,4 +1,4 @@
--- What each side makes of what it heard.
+-- What the bytes that each side has read mean.
 use Rattle.std.specs.Prelude.{ℕ, ◌+◌, ◌&&◌, not, nat_le, Bool, List, [], length, take, codes, Option, Some}
 use Rattle.std.specs.Prelude.{None, if◌then◌else◌}
 use Rattle.std.specs.Str.{bytes_eq}
@@ -34,7 +34,7 @@ own_meeting side ask = record { leaf = ask.leaf; net = Some side.net; leaf_nonce
 abbrev pub is_leaf : ℕ → ℕ → Bool
 is_leaf leaves leaf = nat_le 1 leaf && nat_le leaf leaves
 
--- the code is that of the leaf, under this key and with both nonces of this connection
+-- the code is the leaf's, under this key and with both nonces of this connection
 abbrev pub shows_code : HubSide → Ask → Bool
 shows_code side ask = bytes_eq ask.code (code_of side.key Leaf (told_meeting side ask))
 
@@ -43,7 +43,7 @@ hub_judges side used None = Refused NoLeafLine []
 hub_judges side used (Some ask) =
     if not (is_leaf side.leaves ask.leaf) then Refused NoSuchLeaf []
     else if not (shows_code side ask) then Refused WrongCode []
-    -- it learns of which net the hub is
+    -- the leaf learns which net the hub belongs to
     else if not (may_be_of side.net ask.net) then Refused OtherNet (hub_line side.key (own_meeting side ask))
     else Welcome ask.leaf used (hub_line side.key (own_meeting side ask))
 
@@ -56,7 +56,7 @@ hub_hears side heard = hub_hears_line side heard (line_len heard)
 
 -- ---- a leaf
 
--- the connection as the leaf knows it, where the net is this
+-- the connection as the leaf knows it, if `net` is its net
 abbrev pub leaf_meeting : LeafSide → Option (List ℕ) → List ℕ → Meeting
 leaf_meeting side net hub_nonce = record { leaf = side.leaf; net = net; leaf_nonce = side.nonce; hub_nonce = hub_nonce }
 
@@ -89,7 +89,7 @@ leaf_hears_line side heard (Some n) = leaf_judges side (n + 1) (take n heard) si
 abbrev pub leaf_hears : LeafSide → List ℕ → LeafHears
 leaf_hears side heard = leaf_hears_line side heard (line_len heard)
 
--- the hub's nonce is kept once it is heard
+-- the hub's nonce is kept once its greeting was read
 abbrev pub nonce_after : Option (List ℕ) → List ℕ → Option (List ℕ)
 nonce_after (Some hub_nonce) line = Some hub_nonce
 nonce_after None line = greeting_in line

@@ -2,8 +2,8 @@
 ghost use Rattle.std.specs.Prelude.{◌≡◌};
 ghost use Rattle.std.specs.Str.{bytes_eq};
 
-/// Whether both codes are one. Each digit is looked at, wherever they differ, so that the time tells nothing of the
-/// right code.
+/// Whether `code` and `other` are the same. Compares every digit, wherever they differ, so the time reveals nothing
+/// about the right code.
 #[tactic(auto, using(crate::proofs::CodeLemmas::one_more_digit))]
 pub fn is_same_code(code: &[u8; 64], other: &[u8; 64]) -> bool
     ensures { result ≡ bytes_eq code.now other.now }

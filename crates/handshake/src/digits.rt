@@ -3,7 +3,7 @@ ghost use Rattle.std.specs.Prelude.{◌≡◌, length};
 ghost use Rattle.std.specs.List.{list_all};
 ghost use Rattle.handshake.specs.Digits.{is_digit, are_digits};
 
-/// Whether a word has just so many digits, `0` to `9` and `a` to `f`.
+/// Whether `word` has exactly `count` digits, `0` to `9` and `a` to `f`, and nothing else.
 pub fn are_digits(count: usize, word: &[u8]) -> bool
     ensures { result ≡ are_digits count word.now }
 {

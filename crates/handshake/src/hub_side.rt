@@ -15,35 +15,35 @@ use crate::words::line_len;
 /// The hub's side of one connection, before the first frame.
 #[derive(Drop)]
 pub struct HubSide {
-    /// What both sides know.
+    /// The secret that both sides know, as a key.
     pub key: Key,
     /// The hub's net.
     pub net: NetNumber,
-    /// How many leaves the net has.
+    /// The number of leaves of the net.
     pub leaves: u16,
-    /// What was drawn for this connection.
+    /// The nonce that the hub drew for this connection.
     pub nonce: Nonce,
 }
 
-/// What the bytes that a hub heard come to.
+/// What the bytes that a hub has read mean.
 #[derive(Drop)]
 pub enum HubHears {
-    /// No whole line: hear more.
+    /// There is no whole line yet: read more.
     More,
-    /// A leaf showed the right code: say the line, and then frames.
+    /// A leaf showed the right code: send the line, and then frames.
     Welcome {
-        /// Which leaf it is, from 1.
+        /// The leaf's number, from 1.
         leaf: u16,
-        /// How many bytes its line has. Those after them are its first frames.
+        /// The length of the leaf's line, in bytes. The bytes after it are the leaf's first frames.
         used: usize,
-        /// What to say.
+        /// The line to send.
         line: Line,
     },
-    /// Let it go.
+    /// Disconnect the other side.
     Refused {
-        /// Why.
+        /// The reason.
         fault: HandshakeFault,
-        /// What to say before: nothing, but to a leaf of another net, which learns so that it is.
+        /// The line to send first. It is empty, except for a leaf of another net, which learns that from the line.
         line: Line,
     },
 }
@@ -53,7 +53,7 @@ impl HubSide {
     ghost use Rattle.handshake.specs.Lines.{greeting};
     ghost use Rattle.handshake.specs.Sides.{hub_hears, hub_judges, own_meeting, shows_code, told_meeting};
 
-    /// What to say first.
+    /// Returns the line that the hub sends first.
     pub fn greeting(&self) -> Line
         ensures { result ≡ greeting self.now.nonce }
     {
@@ -64,7 +64,7 @@ impl HubSide {
         line
     }
 
-    /// What all bytes that were heard so far come to. More bytes after a line change nothing.
+    /// Returns what `heard`, all bytes read so far, means. More bytes after a line change nothing.
     pub fn hear(&self, heard: &[u8]) -> HubHears
         ensures { result ≡ hub_hears self.now heard.now }
     {
@@ -75,7 +75,7 @@ impl HubSide {
         }
     }
 
-    // What a line comes to that has so many bytes and says this.
+    // Returns what a line means that has `used` bytes with its line feed and was parsed as `ask`.
     fn judge(&self, used: usize, ask: Option<Ask>) -> HubHears
         ensures { result ≡ hub_judges self.now used ask }
     {
@@ -133,7 +133,7 @@ impl HubSide {
     }
 }
 
-// To be let go with nothing said.
+// Disconnect without sending anything.
 fn refused(fault: HandshakeFault) -> HubHears
     ensures { result ≡ HubHears.Refused fault [] }
 {

@@ -1,4 +1,4 @@
-// What both sides know, and the codes that it gives.
+// The secret that both sides know, and the codes made with it.
 ghost use Rattle.std.specs.Prelude.{◌≡◌, ◌≤◌, ◌++◌, drop, length};
 ghost use Rattle.hex.specs.Hex.{encode_lower};
 ghost use Rattle.handshake.specs.Hmac.{xored, padded};
@@ -7,11 +7,11 @@ use hex::encode_to_slice;
 use sha2::{Digest, Sha256};
 use std::marker::Model;
 
-// How many bytes a block of SHA-256 has.
+// The number of bytes in a block of SHA-256.
 const BLOCK: usize = 64;
 
-/// A secret that both sides of a link know, made ready to give codes. Contracts see the block that RFC 2104 makes of
-/// it.
+/// A secret that both sides of a link know, prepared for computing codes. Contracts see the block that RFC 2104 makes
+/// of it.
 #[derive(Clone, Copy)]
 pub struct Key {
     block: [u8; BLOCK],
@@ -32,7 +32,7 @@ impl Key {
     ghost use Rattle.hex.specs.Hex.{encode_lower};
     ghost use Rattle.handshake.specs.Hmac.{block_of, hmac_of};
 
-    /// The key of these bytes: as many as there are, though more than 64 are no better than 32.
+    /// Creates the key of `secret`, which may have any length. More than 64 bytes are no better than 32.
     pub fn new(secret: &[u8]) -> Key
         ensures { result ≡ block_of secret.now }
     {
@@ -44,7 +44,7 @@ impl Key {
         Key { block }
     }
 
-    /// The code of a text: its HMAC with SHA-256 under this key (RFC 2104), as 64 hexadecimal digits.
+    /// Returns the code of `text`: its HMAC with SHA-256 under this key (RFC 2104), as 64 hexadecimal digits.
     #[tactic(auto, unfolding(crate::specs::Hmac::hmac_of))]
     pub fn code(&self, text: &[u8]) -> [u8; 64]
         ensures { result ≡ encode_lower (hmac_of self.now text.now) }
@@ -59,7 +59,7 @@ impl Key {
     }
 }
 
-// These bytes, and zeros after them.
+// These bytes, followed by zeros.
 fn padded(bytes: &[u8]) -> [u8; BLOCK]
     requires { length bytes.now ≤ BLOCK }
     ensures { result ≡ padded bytes.now }
@@ -69,7 +69,7 @@ fn padded(bytes: &[u8]) -> [u8; BLOCK]
     block
 }
 
-// Puts bytes in place of the first.
+// Overwrites the first bytes of `block` with `bytes`.
 fn put_front(block: &mut [u8], bytes: &[u8])
     requires { length bytes.now ≤ length block.old }
     ensures { block.new ≡ bytes.now ++ drop (length bytes.now) block.old }
@@ -77,7 +77,7 @@ fn put_front(block: &mut [u8], bytes: &[u8])
     block[..bytes.len()].copy_from_slice(bytes);
 }
 
-// The exclusive or of each byte and this one.
+// The exclusive or of each byte of `block` with `byte`.
 fn xored(block: &[u8; BLOCK], byte: u8) -> [u8; BLOCK]
     ensures { result ≡ xored byte block.now }
 {
@@ -88,7 +88,7 @@ fn xored(block: &[u8; BLOCK], byte: u8) -> [u8; BLOCK]
     xored
 }
 
-// A digest as text.
+// A digest as hexadecimal digits.
 fn digits_of(digest: [u8; 32]) -> [u8; 64]
     ensures { result ≡ encode_lower digest }
 {

@@ -16,38 +16,38 @@ use crate::words::line_len;
 /// A leaf's side of one connection, before the first frame.
 #[derive(Drop)]
 pub struct LeafSide {
-    /// What both sides know.
+    /// The secret that both sides know, as a key.
     pub key: Key,
-    /// Which leaf it is, from 1.
+    /// The leaf's number, from 1.
     pub leaf: u16,
-    /// The net of which it is, if it keeps its number already.
+    /// The number of the leaf's net, if the leaf keeps it already.
     pub net: Option<NetNumber>,
-    /// What was drawn for this connection.
+    /// The nonce that the leaf drew for this connection.
     pub nonce: Nonce,
-    /// What the hub drew for it, once its greeting was heard.
+    /// The nonce that the hub drew for it, once the leaf has read its greeting.
     pub greeted: Option<Nonce>,
 }
 
-/// What the bytes that a leaf heard come to.
+/// What the bytes that a leaf has read mean.
 #[derive(Drop)]
 pub enum LeafHears {
-    /// No whole line: hear more.
+    /// There is no whole line yet: read more.
     More,
-    /// The hub's greeting: say the line, and hear what comes after the greeting.
+    /// The hub greeted: send the line, and read what comes after the greeting.
     Answers {
-        /// How many bytes the greeting has.
+        /// The length of the greeting, in bytes.
         used: usize,
-        /// What to say.
+        /// The line to send.
         line: Line,
     },
-    /// The hub showed the right code: say frames, after its number is kept where none was.
+    /// The hub showed the right code: send frames, after saving the number of its net if the leaf keeps none.
     Joined {
-        /// How many bytes the hub's line has. Those after them are its first frames.
+        /// The length of the hub's line, in bytes. The bytes after it are the hub's first frames.
         used: usize,
         /// The hub's net.
         net: NetNumber,
     },
-    /// Let it go.
+    /// Disconnect the hub.
     Refused(HandshakeFault),
 }
 
@@ -55,7 +55,9 @@ impl LeafSide {
     ghost use Rattle.std.specs.Prelude.{◌≡◌, None, Some};
     ghost use Rattle.handshake.specs.Sides.{hears_answer, hears_greeting, leaf_after, leaf_hears, leaf_judges, leaf_meeting, nonce_after};
 
-    /// A connection on which nothing is heard yet.
+    /// Creates the leaf's side of a connection on which nothing was read yet. The leaf's number is `leaf`, and both
+    /// sides know the secret of `key`. `nonce` is drawn for this connection. `net` is the number of the leaf's net, if
+    /// it keeps one.
     pub fn new(key: Key, leaf: u16, net: Option<NetNumber>, nonce: Nonce) -> LeafSide
         ensures { result ≡ record { key = key; leaf = leaf; net = net; nonce = nonce; greeted = None } }
     {
@@ -68,7 +70,7 @@ impl LeafSide {
         }
     }
 
-    /// What all bytes that were heard and not used so far come to. More bytes after a line change nothing.
+    /// Returns what `heard`, all bytes read and not used so far, means. More bytes after a line change nothing.
     pub fn hear(&mut self, heard: &[u8]) -> LeafHears
         ensures hears { result ≡ leaf_hears self.old heard.now }
         ensures after { self.new ≡ leaf_after self.old heard.now }
@@ -80,7 +82,7 @@ impl LeafSide {
         }
     }
 
-    // What a line comes to that has so many bytes with its line feed.
+    // Returns what a line means that has `used` bytes with its line feed.
     fn judge(&mut self, used: usize, line: &[u8]) -> LeafHears
         ensures hears { result ≡ leaf_judges self.old used line.now self.old.greeted }
         ensures after { self.new ≡ record self.old { greeted = nonce_after self.old.greeted line.now } }
@@ -94,7 +96,7 @@ impl LeafSide {
         }
     }
 
-    // What a line comes to where no greeting was heard before.
+    // Returns what a line means if no greeting was read before it.
     fn hear_greeting(&self, used: usize, line: &[u8]) -> LeafHears
         ensures { result ≡ hears_greeting self.now used line.now self.now.greeted }
     {
@@ -107,7 +109,7 @@ impl LeafSide {
         }
     }
 
-    // What the hub's answer comes to.
+    // Returns what the hub's answer means.
     fn hear_answer(&self, used: usize, hub_nonce: &Nonce, answer: Option<Answer>) -> LeafHears
         ensures { result ≡ hears_answer self.now used hub_nonce.now answer }
     {
@@ -127,7 +129,7 @@ impl LeafSide {
         }
     }
 
-    // The connection as the leaf knows it, where the net is this.
+    // The connection as the leaf knows it, if `net` is its net.
     fn meeting(&self, net: Option<NetNumber>, hub_nonce: &Nonce) -> Meeting
         ensures { result ≡ leaf_meeting self.now net hub_nonce.now }
     {
@@ -140,7 +142,7 @@ impl LeafSide {
     }
 }
 
-// Why a line is no greeting.
+// Why a line is not a greeting.
 fn greeting_fault(line: &[u8]) -> HandshakeFault
     ensures { result ≡ greeting_fault line.now }
 {

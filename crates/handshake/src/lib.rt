@@ -1,7 +1,7 @@
-//! The lines that a hub and a leaf say to one another before their first frame.
+//! The lines that a hub and a leaf exchange before their first frame.
 //!
-//! Both know a secret, and each draws a text that was never said before, a nonce. Who shows a code of both nonces knows
-//! the secret; an old code is worth nothing on a new connection.
+//! Both know a secret, and each draws a nonce, a new random text. A side that shows a code of both nonces knows the
+//! secret; an old code is worth nothing on a new connection.
 //!
 //! ```text
 //! hub     eggnet 1 NONCE
@@ -9,17 +9,22 @@
 //! hub     hub NET CODE
 //! ```
 //!
-//! A line ends with a line feed, and has at most 200 bytes with it. N is the leaf's number, from 1; a NONCE is 16
-//! random bytes, as 32 hexadecimal digits, `0` to `9` and `a` to `f`. NET is the number of the net, 16 such digits,
-//! which is drawn where the hub is made. A leaf keeps it from its first hub on, and says `-` before. CODE is the HMAC
-//! with SHA-256 (RFC 2104, FIPS 180-4) of `leaf N NET NONCE NONCE` under the secret, or of `hub N NET NONCE NONCE`,
-//! with the leaf's nonce first, as 64 such digits.
+//! A line ends with a line feed, and has at most 200 bytes with it.
 //!
-//! [`HubSide`] and [`LeafSide`] are told all bytes that were heard and not used, and answer what they come to: hear
-//! more, a line to say, or a [`HandshakeFault`]. What follows a side's last line are its first frames, which are for
-//! the caller. So is the time: [`is_late`] says of two readings whether to wait any longer. Nothing here takes memory.
+//! - N is the leaf's number, from 1.
+//! - A NONCE is 16 random bytes, as 32 hexadecimal digits, `0` to `9` and `a` to `f`.
+//! - NET is the number of the net, 16 such digits, drawn when the hub is created. A leaf keeps the number of its first
+//!   hub, and sends `-` until it has one.
+//! - CODE is the HMAC with SHA-256 (RFC 2104, FIPS 180-4) of `leaf N NET NONCE NONCE` under the secret, or of
+//!   `hub N NET NONCE NONCE`, with the leaf's nonce first, as 64 such digits.
 //!
-//! This shows who connects, once. It encrypts nothing, and who can write into the connection can write frames.
+//! The caller passes [`HubSide`] and [`LeafSide`] all bytes that were read and not used. They return what to do: read
+//! more, send a line, or disconnect with a [`HandshakeFault`]. The bytes after a side's last line are its first
+//! frames, which the caller reads. The caller also watches the time: [`is_late`] decides from two readings of a clock
+//! whether to wait any longer. Nothing here allocates.
+//!
+//! The handshake shows who connects, once. It encrypts nothing, and anyone who can write into the connection can write
+//! frames.
 //!
 //! ```text
 //! let key = Key::new(secret);
@@ -28,7 +33,7 @@
 //! match hub.hear(&heard) {
 //!     HubHears::More => {}
 //!     HubHears::Welcome { leaf, used, line } => ..      // say the line; &heard[used..] is of the first frames
-//!     HubHears::Refused { fault, line } => ..           // say the line, log the fault, and let it go
+//!     HubHears::Refused { fault, line } => ..           // say the line, log the fault, and disconnect
 //! }
 //! ```
 #![tactic(auto)]

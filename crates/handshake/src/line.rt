@@ -1,9 +1,9 @@
-// A line to be said.
+// A line to be sent.
 use crate::MAX_LINE;
 use arrayvec::ArrayVec;
 use std::marker::Model;
 
-/// A line that a side says, with its line feed: at most 200 bytes, which take no memory. Contracts see its bytes.
+/// A line that a side sends, with its line feed: at most 200 bytes, without an allocation. Contracts see its bytes.
 #[derive(Drop)]
 pub struct Line {
     bytes: ArrayVec<u8, MAX_LINE>,
@@ -20,7 +20,7 @@ impl Model for Line {
 impl Line {
     ghost use Rattle.std.specs.Prelude.{◌≡◌, ◌≤◌, ◌+◌, ◌++◌, [], length};
 
-    /// No byte yet.
+    /// Creates a line without any bytes.
     pub fn empty() -> Line
         ensures { result ≡ [] }
     {
@@ -29,14 +29,14 @@ impl Line {
         }
     }
 
-    /// The bytes.
+    /// Returns the bytes.
     pub fn as_bytes(&self) -> &[u8]
         ensures { result.now ≡ self.now }
     {
         self.bytes.as_slice()
     }
 
-    /// Puts these after the others.
+    /// Appends `bytes`.
     pub fn put(&mut self, bytes: &[u8])
         requires { length self.old + length bytes.now ≤ MAX_LINE }
         ensures all { self.new ≡ self.old ++ bytes.now }

@@ -1,4 +1,4 @@
-// A connection's two sides, and what each says of it.
+// A connection's two sides, and what each sends.
 ghost use Rattle.std.specs.Prelude.{◌≡◌, ◌≤◌, codes, length};
 ghost use Rattle.handshake.specs.Lines.{code_of, coded, front, hub_line, leaf_line, name_of, net_word};
 
@@ -17,21 +17,21 @@ pub enum Speaker {
     Leaf,
 }
 
-/// What the code of a speaker stands for.
+/// What a speaker's code stands for.
 #[derive(Clone, Copy)]
 pub struct Meeting {
-    /// Which leaf is connected.
+    /// The number of the connected leaf.
     pub leaf: u16,
     /// The net that the speaker knows.
     pub net: Option<NetNumber>,
-    /// What the leaf drew for this connection.
+    /// The nonce that the leaf drew for this connection.
     pub leaf_nonce: Nonce,
-    /// What the hub drew for it.
+    /// The nonce that the hub drew for it.
     pub hub_nonce: Nonce,
 }
 
 impl Meeting {
-    /// The code of a speaker.
+    /// Returns the code of `speaker` under `key`.
     pub fn code(&self, key: &Key, speaker: Speaker) -> [u8; 64]
         ensures { result ≡ code_of key.now speaker self.now }
     {
@@ -41,7 +41,7 @@ impl Meeting {
         key.code(coded.as_bytes())
     }
 
-    /// What the leaf says: `leaf N NET NONCE CODE`.
+    /// Returns the leaf's line, with its code under `key`: `leaf N NET NONCE CODE`.
     pub fn leaf_line(&self, key: &Key) -> Line
         ensures { result ≡ leaf_line key.now self.now }
     {
@@ -52,7 +52,7 @@ impl Meeting {
         line
     }
 
-    /// What the hub answers: `hub NET CODE`.
+    /// Returns the hub's answer, with its code under `key`: `hub NET CODE`.
     pub fn hub_line(&self, key: &Key) -> Line
         ensures { result ≡ hub_line key.now self.now }
     {
@@ -65,7 +65,7 @@ impl Meeting {
         line
     }
 
-    // What a line and a code of a speaker begin with.
+    // The words that a leaf's line, and the text of a speaker's code, begin with.
     fn front(&self, speaker: Speaker) -> Line
         ensures value { result ≡ front speaker self.now }
         ensures short { length result ≤ 70 }

@@ -1,4 +1,4 @@
-// Which net a bot is of.
+// The number of a net.
 ghost use Rattle.std.specs.Prelude.{◌≡◌};
 ghost use Rattle.handshake.specs.Nets.{may_be_of};
 
@@ -8,9 +8,9 @@ use std::io;
 use std::marker::Model;
 use std::random::RandomSource;
 
-/// The number of a net, as 16 hexadecimal digits. It is drawn where a hub is made, and each leaf keeps the number of
-/// its first hub: so a hub that was made anew is not taken for the one before, whose changes it doesn't have. Contracts
-/// see the digits.
+/// The number of a net, as 16 hexadecimal digits. It is drawn when a hub is created, and each leaf keeps the number of
+/// its first hub. So a leaf does not take a hub that was created again for the earlier one, whose changes the new hub
+/// lacks. Contracts see the digits.
 #[derive(Clone, Copy)]
 pub struct NetNumber {
     digits: [u8; 16],
@@ -31,17 +31,17 @@ impl NetNumber {
     ghost use Rattle.hex.specs.Hex.{encode_lower};
     ghost use Rattle.handshake.specs.Digits.{digits_in};
 
-    /// A number of random bytes of the system.
+    /// Draws a number from random bytes of the system, which `rt` gives.
     ///
     /// # Errors
-    /// What the system answers where it gives none.
+    /// The system's error, if it gives no random bytes.
     pub fn draw(rt: &impl RandomSource) -> io::Result<NetNumber> {
         let mut bytes = [0; 8];
         rt.fill_bytes(&mut bytes)?;
         Ok(NetNumber::of(bytes))
     }
 
-    /// The number of these bytes.
+    /// Creates the number from `bytes`.
     pub fn of(bytes: [u8; 8]) -> NetNumber
         ensures { result ≡ encode_lower bytes }
     {
@@ -50,7 +50,7 @@ impl NetNumber {
         NetNumber { digits }
     }
 
-    /// The number that a word is: 16 digits.
+    /// Parses `word`, which must be 16 digits.
     pub fn read(word: &[u8]) -> Option<NetNumber>
         ensures { result ≡ digits_in 16 word.now }
     {
@@ -62,7 +62,7 @@ impl NetNumber {
         Some(NetNumber { digits })
     }
 
-    /// The digits.
+    /// Returns the digits.
     pub fn as_bytes(&self) -> &[u8]
         ensures digits { result.now ≡ self.now }
         ensures len { length result.now ≡ 16 }
@@ -70,7 +70,7 @@ impl NetNumber {
         &self.digits
     }
 
-    /// Whether both are one net.
+    /// Whether `other` is the number of the same net.
     pub fn is_same(&self, other: &NetNumber) -> bool
         ensures { IsTrue result ↔ (self.now ≡ other.now) }
     {
@@ -78,7 +78,7 @@ impl NetNumber {
     }
 }
 
-/// Whether a bot that keeps this number, or none, may be of the net.
+/// Whether a bot that keeps the number `kept`, or none, may belong to `net`.
 pub fn may_be_of(net: &NetNumber, kept: &Option<NetNumber>) -> bool
     ensures { result ≡ may_be_of net.now kept.now }
 {

@@ -1,11 +1,11 @@
-// Texts of digits that are drawn.
+// Random texts of digits.
 use crate::digits::are_digits;
 use hex::encode_to_slice;
 use std::io;
 use std::marker::Model;
 use std::random::RandomSource;
 
-/// A text that is said once: 16 random bytes as 32 hexadecimal digits. Contracts see the digits.
+/// A text that is sent once: 16 random bytes as 32 hexadecimal digits. Contracts see the digits.
 #[derive(Clone, Copy)]
 pub struct Nonce {
     digits: [u8; 32],
@@ -26,17 +26,17 @@ impl Nonce {
     ghost use Rattle.hex.specs.Hex.{encode_lower};
     ghost use Rattle.handshake.specs.Digits.{digits_in};
 
-    /// A nonce of random bytes of the system.
+    /// Draws a nonce from random bytes of the system, which `rt` gives.
     ///
     /// # Errors
-    /// What the system answers where it gives none.
+    /// The system's error, if it gives no random bytes.
     pub fn draw(rt: &impl RandomSource) -> io::Result<Nonce> {
         let mut bytes = [0; 16];
         rt.fill_bytes(&mut bytes)?;
         Ok(Nonce::of(bytes))
     }
 
-    /// The nonce of these bytes.
+    /// Creates the nonce from `bytes`.
     pub fn of(bytes: [u8; 16]) -> Nonce
         ensures { result ≡ encode_lower bytes }
     {
@@ -45,7 +45,7 @@ impl Nonce {
         Nonce { digits }
     }
 
-    /// The nonce that a word is: 32 digits.
+    /// Parses `word`, which must be 32 digits.
     pub fn read(word: &[u8]) -> Option<Nonce>
         ensures { result ≡ digits_in 32 word.now }
     {
@@ -57,7 +57,7 @@ impl Nonce {
         Some(Nonce { digits })
     }
 
-    /// The digits.
+    /// Returns the digits.
     pub fn as_bytes(&self) -> &[u8]
         ensures digits { result.now ≡ self.now }
         ensures len { length result.now ≡ 32 }

@@ -1,4 +1,4 @@
-// What lines say.
+// Parses the lines of a handshake.
 ghost use Rattle.std.specs.Prelude.{◌≡◌};
 ghost use Rattle.handshake.specs.Digits.{digits_in};
 ghost use Rattle.handshake.specs.Reading.{answer_after, answer_in, ask_after, ask_in, greeting_in, net_in};
@@ -11,13 +11,13 @@ use crate::words::{cut_word, number_in};
 /// What a line `leaf N NET NONCE CODE` says.
 #[derive(Clone, Copy)]
 pub struct Ask {
-    /// Which leaf it is.
+    /// The leaf's number.
     pub leaf: u16,
-    /// The net of which it is, if it keeps its number.
+    /// The number of the leaf's net, if the leaf keeps it.
     pub net: Option<NetNumber>,
-    /// What it drew.
+    /// The nonce that the leaf drew.
     pub nonce: Nonce,
-    /// The code that it shows.
+    /// The code that the leaf shows.
     pub code: [u8; 64],
 }
 
@@ -26,11 +26,11 @@ pub struct Ask {
 pub struct Answer {
     /// The hub's net.
     pub net: NetNumber,
-    /// The code that it shows.
+    /// The code that the hub shows.
     pub code: [u8; 64],
 }
 
-/// What a line without its line feed says, if it is a leaf's.
+/// Parses `line`, without its line feed, as a leaf's line. Returns `None` if it is not one.
 pub fn ask_in(line: &[u8]) -> Option<Ask>
     ensures { result ≡ ask_in line.now }
 {
@@ -51,7 +51,7 @@ fn ask_after(words: &[u8]) -> Option<Ask>
     })
 }
 
-// The net that a word names: a number, or none.
+// The net that a word names: a number, or `-` for none.
 fn net_in(word: &[u8]) -> Option<Option<NetNumber>>
     ensures { result ≡ net_in word.now }
 {
@@ -64,7 +64,7 @@ fn net_in(word: &[u8]) -> Option<Option<NetNumber>>
     }
 }
 
-// The code that a word is.
+// Parses a word as a code.
 fn code_in(word: &[u8]) -> Option<[u8; 64]>
     ensures { result ≡ digits_in 64 word.now }
 {
@@ -76,7 +76,7 @@ fn code_in(word: &[u8]) -> Option<[u8; 64]>
     Some(code)
 }
 
-/// What a line without its line feed says, if it is a hub's answer.
+/// Parses `line`, without its line feed, as a hub's answer. Returns `None` if it is not one.
 pub fn answer_in(line: &[u8]) -> Option<Answer>
     ensures { result ≡ answer_in line.now }
 {
@@ -93,7 +93,7 @@ fn answer_after(words: &[u8]) -> Option<Answer>
     })
 }
 
-/// The nonce of a line without its line feed, if it is a hub's greeting.
+/// Parses `line`, without its line feed, as a hub's greeting, and returns its nonce. Returns `None` if it is not one.
 pub fn greeting_in(line: &[u8]) -> Option<Nonce>
     ensures { result ≡ greeting_in line.now }
 {

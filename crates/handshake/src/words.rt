@@ -1,4 +1,4 @@
-// Lines, their words, and the numbers that words mean.
+// Lines, their words, and the numbers that words stand for.
 ghost use Rattle.std.specs.Prelude.{◌≡◌, ◌<◌, ◌≤◌, decimal, drop, length, take, IfSome};
 ghost use Rattle.std.specs.List.{prefix_len};
 ghost use Rattle.std.specs.Str.{bytes_eq};
@@ -8,7 +8,8 @@ ghost use Rattle.handshake.specs.Reading.{as_written, is_letter, line_len, numbe
 use crate::MAX_LINE;
 use itoa::Buffer;
 
-/// How many bytes the first line of what was heard has before its line feed, if that is there and among the first 200.
+/// Returns the length of the first line of `heard` without its line feed, if the first 200 bytes contain that line
+/// feed.
 pub fn line_len(heard: &[u8]) -> Option<usize>
     ensures value { result ≡ line_len heard.now }
     ensures within { IfSome result (λ len. len < length heard.now) }
@@ -17,7 +18,7 @@ pub fn line_len(heard: &[u8]) -> Option<usize>
     front_of(heard).iter().position(|byte| *byte == b'\n')
 }
 
-// The first 200 bytes, or all.
+// The first 200 bytes, or all if there are fewer.
 fn front_of(heard: &[u8]) -> &[u8]
     ensures front { result.now ≡ take MAX_LINE heard.now }
     ensures short { length result.now ≤ MAX_LINE }
@@ -30,16 +31,16 @@ fn front_of(heard: &[u8]) -> &[u8]
     }
 }
 
-/// A word, and what follows it.
+/// A word, and the bytes after it.
 #[derive(Clone, Copy)]
 pub struct Cut<'a> {
-    /// Up to the next space.
+    /// The bytes up to the next space.
     pub word: &'a [u8],
-    /// After that space.
+    /// The bytes after that space.
     pub rest: &'a [u8],
 }
 
-/// The first word of these, and the rest.
+/// Splits `words` into the first word and the rest.
 pub fn cut_word(words: &[u8]) -> Cut<'_>
     ensures word { result.word.now ≡ word_of words.now }
     ensures rest { result.rest.now ≡ rest_of words.now }
@@ -52,7 +53,7 @@ pub fn cut_word(words: &[u8]) -> Cut<'_>
     }
 }
 
-// How many bytes stand before the first space.
+// The number of bytes before the first space.
 fn word_len(words: &[u8]) -> usize
     ensures value { result ≡ prefix_len is_letter words.now }
     ensures within { result ≤ length words.now }
@@ -60,7 +61,7 @@ fn word_len(words: &[u8]) -> usize
     words.iter().take_while(|byte| **byte != b' ').count()
 }
 
-// All but the first.
+// All bytes but the first.
 fn after_one(bytes: &[u8]) -> &[u8]
     ensures { result.now ≡ drop 1 bytes.now }
 {
@@ -70,14 +71,14 @@ fn after_one(bytes: &[u8]) -> &[u8]
     }
 }
 
-/// The number below 65,536 that a word means, where it is written so: without a needless zero.
+/// Parses `word` as a number below 65,536 without leading zeros.
 pub fn number_in(word: &[u8]) -> Option<u16>
     ensures { result ≡ number_in word.now }
 {
     as_written(word, value_of(word))
 }
 
-// The number that digits mean.
+// The number that digits stand for.
 fn value_of(word: &[u8]) -> Option<u16>
     ensures { result ≡ number_from 0 word.now }
 {
@@ -88,7 +89,7 @@ fn value_of(word: &[u8]) -> Option<u16>
     Some(value)
 }
 
-// The number that one digit more makes of a number, where it is below 65,536.
+// Appends one digit to a number, if the result is below 65,536.
 fn digit_onto(value: u16, byte: u8) -> Option<u16>
     ensures { result ≡ digit_onto value byte }
 {
@@ -103,7 +104,7 @@ fn digit_onto(value: u16, byte: u8) -> Option<u16>
     }
 }
 
-// A number, where the word is how it is written.
+// The number, if the word is how it is written.
 fn as_written(word: &[u8], value: Option<u16>) -> Option<u16>
     ensures { result ≡ as_written word.now value }
 {
@@ -115,7 +116,7 @@ fn as_written(word: &[u8], value: Option<u16>) -> Option<u16>
     }
 }
 
-// Whether a number is written so.
+// Whether a number is written as this word.
 fn is_written(word: &[u8], value: u16) -> bool
     ensures { result ≡ bytes_eq (decimal value) word.now }
 {

@@ -1,4 +1,4 @@
--- A hub's end of the link as contracts see it, and how its calls stand to the protocol's.
+-- A hub's end of the link as contracts see it, and how its calls match the protocol's.
 use Rattle.std.specs.Prelude.{◌+◌, ℕ, zero, suc, Bool, true, false, List, [], ◌∷◌, ◌++◌, take, Result, Ok, Err}
 use Rattle.bytetext.specs.declared.failure.Failure.{Failure}
 use Rattle.userfile.specs.declared.change.Change.{Change}
@@ -16,11 +16,11 @@ use Rattle.linkstate.specs.Ends.{End, end_of, Calls as EndCalls, CallsRestart as
 abbrev pub HubEnd : Type 0
 HubEnd = End Hub
 
--- bytes of two disks that are a hub's of so many leaves: they mean what it keeps, or that with the record in doubt
+-- bytes of two disks that belong to a hub of `leaves` leaves: they mean what it keeps, or that with the record in doubt
 abbrev pub IsOwn : ℕ → Hub → List ℕ → List ℕ → Type 0
 IsOwn leaves hub = AreOf (hub_meaning leaves) hub_folded hub.kept hub.doubt
 
--- what becomes of a hub that is put anew: its state alone goes into the journal, which has a next generation
+-- what a hub becomes when its journal is rewritten: the journal gets its state alone, and has a next generation
 abbrev pub RenewsHub : HubState → HubState → Type 0
 RenewsHub = Renews HubMayWrite hub_folded Rebase
 
@@ -35,40 +35,40 @@ CallsRestart old row result new = EndRestarts (IsOwn old.leaves) old row result 
 abbrev pub KeptHub : Type 0
 KeptHub = Kept HubState HubRecord
 
--- what is kept, and the asks that wait
+-- what is kept, and the waiting asks
 abbrev pub hub_end : KeptHub → List Change → HubEnd
 hub_end hub waiting = end_of 0 hub.who hub waiting
 
--- the oldest asks, of which so many stay
+-- the oldest asks, of which this many stay
 abbrev pub with_oldest : HubEnd → ℕ → HubEnd
 with_oldest old count = record old { bot = record (old.bot) { loose = take count old.bot.loose } }
 
 -- ---- what is sent
 
--- what a leaf is told of its request that is accepted, before the change goes out; nobody asked for the hub's own changes
+-- what the hub sends a leaf about its accepted request, before the change goes out; the hub's own changes have no asker
 abbrev pub told_before : ℕ → ℕ → ℕ → List Outgoing
 told_before zero request number = []
 told_before (suc place) request number =
     record { to = suc place; packet = answer_packet (suc place) request (Taken number) } ∷ []
 
--- what goes out where a change is accepted under this number
+-- what goes out when a change is accepted under this number
 abbrev pub told_accepted : ℕ → ℕ → AcceptedChange → List Outgoing
 told_accepted leaves number entry =
     told_before entry.origin entry.request number ++ to_each 1 leaves (change_packet number entry)
 
--- what a hello is answered with, of a version below the floor or not
+-- the answer to a hello, whether its version is below the floor or not
 abbrev pub hello_sends : HubState → ℕ → ℕ → Bool → List Outgoing
 hello_sends hub leaf version true = all_parts hub leaf
 hello_sends hub leaf version false = changes_from hub leaf version
 
 -- ---- accepting
 
--- the asks that wait after a call: those that are left where it is made, and else those as before
+-- the asks that wait after a call: the remaining ones if the call returns `Ok`, otherwise those from before
 abbrev pub left_by : Result Answer (Failure LinkFault) → List Change → List Change → List Change
 left_by (Ok answer) before after = after
 left_by (Err error) before after = before
 
--- a change that isn't refused is accepted, whichever asks wait before and after that
+-- a change that isn't refused is accepted, whichever asks wait before and after the call
 abbrev pub Accepts : KeptHub → AcceptedChange → Result Answer (Failure LinkFault) → KeptHub → Type 0
 Accepts old entry result new = (before after : List Change)
     → Calls (hub_end old before) (λ how. accepts old.who how (hub_end old before).bot entry

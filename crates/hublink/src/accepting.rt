@@ -1,4 +1,4 @@
-// What a hub accepts.
+// How a hub accepts a change.
 ghost use Rattle.std.specs.Prelude.{◌≡◌, ◌+◌, true, false, None};
 ghost use Rattle.userfile.specs.Apply.{refusal};
 ghost use Rattle.protocol.specs.Journals.{is_next};
@@ -14,11 +14,12 @@ use std::alloc::Global;
 use storage::Disk;
 use userfile::Change;
 
-/// Accepts a change that isn't refused, under the next number: it is journaled, and goes to each leaf, after the reply to
-/// the leaf that asked for it under this request number. Both are 0 for a change of the hub's own.
+/// Accepts `change`, which isn't refused, under the next number: journals it, and sends it to each leaf, after the
+/// reply to the leaf `origin` that asked for it under the request number `request`. Both are 0 for a change of the
+/// hub's own.
 ///
 /// # Errors
-/// `NumbersSpent` at the last version; `NoMemory`; `JournalFault` where a disk failed.
+/// `NumbersSpent` at the last version; `NoMemory`; `JournalFault` if a disk failed.
 pub(crate) fn accept<D: Disk>(
     alloc: Global,
     kept: &mut Kept<HubState, D>,

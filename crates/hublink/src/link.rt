@@ -10,7 +10,7 @@ use std::marker::Model;
 use storage::Disk;
 use userfile::{Change, Userfile, shape};
 
-/// The hub's end: what its journal keeps, and the asks that wait, with room for all of them.
+/// The hub's end: what its journal keeps, and the waiting asks, with room for the most that may wait.
 pub struct HubLink<D: Disk> {
     pub(crate) kept: Kept<HubState, D>,
     waiting: VecDeque<Change>,
@@ -39,7 +39,7 @@ impl<D: Disk> Model for HubLink<D> {
     ghost use Rattle.std.specs.VecDeque.{deque_capacity};
     ghost use Rattle.linkcalls.specs.declared.TheConstants.{MAX_ASKS};
 
-    // There is room for all asks that may wait.
+    // There is room for the most asks that may wait.
     ghost invariant = { λ h. MAX_ASKS ≤ deque_capacity h.waiting };
 }
 
@@ -60,11 +60,12 @@ impl<D: Disk> HubLink<D> {
     ghost use Rattle.linkstate.specs.Ends.{Creates, Opens, OpensAtEachMoment};
     ghost use Rattle.hublink.specs.Link.{Calls, CallsRestart, RenewsHub, with_oldest};
 
-    /// Makes a hub without records, for this many leaves, on two disks. What the disks held is lost.
+    /// Creates a hub without records, for `leaves` leaves, on the disks `first` and `second`. What the disks held is
+    /// lost.
     ///
     /// # Errors
-    /// With the disks: `NoMemory`, where nothing was written; `DiskFault` where a disk failed: what the disks hold is
-    /// then unknown.
+    /// Each hands the disks back. `NoMemory`, when nothing was written; `DiskFault` if a disk failed: what the disks
+    /// hold is then unknown.
     pub fn create(
         alloc: Global,
         first: D,
@@ -88,16 +89,16 @@ impl<D: Disk> HubLink<D> {
         }
     }
 
-    /// Opens a hub with this many leaves on the two disks that it wrote. A journal of the present layout stays as it is. One
-    /// of an older layout is put anew before this answers: its state alone, in the next generation, so that the changes so
-    /// far are no longer kept one by one.
+    /// Opens a hub with `leaves` leaves on the disks `first` and `second` that it wrote. A journal of the present
+    /// layout stays as it is. One of an older layout is rewritten before the call returns: its state alone, in the next
+    /// generation, so that the hub no longer keeps the changes so far one by one.
     ///
     /// # Errors
-    /// With the disks, which mean what they meant, or that put anew: `DiskFault` where a read failed; `NotAJournal` where
-    /// they hold no journal, or one that means nothing to a hub with so many leaves: another bot's, one with a reply to a
-    /// leaf above the last, with records that no userfile holds, or with an entry that no hub writes there; `NoMemory`.
-    /// Then, of an older layout alone, `GenerationsSpent` where there is no next generation, `NoMemory`, or `DiskFault`
-    /// where a disk failed while it was written.
+    /// Each hands the disks back; they mean what they meant before, or that rewritten. `DiskFault` if a read failed.
+    /// `NotAJournal` if they hold no journal, or one that means nothing to a hub with `leaves` leaves: another bot's,
+    /// one with a reply to a leaf above the last, with records that no userfile holds, or with an entry that no hub
+    /// writes there. `NoMemory`. Then, only for an older layout: `GenerationsSpent` if there is no next generation,
+    /// `NoMemory`, or `DiskFault` if a disk failed while the journal was rewritten.
     pub fn open(alloc: Global, first: D, second: D, leaves: u16) -> Result<HubLink<D>, Returned<D>>
         requires first_settled { IsSettled (D.state first) }
         requires second_settled { IsSettled (D.state second) }
@@ -105,7 +106,7 @@ impl<D: Disk> HubLink<D> {
         ensures row { Opens D.state first second 0 leaves [] (hub_meaning leaves) RenewsHub result }
         // Nothing happened to disks that have the present layout.
         ensures still { AreCurrent D.state first second → IfOk result (λ link. AreStill (D.state first) (D.state second) link.device) }
-        // At each moment of the call a crash leaves what the disks meant, or that put anew.
+        // At each moment of the call a crash leaves what the disks meant, or that rewritten.
         ensures any_moment { OpensAtEachMoment D.state first second (hub_meaning leaves) RenewsHub result }
     {
         let Ok(waiting) = VecDeque::with_capacity(alloc, MAX_ASKS) else {
@@ -120,48 +121,49 @@ impl<D: Disk> HubLink<D> {
         }
     }
 
-    /// The version: how many changes the hub ever accepted.
+    /// Returns the version: how many changes the hub ever accepted.
     pub fn version(&self) -> u32
         ensures { result ≡ version_of self.now.bot.kept }
     {
         self.kept.state().version()
     }
 
-    /// The userfile at that version.
+    /// Returns the userfile at that version.
     pub fn userfile(&self) -> &Userfile
         ensures { result.now ≡ self.now.bot.kept.records }
     {
         self.kept.state().userfile()
     }
 
-    /// Whether a disk failed, or a restart did not end, since the journal was last opened. Only a restart is taken then.
+    /// Whether, since the journal was last opened, a disk failed or a restart did not finish. The hub then takes only a
+    /// restart.
     pub fn is_down(&self) -> bool
         ensures { result ≡ self.now.bot.down }
     {
         self.kept.is_down()
     }
 
-    /// How many asks wait.
+    /// Returns how many asks wait.
     pub fn ask_count(&self) -> usize
         ensures { result ≡ length self.now.bot.loose }
     {
         self.waiting.len()
     }
 
-    /// Takes back all asks but the oldest ones, of which this many stay. Takes no memory.
+    /// Keeps the oldest `count` asks and withdraws the others. Allocates nothing.
     ///
-    /// A caller that asks for several things, all or none, counts the asks before it begins, and comes back to that
-    /// count where it has to give up.
+    /// A caller that asks for several things, all or none, counts the asks before it begins, and returns to that count
+    /// if it has to give up.
     pub fn keep_asks(&mut self, count: usize)
         ensures { self.new ≡ with_oldest self.old count }
     {
         self.waiting.truncate(count);
     }
 
-    /// Lets a change wait for a pump: `Queued`. Takes no memory.
+    /// Queues `change` for a pump: `Queued`. Allocates nothing.
     ///
     /// # Errors
-    /// `Down`, then `BadChange` for a bad shape, then `AsksFull` where 64 asks wait; each leaves the hub as it was.
+    /// `Down`, then `BadChange` for a bad shape, then `AsksFull` if 64 asks wait; each leaves the hub as it was.
     pub fn ask(&mut self, alloc: Global, change: Change) -> Result<Answer, LinkError>
         ensures row { Calls self.old (λ how. hub_asked self.old.bot change) result self.new }
         ensures quiet { self.new.device ≡ self.old.device }
@@ -182,13 +184,13 @@ impl<D: Disk> HubLink<D> {
         Ok(Answer::only(alloc, Note::Queued))
     }
 
-    /// Takes the oldest ask: `Accepted` with its number, and the change to each leaf; or `Refused` where the userfile
-    /// refuses it; or `Idle` where none waits.
+    /// Takes the oldest ask. Returns `Accepted` with its number, and the change for each leaf; or `Refused` if the
+    /// userfile refuses it; or `Idle` if none waits.
     ///
     /// # Errors
-    /// `Down`; `NumbersSpent` at the last version, where the ask still waits; `NoMemory`, which leaves the hub as it was;
-    /// `JournalFault` where a disk failed: the hub is down, shows what it showed, and sends nothing, and the ask waits
-    /// until a restart. `Idle` and `Refused` take no memory.
+    /// `Down`; `NumbersSpent` at the last version, when the ask still waits; `NoMemory`, which leaves the hub as it
+    /// was; `JournalFault` if a disk failed: the hub is down, shows what it showed before, and sends nothing, and the
+    /// ask waits until a restart. `Idle` and `Refused` allocate nothing.
     pub fn pump(&mut self, alloc: Global) -> Result<Answer, LinkError>
         ensures row { Calls self.old (λ how. hub_pumped self.old.leaves how self.old.bot) result self.new }
         ensures packets { GoOut (MAX_LEAVES + 1) result }
@@ -220,11 +222,12 @@ impl<D: Disk> HubLink<D> {
         }
     }
 
-    /// A text to a leaf, which the caller is to send, where its step has sent so many so far. The hub stays as it was.
+    /// Returns `text` for the leaf `to`, which the caller is to send, when its step has sent `sent` texts so far. The
+    /// hub stays as it was.
     ///
     /// # Errors
-    /// `Down`, then `BadBotText` where there is no such leaf or the text is none that a bot may tell another, then
-    /// `TextsFull` from 64 on, then `NoMemory`.
+    /// `Down`, then `BadBotText` if there is no leaf `to` or no bot may send such a text, then `TextsFull` if `sent` is
+    /// 64 or more, then `NoMemory`.
     pub fn send_text(
         &self,
         alloc: Global,
@@ -241,12 +244,12 @@ impl<D: Disk> HubLink<D> {
         Ok(text_by(alloc, to, 0, to, text)?)
     }
 
-    /// Puts the state alone into the journal: `Compacted`. The changes so far are no longer kept one by one, and a leaf
-    /// whose version is below the hub's now is sent all records.
+    /// Writes the state alone into the journal: `Compacted`. The hub no longer keeps the changes so far one by one, and
+    /// it sends all records to a leaf whose version is below its own now.
     ///
     /// # Errors
     /// `Down`; `NumbersSpent` in the journal's last generation; `NoMemory`, which leaves the hub as it was;
-    /// `JournalFault` where a disk failed: the hub is down, and shows what it showed.
+    /// `JournalFault` if a disk failed: the hub is down, and shows what it showed before.
     pub fn compact(&mut self, alloc: Global) -> Result<Answer, LinkError>
         ensures row { Calls self.old (λ how. hub_compacted self.old.leaves how self.old.bot) result self.new }
         ensures packets { GoOut 0 result }
@@ -263,11 +266,11 @@ impl<D: Disk> HubLink<D> {
         }
     }
 
-    /// Crashes both disks, as where the program that used them ended, and opens the journal again: `Restarted` with the
-    /// version. The asks that waited are lost. Where a record was in doubt, it counts from now on, or it doesn't.
+    /// Crashes both disks, as if the program that used them had ended, and reopens the journal: `Restarted` with the
+    /// version. The waiting asks are lost. If a record was in doubt, it counts from now on, or it doesn't.
     ///
     /// # Errors
-    /// `DiskFault` where a read failed, or `NoMemory`: the hub is down, and all else stays.
+    /// `DiskFault` if a read failed, or `NoMemory`: the hub is down, and all else stays.
     pub fn restart(&mut self, alloc: Global) -> Result<Answer, LinkError>
         ensures row { CallsRestart self.old (λ how. hub_restarted self.old.leaves how self.old.bot) result self.new }
         ensures packets { GoOut 0 result }
@@ -281,7 +284,7 @@ impl<D: Disk> HubLink<D> {
         }
     }
 
-    /// Says what a crash leaves at this moment, between two calls. It does nothing.
+    /// States what a crash leaves at this moment, between two calls. It does nothing.
     pub fn know_disks(&self)
         // What is the hub's, with the record in doubt or without it.
         ensures left { MayLeave (hub_meaning self.now.leaves) hub_folded self.now.bot.kept self.now.bot.doubt self.now.device.first self.now.device.second }
@@ -289,7 +292,7 @@ impl<D: Disk> HubLink<D> {
         self.kept.know_disks();
     }
 
-    /// The two disks, in the order in which they were given.
+    /// Returns the two disks, in the order in which they were given.
     pub fn into_disks(self) -> Disks<D>
         // Whatever a crash leaves on them is the hub's, with the record in doubt or without it.
         ensures left { MayLeave (hub_meaning self.leaves) hub_folded self.bot.kept self.bot.doubt (D.state result.first) (D.state result.second) }

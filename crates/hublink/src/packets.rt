@@ -16,7 +16,7 @@ use linkstate::{AcceptedChange, HubState};
 use std::alloc::Global;
 use usercodec::Record;
 
-/// What a leaf is told of what became of its request. Takes no memory.
+/// Returns the reply that tells `leaf` the outcome of its request. Allocates nothing.
 pub(crate) fn reply_packet(leaf: u16, request: u32, answer: Answer) -> Outgoing
     ensures packet { outgoing_of result ≡ record { to = leaf; packet = answer_packet leaf request answer } }
     ensures good { HasGoodRecords result.packet }
@@ -36,8 +36,8 @@ pub(crate) fn reply_packet(leaf: u16, request: u32, answer: Answer) -> Outgoing
     Outgoing { to: leaf, packet }
 }
 
-/// What goes out where a change is accepted under this number: the reply to the leaf that asked for it, and the change to
-/// each leaf.
+/// Returns what goes out when a change is accepted under `number`: the reply to the leaf that asked for it, and the
+/// change to each leaf.
 pub(crate) fn accepted_packets(
     alloc: Global,
     leaves: u16,
@@ -51,7 +51,7 @@ pub(crate) fn accepted_packets(
     Ok(packets)
 }
 
-// The reply to the leaf that asked for a change that is accepted under this number: none for a change of the hub's own.
+// Returns the reply to the leaf that asked for a change accepted under `number`, and nothing for the hub's own change.
 fn told_before(
     alloc: Global,
     origin: u16,
@@ -66,7 +66,7 @@ fn told_before(
     Ok(vec![in alloc; reply_packet(origin, request, Answer::Taken(number))]?)
 }
 
-// Puts the accepted change of this number, for each leaf in order, after what else is to be sent.
+// Appends the accepted change of this number, for each leaf in order, to the packets that go first.
 fn put_to_each(
     alloc: Global,
     packets: &mut Vec<Outgoing>,
@@ -87,7 +87,7 @@ fn put_to_each(
     Ok(())
 }
 
-// The packet of the accepted change of this number.
+// Returns the packet of the accepted change of this number.
 fn numbered_packet(alloc: Global, number: u32, entry: &AcceptedChange) -> Result<Packet, NoMemory>
     ensures { IfOk result (λ packet. from_wire packet ≡ change_packet number entry.now) }
 {
@@ -100,8 +100,8 @@ fn numbered_packet(alloc: Global, number: u32, entry: &AcceptedChange) -> Result
     })
 }
 
-/// What a hello of a leaf is answered with: the changes after its version, at most 16, or all records where those changes
-/// are no longer kept one by one.
+/// Returns the answer to a hello of `leaf`: the changes after `version`, at most 16, or all records if the hub no
+/// longer keeps those changes one by one.
 pub(crate) fn hello_packets(
     alloc: Global,
     leaf: u16,
@@ -121,7 +121,7 @@ pub(crate) fn hello_packets(
     }
 }
 
-// The changes after a version to one leaf, at most 16.
+// Returns the changes after a version to one leaf, at most 16.
 fn next_changes(
     alloc: Global,
     leaf: u16,
@@ -136,7 +136,7 @@ fn next_changes(
     numbered_from(alloc, leaf, version, changes_after(version, hub))
 }
 
-// The accepted changes after a version, at most 16.
+// Returns the accepted changes after a version, at most 16.
 fn changes_after(version: u32, hub: &HubState) -> &[AcceptedChange]
     requires kept { hub.now.floor ≤ version }
     requires has { version ≤ version_of hub.now }
@@ -149,7 +149,7 @@ fn changes_after(version: u32, hub: &HubState) -> &[AcceptedChange]
     &rest[..count]
 }
 
-// These accepted changes to one leaf, numbered on from a version.
+// Returns these accepted changes to one leaf, numbered on from a version.
 fn numbered_from(
     alloc: Global,
     leaf: u16,
@@ -170,7 +170,7 @@ fn numbered_from(
     Ok(packets)
 }
 
-// All records, in parts of eight, to one leaf.
+// Returns all records, in parts of eight, to one leaf.
 fn all_parts(alloc: Global, leaf: u16, hub: &HubState) -> Result<Vec<Outgoing>, NoMemory>
     ensures packets { IfOk result (λ packets. outgoings_of packets.items ≡ all_parts hub.now leaf) }
     ensures good { IfOk result (λ packets. AreGood packets.items) }
@@ -181,7 +181,7 @@ fn all_parts(alloc: Global, leaf: u16, hub: &HubState) -> Result<Vec<Outgoing>, 
     parts_of(alloc, leaf, hub, items.as_slice(), count)
 }
 
-// How many parts these records make.
+// Returns how many parts these records make.
 fn part_count(items: &[Record]) -> u8
     requires few { length items.now ≤ 700 }
     ensures { result ≡ (length items.now - 1) / 8 + 1 }
@@ -189,7 +189,7 @@ fn part_count(items: &[Record]) -> u8
     (items.len().saturating_sub(1) / 8 + 1) as u8
 }
 
-// These records of a hub, in so many parts.
+// Returns these records of a hub, in `count` parts.
 fn parts_of(
     alloc: Global,
     leaf: u16,
@@ -220,7 +220,7 @@ fn parts_of(
     Ok(packets)
 }
 
-// The records of the part at this place, from 0.
+// Returns the records of the part at this place, from 0.
 fn part_at(alloc: Global, items: &[Record], place: u8) -> Result<Seq<Record>, NoMemory>
     requires within { 8 * place ≤ length items.now }
     ensures { IfOk result (λ records. records ≡ take 8 (drop (8 * place) items.now)) }

@@ -1,4 +1,4 @@
-// What a hub makes of a packet.
+// How a hub takes a packet.
 use crate::accepting::accept;
 use crate::link::HubLink;
 use crate::packets::{hello_packets, reply_packet};
@@ -23,20 +23,21 @@ impl<D: Disk> HubLink<D> {
     ghost use Rattle.std.specs.Prelude.{Some};
     ghost use Rattle.hublink.specs.Link.{Calls};
 
-    /// Takes a packet.
+    /// Takes `packet`.
     ///
-    /// - A hello of a leaf, at a version that the hub has, is `Served`: with the changes that follow, at most 16, or with
-    ///   all records in parts where those changes are no longer kept one by one.
-    /// - A leaf's request that was replied to is `Repeat` where that reply is one of the last eight, and it goes out again;
-    ///   else it is `Old`. It is `Gap` where one before it is missing. A next request is `Refused`, which is journaled and
-    ///   told to the leaf, or `Accepted`, which is journaled, told to the leaf, and goes to each leaf as a change.
-    /// - A text of a bot of the net is `Text` where it is for the hub, and `Relayed` to the leaf that it is for.
+    /// - A hello of a leaf, at a version that the hub has, is `Served`: with the changes that follow, at most 16, or
+    ///   with all records in parts if the hub no longer keeps those changes one by one.
+    /// - A leaf's request that was replied to before is `Repeat` if that reply is one of the last eight, and the reply
+    ///   goes out again; otherwise it is `Old`. A request is `Gap` if one before it is missing. The next request is
+    ///   `Refused` or `Accepted`: the hub journals that and replies to the leaf. An accepted one goes to each leaf as a
+    ///   change.
+    /// - A text of a bot of the net is `Text` if it is for the hub, and otherwise `Relayed` to the leaf that it is for.
     /// - Any other packet is `Stray`.
     ///
     /// # Errors
-    /// `Down`; `OtherLayout` for a hello of another layout; `NumbersSpent` for a request at the last version; `NoMemory`, which leaves the hub as it was;
-    /// `JournalFault` where a disk failed: the hub is down, shows what it showed, and sends nothing. `Stray`, `Old` and
-    /// `Gap`, and what is answered with no packet, take no memory.
+    /// `Down`; `OtherLayout` for a hello of another layout; `NumbersSpent` for a request at the last version;
+    /// `NoMemory`, which leaves the hub as it was; `JournalFault` if a disk failed: the hub is down, shows what it
+    /// showed before, and sends nothing. `Stray`, `Old` and `Gap`, and `Served` without packets, allocate nothing.
     pub fn receive(&mut self, alloc: Global, packet: &Packet) -> Result<Answer, LinkError>
         ensures row { Calls self.old (λ how. hub_received self.old.leaves how self.old.bot (from_wire packet.now)) result self.new }
         ensures packets { GoOut (MAX_LEAVES + 1) result }
@@ -110,7 +111,7 @@ impl<D: Disk> HubLink<D> {
         leaf == 0 || leaf > self.kept.who() || version > self.kept.state().version()
     }
 
-    // Takes a text, or sends it on.
+    // Takes a text, or passes it on.
     fn receive_text(
         &self,
         alloc: Global,
@@ -171,7 +172,7 @@ impl<D: Disk> HubLink<D> {
         self.receive_next(alloc, leaf, request, change)
     }
 
-    // Answers a request that was replied to: with that reply, where it is still kept.
+    // Answers a request that was replied to before: with that reply, if it is still kept.
     fn answer_again(
         &self,
         alloc: Global,
@@ -212,7 +213,7 @@ impl<D: Disk> HubLink<D> {
         }
     }
 
-    // Refuses a leaf's next request.
+    // Rejects a leaf's next request.
     fn refuse_request(
         &mut self,
         alloc: Global,

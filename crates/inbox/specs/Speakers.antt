@@ -1,9 +1,9 @@
--- Which leaf a packet names as the one that says it.
+-- Which leaf a packet names as its sender.
 use Rattle.std.specs.Prelude.{ℕ, Option, Some, None}
 use Rattle.sharewire.specs.declared.packet.Packet.{Packet}
 use Rattle.sharewire.specs.declared.packet.Packet.TheVariants.{Hello, Change, Part, Request, Accepted, Refused, BotText}
 
--- none where only the hub says it
+-- none if only the hub sends it
 abbrev pub speaker_of : Packet → Option ℕ
 speaker_of (Hello layout leaf version) = Some leaf
 speaker_of (Change number origin request change) = None

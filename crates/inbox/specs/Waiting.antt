@@ -1,14 +1,14 @@
--- Packets that have come and wait, in a queue for each stream, and what one turn takes of them.
+-- Packets that have arrived and wait, in one queue for each stream, and which of them one turn takes.
 use Rattle.std.specs.Prelude.{◌≡◌, ℕ, ◌+◌, ◌-◌, min, nat_lt, List, [], ◌∷◌, ◌++◌, length, get_or, set, take, drop, fold, if◌then◌else◌}
 use Rattle.sharewire.specs.declared.packet.Packet.{Packet}
 use Rattle.inbox.specs.declared.queue.TheConstants.{MAX_PACKETS, MAX_OF_STREAM}
 
--- what waits of each stream, the oldest first, and which stream is asked first
+-- the queue of each stream, the oldest packet first, and the stream that the next turn asks first
 pub record Waiting : Type 0 where
   pub queues : List (List Packet)
   pub first : ℕ
 
--- what waits of a stream: nothing where there is no such stream
+-- the queue of a stream, empty if there is no such stream
 abbrev pub queue_of : Waiting → ℕ → List Packet
 queue_of waiting stream = get_or waiting.queues stream []
 
@@ -20,17 +20,18 @@ with_more stream packets waiting = with_queue stream (queue_of waiting stream ++
 
 -- ---- a turn asks one stream after another
 
--- what the streams that were asked gave, what stays with each, and how many of them there was room for
+-- the packets that the streams asked so far gave, what stays in each queue, and how many of the streams there was room
+-- for
 pub record Round : Type 0 where
   pub given : List Packet
   pub left : List (List Packet)
   pub served : ℕ
 
--- how many packets a stream gives after these: all that waits, but no more than 64, nor than 256 with those
+-- how many packets a stream gives after `given`: all that wait, but at most 64, and at most 256 together with `given`
 abbrev pub share : List Packet → List Packet → ℕ
 share given queue = min (min MAX_OF_STREAM (length queue)) (MAX_PACKETS - length given)
 
--- one stream more is asked: it gives its oldest packets
+-- one more stream is asked: it gives its oldest packets
 abbrev pub asked : Round → List Packet → Round
 asked round queue = record {
   given = round.given ++ take (share round.given queue) queue;
@@ -45,11 +46,11 @@ round_of queues = fold asked (record { given = []; left = []; served = 0 }) queu
 abbrev pub in_turn : ℕ → List (List Packet) → List (List Packet)
 in_turn first queues = drop first queues ++ take first queues
 
--- so many streams on, where so many streams come round
+-- the stream `served` places after `first`, around a ring of `streams` streams
 abbrev pub places_on : ℕ → ℕ → ℕ → ℕ
 places_on streams first served = if nat_lt served (streams - first) then first + served else served - (streams - first)
 
--- A turn takes what the streams give that it asks, in the order of their turns, and what they don't give stays. The next turn
+-- A turn takes what the streams give, in the order in which it asks them; what they don't give stays. The next turn
 -- begins with the stream for which there was no room.
 pub record TakesTurn (old : Waiting) (packets : List Packet) (new : Waiting) : Type 0 where
   pub given : packets ≡ (round_of (in_turn old.first old.queues)).given

@@ -1,4 +1,4 @@
-// Packets that wait for a turn.
+// A queue of packets for each stream, and the packets of one turn.
 ghost use Rattle.std.specs.Prelude.{◌≡◌, ◌<◌, ◌≤◌, ◌-◌, [], length, replicate, IfOk, IfErr, vec_len, vec_capacity};
 ghost use Rattle.std.specs.List.{AllByRecursion};
 ghost use Rattle.linkcalls.specs.Shapes.{HasGoodRecords};
@@ -11,14 +11,14 @@ use sharewire::Packet;
 use std::alloc::Global;
 use std::marker::Model;
 
-/// The packets that have come and wait for a turn, in a queue for each stream. Streams are numbered from 0.
+/// The packets that have arrived and wait for a turn, in one queue for each stream. Streams are numbered from 0.
 ///
-/// A turn takes at most [`MAX_PACKETS`](crate::MAX_PACKETS) of them, and of one stream at most
-/// [`MAX_OF_STREAM`](crate::MAX_OF_STREAM): one packet may be answered by many, each with writes to a disk, and the
-/// server waits for its answers meanwhile. The streams are asked one after another, and the next turn begins where
-/// there was no more room, so that no stream keeps another waiting for ever.
+/// A turn takes at most [`MAX_PACKETS`](crate::MAX_PACKETS) packets, and at most
+/// [`MAX_OF_STREAM`](crate::MAX_OF_STREAM) of one stream: one packet may lead to many answers, each with writes to a
+/// disk, and the server waits for its answers meanwhile. The streams are asked one after another. The next turn begins
+/// with the stream for which there was no more room, so no stream keeps another waiting for ever.
 ///
-/// A queue has no bound of its own: read no stream of which packets wait.
+/// A queue has no bound of its own, so do not read a stream while packets of it wait.
 ///
 /// ```text
 /// let mut inbox = Inbox::new(alloc, 3)?;
@@ -28,11 +28,11 @@ use std::marker::Model;
 /// ```
 pub struct Inbox {
     queues: Vec<Queue>,
-    // Which stream is asked first.
+    // The stream that the next turn asks first.
     first: usize,
 }
 
-// By hand, so that this is proved once, and not in each crate in which packets that wait end.
+// Written by hand, so that the drop is proved once, and not in each crate that drops an inbox.
 impl Drop for Inbox {
     fn drop(self) {
         let Inbox {
@@ -60,10 +60,10 @@ impl Inbox {
     ghost use Rattle.inbox.specs.declared.queue.TheConstants.{MAX_PACKETS};
     ghost use Rattle.inbox.specs.Waiting.{TakesTurn, queue_of, with_queue, with_more};
 
-    /// Nothing waits of any of so many streams.
+    /// Creates an empty inbox for `streams` streams.
     ///
     /// # Errors
-    /// `NoMemory` where room for the queues is refused: never where there are no streams.
+    /// `NoMemory` if the queues cannot be allocated: never if there are no streams.
     pub fn new(alloc: Global, streams: usize) -> Result<Inbox, NoMemory>
         ensures empty { IfOk result (λ inbox. inbox ≡ record { queues = replicate streams []; first = 0 }) }
         ensures memory { IfErr result (λ _. 0 < streams) }
@@ -74,14 +74,14 @@ impl Inbox {
         })
     }
 
-    /// How many streams there are.
+    /// Returns the number of streams.
     pub fn stream_count(&self) -> usize
         ensures { result ≡ length self.now.queues }
     {
         self.queues.len()
     }
 
-    /// How many packets of a stream wait. Of one that there is not, none does.
+    /// Returns the number of packets of `stream` that wait: 0 if there is no such stream.
     pub fn count(&self, stream: usize) -> usize
         ensures { result ≡ length (queue_of self.now stream) }
     {
@@ -91,11 +91,11 @@ impl Inbox {
         }
     }
 
-    /// Puts packets of a stream after those of it that wait. The records of a part are of good shape, as those that are
-    /// read are.
+    /// Appends `packets` to the queue of `stream`. The records of a part must be of good shape, as those of packets
+    /// that were read from frames are.
     ///
     /// # Errors
-    /// `NoMemory` where room for them is refused: never where there are none. Then none of them is put.
+    /// `NoMemory` if an allocation fails: never if `packets` is empty. None of them is queued then.
     pub fn put(&mut self, stream: usize, packets: Vec<Packet>) -> Result<(), NoMemory>
         requires within { stream < length self.old.queues }
         requires good { AllByRecursion HasGoodRecords packets.items }
@@ -106,7 +106,7 @@ impl Inbox {
         self.queues[stream].put(packets)
     }
 
-    /// Forgets what waits of a stream, as where its connection has ended.
+    /// Drops the queued packets of `stream`, for example after its connection has ended.
     pub fn forget(&mut self, stream: usize)
         requires within { stream < length self.old.queues }
         ensures { self.new ≡ with_queue stream [] self.old }
@@ -114,12 +114,12 @@ impl Inbox {
         self.queues[stream].clear();
     }
 
-    /// Takes the packets of one turn: asks the streams one after another, from where the last turn had no more room.
-    /// Each gives its oldest packets, in order, at most [`MAX_OF_STREAM`](crate::MAX_OF_STREAM) and no more than there
-    /// is room for.
+    /// Takes the packets of one turn. Asks the streams one after another, beginning with the one for which the last
+    /// turn had no more room. Each stream gives its oldest packets, in order: at most
+    /// [`MAX_OF_STREAM`](crate::MAX_OF_STREAM), and no more than there is room for.
     ///
     /// # Errors
-    /// `NoMemory` where room for them is refused; then all of them wait as before.
+    /// `NoMemory` if an allocation fails; then all packets wait as before.
     pub fn take(&mut self, alloc: Global) -> Result<Vec<Packet>, NoMemory>
         ensures takes { IfOk result (λ packets. TakesTurn self.old packets.items self.new) }
         ensures few { IfOk result (λ packets. vec_len packets ≤ MAX_PACKETS) }
@@ -136,7 +136,7 @@ impl Inbox {
     }
 }
 
-// So many queues in which nothing waits.
+// Creates `streams` empty queues.
 fn empty_queues(alloc: Global, streams: usize) -> Result<Vec<Queue>, NoMemory>
     ensures queues { IfOk result (λ queues. queues.items ≡ replicate streams []) }
     ensures memory { IfErr result (λ _. 0 < streams) }
@@ -148,7 +148,7 @@ fn empty_queues(alloc: Global, streams: usize) -> Result<Vec<Queue>, NoMemory>
     Ok(queues)
 }
 
-// The stream that comes so many after the first, where so many streams come round.
+// The number of the stream that is `served` places after `first`, counted around a ring of `streams` streams.
 fn places_on(streams: usize, first: usize, served: usize) -> usize
     requires first { first ≤ streams }
     requires served { served ≤ streams }
@@ -162,7 +162,7 @@ fn places_on(streams: usize, first: usize, served: usize) -> usize
     }
 }
 
-// Asks each stream for its share, one after another. How many of them there was room for. Takes no memory.
+// Asks each stream for its share, one after another. Returns how many of them there was room for. Allocates nothing.
 fn ask_all(queues: &mut [Queue], packets: &mut Vec<Packet>) -> usize
     requires none { packets.old.items ≡ [] }
     requires room { MAX_PACKETS ≤ vec_capacity packets.old }

@@ -1,9 +1,10 @@
-//! The packets that have come to a bot and wait for its turn, and who says a packet.
+//! The packets that have arrived at a bot and wait for its turn, and which leaf a packet names as its sender.
 //!
-//! Packets of many streams wait in an [`Inbox`], which bounds how many of them a turn takes, and goes round from stream
-//! to stream. [`is_said_by`] is false of a packet that a leaf's connection must not bring.
+//! Packets of many streams wait in an [`Inbox`], which bounds how many of them a turn takes, and goes round from
+//! stream to stream. [`is_said_by`] is false for a packet that must not come over a leaf's connection.
 //!
-//! Which packets a turn takes is stated whole in `specs/Waiting.antt`; who says a packet, in `specs/Speakers.antt`.
+//! `specs/Waiting.antt` states in full which packets a turn takes; `specs/Speakers.antt` states which leaf sends a
+//! packet.
 //!
 //! ```text
 //! inbox.put(leaf, packets)?;                            // of each stream that was read

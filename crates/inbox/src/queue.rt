@@ -1,4 +1,4 @@
-// What waits of one stream.
+// The queue of one stream.
 ghost use Rattle.std.specs.Prelude.{◌≡◌, ◌≤◌, ◌+◌, ◌++◌, take, drop, vec_len, vec_capacity};
 ghost use Rattle.std.specs.VecDeque.{deque_len};
 
@@ -8,13 +8,13 @@ use std::alloc::Global;
 use std::collections::VecDeque;
 use std::marker::Model;
 
-/// The most packets that one turn takes, those of all streams together.
+/// The most packets that one turn takes from all streams together.
 pub const MAX_PACKETS: usize = 256;
 
-/// The most packets that one turn takes of one stream.
+/// The most packets that one turn takes from one stream.
 pub const MAX_OF_STREAM: usize = 64;
 
-// The packets of one stream that wait, the oldest first.
+// The queued packets of one stream, the oldest first.
 #[derive(Drop)]
 pub(crate) struct Queue {
     packets: VecDeque<Packet>,
@@ -30,7 +30,7 @@ impl Model for Queue {
 
     ghost view = { λ q. q.packets.items };
 
-    // Whatever waits has records of good shape.
+    // All queued packets have records of good shape.
     ghost invariant = { λ q. AllByRecursion HasGoodRecords q.packets.items };
 }
 
@@ -41,7 +41,7 @@ impl Queue {
     ghost use Rattle.inbox.specs.declared.queue.TheConstants.{MAX_PACKETS};
     ghost use Rattle.inbox.specs.Waiting.{share};
 
-    // Nothing waits. Takes no memory.
+    // An empty queue. Allocates nothing.
     pub(crate) fn new(alloc: Global) -> Queue
         ensures { result ≡ [] }
     {
@@ -50,14 +50,14 @@ impl Queue {
         }
     }
 
-    // How many packets wait.
+    // The number of queued packets.
     pub(crate) fn len(&self) -> usize
         ensures { result ≡ length self.now }
     {
         self.packets.len()
     }
 
-    // Puts packets after those that wait, all or none.
+    // Appends all packets, or none on an error.
     pub(crate) fn put(&mut self, packets: Vec<Packet>) -> Result<(), NoMemory>
         requires good { AllByRecursion HasGoodRecords packets.items }
         ensures ok { OnOk result (self.new ≡ self.old ++ packets.items) }
@@ -72,14 +72,14 @@ impl Queue {
         Ok(())
     }
 
-    // Forgets what waits.
+    // Drops all queued packets.
     pub(crate) fn clear(&mut self)
         ensures { self.new ≡ [] }
     {
         self.packets.clear();
     }
 
-    // Moves its share after these packets. Takes no memory.
+    // Moves this stream's share to the end of `packets`. Allocates nothing.
     pub(crate) fn give(&mut self, packets: &mut Vec<Packet>)
         requires few { vec_len packets.old ≤ MAX_PACKETS }
         requires room { MAX_PACKETS ≤ vec_capacity packets.old }
@@ -96,7 +96,7 @@ impl Queue {
     }
 }
 
-// Moves so many of the oldest packets of a queue after these. Takes no memory.
+// Moves the `count` oldest packets of `queue` to the end of `packets`. Allocates nothing.
 fn move_first(queue: &mut VecDeque<Packet>, count: usize, packets: &mut Vec<Packet>)
     requires count { count ≤ deque_len queue.old }
     requires room { vec_len packets.old + count ≤ vec_capacity packets.old }

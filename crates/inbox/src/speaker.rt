@@ -1,14 +1,14 @@
-// Who says a packet.
+// Which leaf sends a packet.
 ghost use Rattle.std.specs.Prelude.{◌≡◌, ◌↔◌, true, Some};
 ghost use Rattle.inbox.specs.Speakers.{speaker_of};
 
 use sharewire::Packet;
 
-/// Whether a packet names this leaf as the one that says it: its hello, its request, or a text that is from it.
+/// Whether `packet` names `leaf` as its sender: its hello, its request, or a text from it.
 ///
-/// Whoever has shown to be a leaf speaks for that leaf alone. A packet that comes over its connection and for which
-/// this is false names another leaf, or is one that only the hub says: refuse it, and let the connection go. Leaves are
-/// numbered from 1.
+/// A peer that has shown to be a leaf may speak for that leaf alone. If this is false for a packet that came over its
+/// connection, the packet names another leaf, or only the hub may send it: reject it, and disconnect the leaf. Leaves
+/// are numbered from 1.
 pub fn is_said_by(packet: &Packet, leaf: u16) -> bool
     ensures { (result ≡ true) ↔ (speaker_of packet.now ≡ Some leaf) }
 {

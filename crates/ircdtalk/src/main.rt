@@ -2,18 +2,18 @@
 //!
 //! | line | what it does and prints |
 //! |---|---|
-//! | `server NAME` | begins a new server; the line |
-//! | `connect` | a client comes: `connect N`, where N is its number, or `connect` and the code |
-//! | `N TEXT` | the client of number N sends this line: the line, and then what goes out |
-//! | `gone N` | the connection of the client of number N is no more: the line, and then what goes out |
+//! | `server NAME` | begins a new server; prints the line |
+//! | `connect` | a client connects; prints `connect N`, where N is its number, or `connect` and the code |
+//! | `N TEXT` | the client of number N sends this line; prints the line, and then what goes out |
+//! | `gone N` | the connection of the client of number N has ended; prints the line, and then what goes out |
 //!
 //! What goes out is in order, as `N> TEXT` for each line, where N is the number of the client that gets it, or the
-//! code. Clients are numbered from 0 as they come to a server; one that comes in the place of one that is gone has its
-//! number.
+//! code. Clients are numbered from 0 as they come to a server. A client that takes the place of one that is gone gets
+//! its number.
 //!
-//! Empty lines and lines that begin with `#` say nothing. A line that is none of these ends the program: it tells the
-//! line on standard error and ends with status 1, as for input above 1,048,576 bytes; with 3 where reading or writing
-//! fails; with 4 where memory runs out. Nothing stands on standard output then.
+//! Empty lines and lines that begin with `#` are skipped. Any other line ends the program, which reports the line on
+//! standard error and ends with status 1. The status is also 1 for input above 1,048,576 bytes; it is 3 if reading or
+//! writing fails, and 4 if memory runs out. Standard output is empty then.
 //!
 //! The crate's files `stdin` and `stdout` hold the conversations. The answers were worked out by hand from the rules
 //! that `miniircd` states.
@@ -42,7 +42,7 @@ fn main(rt: HostRuntime) -> ExitCode {
     }
 }
 
-// Holds the conversations of standard input.
+// Plays the conversations of standard input.
 fn run<R: Input + Print + AllocGlobal>(rt: &R) -> Result<(), Stop> {
     let mut input = Vec::new(rt.alloc());
     rt.reader()
@@ -56,7 +56,7 @@ fn run<R: Input + Print + AllocGlobal>(rt: &R) -> Result<(), Stop> {
     Ok(())
 }
 
-// What is told of the conversations of a text.
+// Returns what the program prints for the conversations in `input`.
 fn told_of(alloc: Global, input: &[u8]) -> Result<Vec<u8>, Stop> {
     let mut talk = Talk::new(alloc);
     for (i, line) in input.split(|byte| *byte == b'\n').enumerate() {

@@ -7,7 +7,7 @@ use thiserror::Error;
 /// Why a line is no part of a conversation.
 #[derive(Clone, Copy, Debug, Error)]
 pub enum TalkFault {
-    /// Its first word is neither one of those that there are nor a number.
+    /// Its first word is neither a known word nor a number.
     #[error("no such line")]
     NoSuchLine,
     /// No client of this number has connected to this server.
@@ -35,13 +35,13 @@ pub enum Stop {
     /// The input can't be read, or the answers can't be written.
     #[error("reading or writing failed")]
     Stream,
-    /// A growth was refused.
+    /// An allocation failed.
     #[error("out of memory: free some and try again")]
     NoMemory,
 }
 
 impl Stop {
-    /// The status that the program ends with.
+    /// Returns the status that the program ends with.
     pub fn status(self) -> u8 {
         match self {
             Stop::TooLong | Stop::BadLine { .. } => 1,
@@ -50,7 +50,7 @@ impl Stop {
         }
     }
 
-    /// Why this line ended the program.
+    /// Returns the stop for an `error` at `line`.
     pub fn at(line: usize, error: TalkError) -> Stop {
         match error {
             TalkError::Refused(fault) => Stop::BadLine { line, fault },

@@ -5,17 +5,17 @@ use itoa::Buffer;
 use miniircd::{Client, Ircd, IrcdError, Sent};
 use std::alloc::Global;
 
-/// A server, the clients that have connected to it, and what is told of it so far.
+/// A server, the clients that have connected to it, and what was printed so far.
 #[derive(Drop)]
 pub struct Talk {
     server: Ircd,
-    // The client of number N stands at place N.
+    // The client of number N is at index N.
     clients: Vec<Client>,
     out: Vec<u8>,
 }
 
 impl Talk {
-    /// A new server, of which nothing is told. Takes no memory.
+    /// Begins with a new server and nothing printed. Allocates nothing.
     pub fn new(alloc: Global) -> Talk {
         Talk {
             server: Ircd::new(alloc),
@@ -24,10 +24,10 @@ impl Talk {
         }
     }
 
-    /// Reads a line, and tells it and what comes of it.
+    /// Reads `line`, and prints it and what comes of it.
     ///
     /// # Errors
-    /// A [`TalkFault`] where the line is no part of a conversation, and `NoMemory` where a growth was refused.
+    /// A [`TalkFault`] if the line is no part of a conversation, and `NoMemory` if an allocation failed.
     pub fn read(&mut self, alloc: Global, line: &[u8]) -> Result<(), TalkError> {
         match line {
             [] | [b'#', ..] => Ok(()),
@@ -36,7 +36,7 @@ impl Talk {
         }
     }
 
-    /// All that was told.
+    /// Returns all that was printed.
     pub fn into_bytes(self) -> Vec<u8> {
         self.out
     }
@@ -88,7 +88,7 @@ impl Talk {
         self.tell_sent(sent)
     }
 
-    // The client of the number that a word spells.
+    // Returns the client of the number that `word` spells.
     fn client_of(&self, word: &[u8]) -> Result<Client, TalkError> {
         let Ok(digits) = std::str::from_utf8(word) else {
             return Err(Failure::Refused(TalkFault::NoSuchLine));
@@ -102,7 +102,7 @@ impl Talk {
         }
     }
 
-    // Tells the number of a client, which gets the next one where it has none.
+    // Prints the number of `client`, which gets the next number if it has none.
     fn tell_number(&mut self, client: Client) -> Result<(), TalkError> {
         let number = match self.clients.iter().position(|other| *other == client) {
             Some(number) => number,
@@ -117,7 +117,7 @@ impl Talk {
         Ok(())
     }
 
-    // Tells the lines that go out, each with the number of its client, or why there are none.
+    // Prints the lines that go out, each with the number of its client, or why there are none.
     fn tell_sent(&mut self, sent: Result<Seq<Sent>, IrcdError>) -> Result<(), TalkError> {
         let lines = match sent {
             Ok(lines) => lines,
@@ -138,7 +138,7 @@ impl Talk {
         }
     }
 
-    // Tells a text, which ends the line.
+    // Prints `text`, which ends the line.
     fn tell(&mut self, text: &[u8]) -> Result<(), TalkError> {
         self.out.extend_from_slice(text)?;
         self.out.push(b'\n')?;
@@ -146,7 +146,7 @@ impl Talk {
     }
 }
 
-// What stands before the first space, and what stands after it.
+// Splits `line` at its first space, which belongs to neither part.
 fn cut(line: &[u8]) -> (&[u8], &[u8]) {
     match line.iter().position(|byte| *byte == b' ') {
         Some(end) => (&line[..end], &line[end + 1..]),

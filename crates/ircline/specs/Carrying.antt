@@ -9,7 +9,7 @@ use Rattle.ircline.specs.Printing.{canonical}
 abbrev pub capital : ℕ → Bool
 capital b = nat_le 65 b && nat_le b 90
 
--- a command as it is kept: 1*capital / 3digit
+-- a command as messages keep it: 1*capital / 3digit
 abbrev pub kept_command : List ℕ → Bool
 kept_command text = (filled text && list_all capital text) || (length text == 3 && list_all digit text)
 
@@ -18,13 +18,13 @@ abbrev pub carries_prefix : List ℕ → Bool
 carries_prefix [] = true
 carries_prefix (b ∷ bs) = names (b ∷ bs)
 
--- parameters of which each but the last is a middle one
+-- parameters, each a middle one except the last
 abbrev pub carries_params : List (List ℕ) → Bool
 carries_params [] = true
 carries_params (param ∷ []) = trailing param
 carries_params (param ∷ next ∷ params) = middle param && carries_params (next ∷ params)
 
--- the parts are such as a line can carry, and the canonical line isn't too long
+-- a line can carry each of the parts, and the canonical line isn't too long
 abbrev pub carries : Message → Bool
 carries message =
     kept_command message.command && (carries_prefix message.prefix && (nat_le (length message.params) 15

@@ -41,8 +41,8 @@ digit b = nat_le 48 b && nat_le b 57
 abbrev pub command : List ℕ → Bool
 command text = (filled text && list_all letter text) || (length text == 3 && list_all digit text)
 
--- prefix = servername / ( nickname [ [ "!" user ] "@" host ] ). What a name is made of is left open here, as
--- servers differ, but for two things: no part has a space, and there is a nick or a server's name.
+-- prefix = servername / ( nickname [ [ "!" user ] "@" host ] ). Servers differ in what they allow in a name, so only
+-- two things are required here: no part has a space, and there is a nick or a server's name.
 abbrev pub names : List ℕ → Bool
 names text = list_all nospcrlf text && filled (nick_of text)
 

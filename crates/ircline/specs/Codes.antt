@@ -1,4 +1,4 @@
--- The letters of each fault.
+-- The short code of each fault.
 use Rattle.std.specs.Prelude.{ℕ, List, codes}
 use Rattle.ircline.specs.declared.fault.Fault.{Fault}
 use Rattle.ircline.specs.declared.fault.Fault.TheVariants.{TooLong, NulByte, BadPrefix, BadCommand}

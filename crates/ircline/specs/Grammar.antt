@@ -5,8 +5,8 @@
 --     params  = *14( SPACE middle ) [ SPACE ":" trailing ]
 --            =/ 14( SPACE middle ) [ SPACE [ ":" ] trailing ]
 --
--- Two things are wider than in the RFC: SPACE is one or more spaces, and there may be spaces before the first word and
--- after the last one, which mean nothing. A command is kept in upper case.
+-- Two things are wider than in the RFC: SPACE is one or more spaces, and spaces before the first word and after the
+-- last one are allowed and ignored. A command is kept in upper case.
 use Rattle.std.specs.Prelude.{◌≡◌, ℕ, zero, suc, List, [], ◌∷◌, ◌++◌, ◌⊎◌, ◌==◌, true, false, map, IsTrue}
 use Rattle.std.specs.List.{list_all}
 use Rattle.ircline.specs.declared.message.Message.{Message}
@@ -14,11 +14,11 @@ use Rattle.ircline.specs.Words.{holds}
 use Rattle.ircline.specs.Sources.{nick_of}
 use Rattle.ircline.specs.Classes.{middle, trailing, command, names, upper}
 
--- spaces alone, or nothing
+-- only spaces, or nothing
 abbrev pub IsSpaces : List ℕ → Type 0
 IsSpaces text = list_all (λ b. b == 32) text ≡ true
 
--- nothing, or what begins with another byte than a space
+-- nothing, or a text that does not begin with a space
 abbrev pub IsFlush : List ℕ → Type 0
 IsFlush [] = Unit {0}
 IsFlush (b ∷ bs) = (b == 32) ≡ false
@@ -49,14 +49,14 @@ abbrev pub IsMiddle : List ℕ → List ℕ → List ℕ → Type 0
 IsMiddle text param tail =
     (more : List ℕ) × (text ≡ 32 ∷ (more ++ (param ++ tail))) × IsSpaces more × IsTrue (middle param)
 
--- params, of which so many more may be middle ones
+-- params, of which at most `n` more are middle ones
 unfoldable pub IsParams : ℕ → List ℕ → List (List ℕ) → Type 0
 IsParams n text [] = IsSpaces text
 IsParams zero text (param ∷ params) = (params ≡ []) × (IsTrailing text param ⊎ IsFifteenth text param)
 IsParams (suc n) text (param ∷ params) =
     ((params ≡ []) × IsTrailing text param) ⊎ ((tail : List ℕ) × IsMiddle text param tail × IsParams n tail params)
 
--- a line that begins with a colon, after which no nick and no server's name stands
+-- a line that begins with a colon, with no nick and no server's name after it
 pub record IsNameless (line : List ℕ) : Type 0 where
   pub lead : List ℕ
   pub prefix : List ℕ

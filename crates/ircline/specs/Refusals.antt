@@ -6,10 +6,10 @@ use Rattle.bytetext.specs.declared.failure.Failure.TheVariants.{Refused, NoMemor
 use Rattle.ircline.specs.declared.fault.NotPrintable.{NotPrintable}
 use Rattle.ircline.specs.Printing.{canonical, ReadsBack}
 
--- It is refused only where its line would not read back. No other line reads back either, but for one case: after
--- fourteen parameters the last one needs no colon to hold a space, and that may be the byte by which the canonical line
--- is too long. Out of memory comes only where nothing else is wrong. That a refusal is about the canonical line is our own
--- choice; what reads back is the RFC's.
+-- A message is refused only if its canonical line would not read back. No other line reads back as the message either,
+-- with one exception: after fourteen parameters the last one can hold a space without a colon, and the colon may be the
+-- byte by which the canonical line is too long. Out of memory comes only if nothing else is wrong. That a refusal is
+-- about the canonical line is our own choice; what reads back is the RFC's.
 abbrev pub Fails : Message → Failure NotPrintable → Type 0
 Fails message (Refused fault) =
     (¬ ReadsBack (canonical message) message)

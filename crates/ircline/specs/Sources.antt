@@ -1,6 +1,6 @@
--- The source of a message, by its prefix (RFC 2812 section 2.3.1: a server's name, or a nick with user and host). That a
--- nick may have a host without a user or a user without a host, and that a bare name without a dot is a nick, is our own
--- choice: the RFC's grammar leaves bare names open.
+-- The source of a message, by its prefix (RFC 2812 section 2.3.1: a server's name, or a nick with user and host). Three
+-- points are our own choice: a nick may have a host without a user, it may have a user without a host, and a bare name
+-- without a dot is a nick, since the RFC's grammar leaves bare names open.
 -- The bytes: 33 is '!', 46 is '.', 64 is '@'.
 use Rattle.std.specs.Prelude.{ℕ, Bool, List, [], ◌∷◌, ◌&&◌, not, if◌then◌else◌}
 use Rattle.ircline.specs.Words.{holds, before, behind}
@@ -11,23 +11,23 @@ pub data Source : Type 0 where
   Server : List ℕ → Source
   Person : List ℕ → List ℕ → List ℕ → Source
 
--- what stands before the first '!', or where there is none before the first '@'
+-- what is before the first '!', or if there is no '!' before the first '@'
 abbrev pub nick_of : List ℕ → List ℕ
 nick_of prefix = if holds 33 prefix then before 33 prefix else before 64 prefix
 
--- what stands between the first '!' and the first '@' after it; empty without a '!'
+-- what is between the first '!' and the first '@' after it; empty without a '!'
 abbrev pub user_of : List ℕ → List ℕ
 user_of prefix = if holds 33 prefix then before 64 (behind 33 prefix) else []
 
--- what stands after that '@', or without a '!' after the first '@'; empty where there is none
+-- what is after that '@', or without a '!' after the first '@'; empty if there is no such '@'
 abbrev pub host_of : List ℕ → List ℕ
 host_of prefix = if holds 33 prefix then behind 64 (behind 33 prefix) else behind 64 prefix
 
--- a server has neither '!' nor '@', and a dot
+-- a server's name has a dot, and neither '!' nor '@'
 abbrev pub is_server : List ℕ → Bool
 is_server prefix = not (holds 33 prefix) && (not (holds 64 prefix) && holds 46 prefix)
 
--- the parts of a prefix; the empty prefix is none
+-- the parts of a prefix; the empty prefix has none
 abbrev pub source_of : List ℕ → Source
 source_of [] = Nobody
 source_of (b ∷ bs) =

@@ -5,12 +5,12 @@ use Rattle.ircline.specs.declared.line.Line.{Line}
 use Rattle.ircline.specs.Classes.{is_end, filled}
 use Rattle.ircline.specs.Reading.{line_of}
 
--- a run, where it isn't empty, before others
+-- a run, if it isn't empty, before others
 abbrev pub with_run : List ℕ → List (List ℕ) → List (List ℕ)
 with_run [] runs = runs
 with_run (b ∷ bs) runs = (b ∷ bs) ∷ runs
 
--- the runs that an end follows, where the stream goes on a run that was begun
+-- the runs that an end follows; the stream continues a run that has begun
 abbrev pub runs_from : List ℕ → List ℕ → List (List ℕ)
 runs_from run [] = []
 runs_from run (b ∷ bs) = if is_end b then with_run run (runs_from [] bs) else runs_from (run ++ b ∷ []) bs
@@ -28,7 +28,7 @@ lines_of stream = map line_of (runs_from [] stream)
 abbrev pub begun : List ℕ → List ℕ
 begun stream = rest_from [] stream
 
--- what has to be held of it: no more than shows that it is too long
+-- what the reader must hold of that run: no more than shows that it is too long
 abbrev pub held_of : List ℕ → List ℕ
 held_of stream = take 511 (begun stream)
 
@@ -45,7 +45,7 @@ IsRun run = list_any is_end run ≡ false
 abbrev pub IsEnds : List ℕ → Type 0
 IsEnds ends = list_all is_end ends ≡ true
 
--- The stream is these runs, each as long as can be, between the bytes that end lines; and then a run that none ends.
+-- The stream is these runs, each as long as possible, between bytes that end lines, and then a run that no byte ends.
 abbrev pub Splits : List ℕ → List (List ℕ) → List ℕ → Type 0
 Splits stream [] rest = (ends : List ℕ) × (stream ≡ ends ++ rest) × IsEnds ends × IsRun rest
 Splits stream (run ∷ runs) rest =

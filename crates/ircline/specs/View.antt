@@ -3,7 +3,7 @@ use Rattle.ircline.specs.declared.sources.Source.{Source as BorrowedSource}
 use Rattle.ircline.specs.declared.sources.Source.TheVariants as variant
 use Rattle.ircline.specs.Sources.{Source, Nobody, Server, Person}
 
--- a source without where its parts lie in memory
+-- a source without the addresses of its parts
 abbrev pub seen : BorrowedSource → Source
 seen variant.None = Nobody
 seen (variant.Server name) = Server name.now

@@ -34,7 +34,7 @@ fn is_word(text: &[u8]) -> bool
     text.iter().all(|byte| is_nospcrlf(*byte))
 }
 
-/// Whether the text may be a parameter before the last one.
+/// Returns whether `text` may be a parameter before the last one.
 pub fn is_middle(text: &[u8]) -> bool
     ensures { result ≡ middle text.now }
 {
@@ -44,7 +44,7 @@ pub fn is_middle(text: &[u8]) -> bool
     }
 }
 
-/// Whether the text may be the last parameter.
+/// Returns whether `text` may be the last parameter.
 pub fn is_trailing(text: &[u8]) -> bool
     ensures { result ≡ trailing text.now }
 {
@@ -75,7 +75,7 @@ fn is_digits(text: &[u8]) -> bool
     text.iter().all(|byte| is_digit(*byte))
 }
 
-/// Whether the word is a command: letters, or three digits.
+/// Returns whether `text` is a command: letters, or three digits.
 pub fn is_command(text: &[u8]) -> bool
     ensures { result ≡ command text.now }
 {
@@ -94,14 +94,14 @@ fn is_capitals(text: &[u8]) -> bool
     text.iter().all(|byte| is_capital(*byte))
 }
 
-/// Whether the word is a command as messages keep it: letters in upper case, or three digits.
+/// Returns whether `text` is a command as messages keep it: letters in upper case, or three digits.
 pub fn is_kept_command(text: &[u8]) -> bool
     ensures { result ≡ kept_command text.now }
 {
     (!text.is_empty() && is_capitals(text)) || (text.len() == 3 && is_digits(text))
 }
 
-/// Whether the text may be a prefix.
+/// Returns whether `text` may be a prefix.
 pub fn is_prefix(text: &[u8]) -> bool
     ensures { result ≡ names text.now }
 {

@@ -1,14 +1,14 @@
-// What is wrong with a line, or with a message that is to be printed.
+// What is wrong with a line, or with a message to print.
 ghost use Rattle.std.specs.Prelude.{◌≡◌, codes};
 ghost use Rattle.ircline.specs.Codes.{code_of};
 
 use bytetext::Failure;
 use thiserror::Error;
 
-/// Why a line is no message, in the order in which it is tested.
+/// Why a line is not a message. The faults are tested in this order.
 #[derive(Clone, Copy, Debug, PartialEq, Eq, Error)]
 pub enum Fault {
-    /// More than 510 bytes stand before the line's end (RFC 2812 section 2.3: 512 with CR and LF).
+    /// The line has more than 510 bytes before its end (RFC 2812 section 2.3: 512 with CR and LF).
     #[error("the line is too long: send at most 510 bytes before its end")]
     TooLong,
     /// The line holds a NUL byte.
@@ -23,7 +23,7 @@ pub enum Fault {
 }
 
 impl Fault {
-    /// The letters of this fault: `L1`, `L4`, `L2` and `L3`, in the order of the test.
+    /// Returns the short code of this fault: `L1`, `L4`, `L2` or `L3`, in the order in which the faults are tested.
     pub fn code(self) -> &'static str
         ensures { result.now ≡ code_of self }
     {
@@ -36,15 +36,15 @@ impl Fault {
     }
 }
 
-/// The message's line would not read back: its prefix or command is none that a line can carry, there are more than 15
-/// parameters, one before the last is empty, begins with a colon or holds a space, a byte is NUL, CR or LF, or the
-/// line would have more than 510 bytes before its end.
+/// The message's line would not read back. Either a line cannot carry its prefix or its command, or there are more than
+/// 15 parameters, or a parameter before the last is empty, begins with a colon or holds a space, or a byte is NUL, CR
+/// or LF, or the line would have more than 510 bytes before its end.
 #[derive(Clone, Copy, Debug, PartialEq, Eq, Error)]
 #[error("no line can carry this message: mend its parts, or make them shorter")]
 pub struct NotPrintable;
 
 impl NotPrintable {
-    /// The letters of this fault: `L5`.
+    /// Returns the short code of this fault: `L5`.
     pub fn code(self) -> &'static str
         ensures { result.now ≡ codes "L5" }
     {
@@ -52,6 +52,6 @@ impl NotPrintable {
     }
 }
 
-/// Why a message was not printed: [`Failure::Refused`] where its line would not read back, and [`Failure::NoMemory`] where
-/// it would, and room for it is refused.
+/// Why a message was not printed: [`Failure::Refused`] if its line would not read back, and [`Failure::NoMemory`] if it
+/// would but could not be allocated.
 pub type PrintError = Failure<NotPrintable>;

@@ -1,11 +1,11 @@
 //! IRC lines: a stream of bytes to messages, and messages to lines (RFC 2812 sections 2.3 and 2.3.1).
 //!
-//! A [`LineReader`] is fed the pieces of a stream, cut anywhere, and answers each line once, in order, when its end has
-//! come: a [`Message`], or the first [`Fault`] that keeps it from being one. [`read_line`] reads one line, [`print`]
-//! writes the canonical line of a message or says that no line could carry it, and [`source`] splits a prefix.
+//! A [`LineReader`] takes the pieces of a stream, cut anywhere, and returns each line once, in order, when its end has
+//! arrived: a [`Message`], or the first [`Fault`] that keeps it from being one. [`read_line`] reads one line, [`print`]
+//! writes the canonical line of a message or reports that no line could carry it, and [`source`] splits a prefix.
 //!
 //! Beyond the RFC, CR alone and LF alone end a line, empty lines are skipped, there may be several spaces between words
-//! and before the first, and a line of more than 510 bytes is dropped whole without being kept.
+//! and before the first, and a line of more than 510 bytes is dropped as a whole without being kept.
 //!
 //! ```text
 //! let mut reader = LineReader::new(alloc);
@@ -15,8 +15,8 @@
 //! reader.finish(alloc)?;                                 // QUIT
 //! ```
 //!
-//! What a line reads as is `line_of` in `specs/Reading.antt`; that this is the RFC's grammar, `specs/Grammar.antt`, is
-//! the law [`reading_is_the_grammar`]. What the lines of a stream are is `specs/Stream.antt`, with the law
+//! `line_of` in `specs/Reading.antt` defines what a line reads as; the law [`reading_is_the_grammar`] says that this is
+//! the RFC's grammar, `specs/Grammar.antt`. `specs/Stream.antt` defines the lines of a stream, with the law
 //! [`runs_are_the_longest`].
 #![tactic(auto)]
 

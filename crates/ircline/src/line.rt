@@ -9,7 +9,7 @@ use std::alloc::Global;
 pub enum Line {
     /// A message.
     Message(Message),
-    /// No message, for the first fault that it has. The line is dropped.
+    /// Not a message: the first fault of the line. The line is dropped.
     Bad(Fault),
 }
 

@@ -2,21 +2,21 @@
 use bytetext::{NoMemory, Text, Texts, TryCopy};
 use std::alloc::Global;
 
-/// A message (RFC 2812 section 2.3.1), as it was read or is to be printed.
+/// A message (RFC 2812 section 2.3.1), either read or to print.
 #[derive(Debug)]
 pub struct Message {
-    /// Who sent it, as written, without the colon before it: empty where the line has none.
-    /// [`crate::source`] splits it.
+    /// The sender, as written, without the colon before it; empty if the line has no prefix. [`crate::source`] splits
+    /// it.
     pub prefix: Text,
-    /// Letters in upper case, or three digits.
+    /// The command: letters in upper case, or three digits.
     pub command: Text,
-    /// At most 15 of them, without the colon before the last one.
+    /// The parameters, at most 15, without the colon before the last one.
     pub params: Texts,
     /// The line after the command and the spaces that follow it, as written.
     pub rest: Text,
 }
 
-// By hand, so that this is proved once, and not in each function in which one ends.
+// By hand, so that the drop is proved once, and not in each function that drops a message.
 impl Drop for Message {
     fn drop(self) {
         let Message {

@@ -1,4 +1,4 @@
-// A whole stream, from the pieces that it came in.
+// A whole stream, from the pieces in which it arrived.
 ghost use Rattle.std.specs.Prelude.{◌≡◌, ◌++◌, List, ℕ, IfOk, IfErr, is_some, true, false};
 ghost use Rattle.std.specs.List.{flat_map, list_all};
 ghost use Rattle.std.specs.Option.{option_to_list};
@@ -10,11 +10,11 @@ use crate::reader::LineReader;
 use bytetext::{NoMemory, Text};
 use std::alloc::Global;
 
-/// The lines of a stream that came in these pieces, in order, and last the line that only the stream's end ends. They
-/// are the same however the stream was cut.
+/// Reads the lines of the stream that arrived in these `pieces`, in order, and last the line that only the stream's end
+/// ends. The lines are the same however the stream was cut.
 ///
 /// # Errors
-/// `NoMemory` where room for the lines is refused: never where there is none, since each byte is CR or LF.
+/// `NoMemory` if the lines cannot be allocated; never if every byte is CR or LF, so that there are no lines.
 pub fn read_pieces(alloc: Global, pieces: &[Text]) -> Result<Vec<Line>, NoMemory>
     ensures lines { IfOk result (λ lines. let stream = flat_map (λ (piece : List ℕ). piece) pieces.now in
         lines.items ≡ lines_of stream ++ option_to_list (last_line (begun stream))) }

@@ -7,8 +7,8 @@ use crate::person::Person;
 use crate::sources::Source;
 use crate::words::halves;
 
-/// The source that a prefix names. It is split at its first `!` and the first `@` after that; without `!`, at its first
-/// `@`. A prefix without both is a server's name if it holds a dot, else a nick. Takes no memory.
+/// Returns the source that `prefix` names. The prefix is split at its first `!` and the first `@` after that; without
+/// `!`, at its first `@`. A prefix with neither is a server's name if it holds a dot, else a nick. Does not allocate.
 pub fn source(prefix: &[u8]) -> Source<'_>
     ensures { seen result ≡ source_of prefix.now }
 {
@@ -36,7 +36,7 @@ pub fn source(prefix: &[u8]) -> Source<'_>
     }
 }
 
-/// The nick of a prefix, or the server's name: what stands before its first `!`, or without one before its first `@`.
+/// Returns the nick or the server's name of `prefix`: what is before its first `!`, or else before its first `@`.
 pub fn nick(prefix: &[u8]) -> &[u8]
     ensures { result.now ≡ nick_of prefix.now }
 {

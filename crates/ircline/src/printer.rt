@@ -11,15 +11,15 @@ use crate::read::LIMIT;
 use bytetext::{Failure, NoMemory, Text};
 use std::alloc::Global;
 
-// How many parameters a message may have.
+// The most parameters that a message may have.
 const PARAMS: usize = 15;
 
-/// The canonical line of a message, with CR and LF: one space between words, and a colon before the last parameter
-/// only where it is empty, begins with a colon or holds a space. `rest` isn't looked at.
+/// Returns the canonical line of `message`, with CR and LF: one space between words, and a colon before the last
+/// parameter only if it is empty, begins with a colon or holds a space. Ignores the message's `rest`.
 ///
 /// # Errors
-/// [`Failure::Refused`] where that line would not read back to the same prefix, command and parameters.
-/// [`Failure::NoMemory`] where it would, and room for a line, 512 bytes at once, is refused: no other memory is taken.
+/// [`Failure::Refused`] if that line would not read back to the same prefix, command and parameters.
+/// [`Failure::NoMemory`] if it would, but the one allocation, of 512 bytes, fails.
 pub fn print(alloc: Global, message: &Message) -> Result<Vec<u8>, PrintError>
     ensures line { IfOk result (λ bytes. bytes.items ≡ canonical message.now ++ 13 ∷ 10 ∷ []) }
     ensures back { OnOk result (ReadsBack (canonical message.now) message.now) }
@@ -50,7 +50,7 @@ fn is_prefix_or_none(prefix: &[u8]) -> bool
     }
 }
 
-// Whether each parameter may stand in its place.
+// Whether each parameter may stand where it does.
 fn are_params(params: &[Text]) -> bool
     ensures { result ≡ carries_params params.now }
 {
@@ -67,7 +67,7 @@ fn are_params(params: &[Text]) -> bool
     true
 }
 
-// Whether the line has few enough bytes before its end.
+// Whether the line has at most 510 bytes before its end.
 fn is_short(message: &Message) -> bool
     ensures { result ≡ nat_le (length (canonical message.now)) 510 }
 {
@@ -86,7 +86,7 @@ fn is_short(message: &Message) -> bool
     are_within(message.params.as_slice(), room)
 }
 
-// Whether the text of the parameters has no more bytes than that.
+// Whether the text of the parameters has at most `room` bytes.
 fn are_within(params: &[Text], room: usize) -> bool
     ensures { result ≡ nat_le (length (params_text params.now)) room }
 {
@@ -107,7 +107,7 @@ fn are_within(params: &[Text], room: usize) -> bool
     true
 }
 
-// Whether a last parameter can't stand without a colon.
+// Whether a last parameter needs a colon.
 fn wants_colon(param: &[u8]) -> bool
     ensures { result ≡ wants_colon param.now }
 {

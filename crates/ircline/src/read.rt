@@ -1,4 +1,4 @@
-// One line to a message.
+// Reads one line as a message.
 ghost use Rattle.std.specs.Prelude.{◌≡◌, ◌++◌, true, false, map, IfOk, OnErr, MatchOption};
 ghost use Rattle.bstr.specs.Find.{IsFirstByte};
 ghost use Rattle.ircline.specs.Words.{up_to};
@@ -18,31 +18,31 @@ use std::alloc::Global;
 /// The most bytes that a line may have before its end.
 pub const LIMIT: usize = 510;
 
-// How many parameters end at a space: what follows them is the fifteenth.
+// The most parameters that end at a space: what follows them is the fifteenth.
 const MIDDLES: usize = 14;
 
-/// What one line reads as: the bytes before the first CR or LF, or without these all of them. An empty line is
+/// Reads one line: the `bytes` before the first CR or LF, or all of them if they hold neither. An empty line is
 /// [`Fault::BadCommand`].
 ///
 /// # Errors
-/// `NoMemory` where room for the message is refused.
+/// `NoMemory` if the message cannot be allocated.
 pub fn read_line(alloc: Global, bytes: &[u8]) -> Result<Line, NoMemory>
     ensures line { IfOk result (λ line. line ≡ line_of (up_to is_end bytes.now)) }
-    // A fault takes no memory.
+    // A fault does not allocate.
     ensures memory { OnErr result (TakesMemory (line_of (up_to is_end bytes.now))) }
 {
     let (run, _) = parted(bytes, first_end(bytes));
     read_run(alloc, run)
 }
 
-/// Where the first CR or LF stands.
+/// Returns the index of the first CR or LF in `bytes`.
 pub fn first_end(bytes: &[u8]) -> Option<usize>
     ensures { IsFirstByte is_end bytes.now result }
 {
     bytes.find_byteset(b"\r\n")
 }
 
-/// What a run of bytes without CR and LF reads as.
+/// Reads `run`, the bytes of a line, which hold neither CR nor LF.
 pub fn read_run(alloc: Global, run: &[u8]) -> Result<Line, NoMemory>
     ensures line { IfOk result (λ line. line ≡ line_of run.now) }
     ensures memory { OnErr result (TakesMemory (line_of run.now)) }
@@ -56,7 +56,7 @@ pub fn read_run(alloc: Global, run: &[u8]) -> Result<Line, NoMemory>
     read_words(alloc, without_spaces(run))
 }
 
-// What a line reads as that begins with no space, and has no NUL byte.
+// Reads a line that does not begin with a space and has no NUL byte.
 fn read_words(alloc: Global, text: &[u8]) -> Result<Line, NoMemory>
     ensures line { IfOk result (λ line. line ≡ line_at text.now) }
     ensures memory { OnErr result (TakesMemory (line_at text.now)) }
@@ -87,7 +87,7 @@ fn without_spaces(text: &[u8]) -> &[u8]
     rest
 }
 
-// The prefix, empty where there is none, and the words after it; `None` where it names nobody.
+// The prefix, empty if there is none, and the words after it; `None` if the prefix names nobody.
 fn prefix_of(text: &[u8]) -> Option<(&[u8], &[u8])>
     ensures { MatchOption result (is_nameless text.now ≡ true) (λ parts. (is_nameless text.now ≡ false)
         × (parts.0.now ≡ prefix_at text.now) × (parts.1.now ≡ after_prefix text.now)) }
@@ -129,7 +129,7 @@ fn params_of(alloc: Global, tail: &[u8]) -> Result<Texts, NoMemory>
     Ok(Texts::new(params))
 }
 
-// The parameters that end at a space, and the text of the last one, empty where there is no further one.
+// The parameters that end at a space, and the text of the last one, empty if there are no more.
 fn middles_of(alloc: Global, tail: &[u8]) -> Result<(Vec<Text>, &[u8]), NoMemory>
     ensures { IfOk result (λ parts. parts.0.items ++ last_param parts.1.now ≡ params_of tail.now) }
 {
@@ -146,7 +146,7 @@ fn middles_of(alloc: Global, tail: &[u8]) -> Result<(Vec<Text>, &[u8]), NoMemory
     Ok((params, text))
 }
 
-// Whether the text is the last parameter, or none.
+// Whether the text is the last parameter, or empty.
 fn is_last(text: &[u8]) -> bool
     ensures { result ≡ is_last text.now }
 {

@@ -1,4 +1,4 @@
-// A stream of bytes to lines, in whatever pieces it comes.
+// Reads the lines of a stream of bytes, in whatever pieces it arrives.
 ghost use Rattle.std.specs.Prelude.{◌≡◌, ℕ, List, [], ◌++◌, map, take, drop, length, false, ◌<◌, ◌≤◌, IfOk, IfErr, IsTrue, OnErr};
 ghost use Rattle.std.specs.List.{list_all};
 ghost use Rattle.ircline.specs.Classes.{filled, is_end};
@@ -12,10 +12,10 @@ use bytetext::{NoMemory, TryCopy, bytes_of};
 use std::alloc::Global;
 use std::marker::Model;
 
-/// The lines of a stream, which is fed in pieces. CR alone and LF alone end a line, and empty lines are skipped.
+/// Reads the lines of a stream, piece by piece. CR alone and LF alone end a line, and empty lines are skipped.
 ///
-/// Contracts see the bytes of the run that is begun and not ended: the first 511 of them, since a run of more than 510
-/// bytes is one bad line whatever it holds, and no more is kept.
+/// Contracts see the bytes of the run that has begun and not ended, at most the first 511: a run of more than 510 bytes
+/// is one bad line whatever it holds, so the reader keeps no more.
 ///
 /// ```text
 /// let mut reader = LineReader::new(alloc);
@@ -37,7 +37,7 @@ impl Model for LineReader {
 }
 
 impl LineReader {
-    /// A reader at the begin of a stream. Takes no memory.
+    /// Creates a reader at the beginning of a stream. Does not allocate.
     pub fn new(alloc: Global) -> LineReader
         ensures { result ≡ [] }
     {
@@ -46,19 +46,19 @@ impl LineReader {
         }
     }
 
-    /// The lines that this piece of the stream ends, in order.
+    /// Reads the next `piece` of the stream, and returns the lines that it ends, in order.
     ///
     /// # Errors
-    /// `NoMemory` where room for the lines, or for the run that is begun, is refused: never where the piece is empty. The
-    /// reader is as before, and the piece can be fed again.
+    /// `NoMemory` if the lines, or the run that has begun, cannot be allocated; never if `piece` is empty. The reader
+    /// is then unchanged, and the caller can feed the piece again.
     pub fn feed(&mut self, alloc: Global, piece: &[u8]) -> Result<Vec<Line>, NoMemory>
-        // Of any stream whose begun run is held, the lines go on with these.
+        // For any stream whose unfinished run is held, its lines continue with these.
         ensures lines { (stream : List ℕ) → self.old ≡ held_of stream
             → IfOk result (λ lines. lines_of (stream ++ piece.now) ≡ lines_of stream ++ lines.items) }
         ensures held { (stream : List ℕ) → self.old ≡ held_of stream
             → IfOk result (λ _. self.new ≡ held_of (stream ++ piece.now)) }
         ensures few { length self.new ≤ 511 }
-        // Where no run is begun, CR and LF alone take no memory.
+        // If no run has begun, a piece of only CR and LF does not allocate.
         ensures memory { self.old ≡ [] → OnErr result (list_all is_end piece.now ≡ false) }
         ensures some { OnErr result (0 < length piece.now) }
         ensures err { OnErr result (self.new ≡ self.old) }
@@ -80,14 +80,14 @@ impl LineReader {
         Ok(lines)
     }
 
-    /// The line that the stream's end ends, if there is one. The reader is then at the begin of a stream.
+    /// Returns the line that the stream's end ends, if there is one. The reader is then at the beginning of a stream.
     ///
     /// # Errors
-    /// `NoMemory` where room for the line is refused. The reader is as before.
+    /// `NoMemory` if the line cannot be allocated. The reader is then unchanged.
     pub fn finish(&mut self, alloc: Global) -> Result<Option<Line>, NoMemory>
         ensures line { (stream : List ℕ) → self.old ≡ held_of stream
             → IfOk result (λ line. line ≡ last_line (begun stream)) }
-        // Where no run is begun, or what is begun reads as a fault, no memory is taken.
+        // If no run has begun, or the run reads as a fault, the call does not allocate.
         ensures memory { OnErr result (IsTrue (filled self.old) × TakesMemory (line_of self.old)) }
         ensures empty { IfOk result (λ _. self.new ≡ []) }
         ensures err { OnErr result (self.new ≡ self.old) }
@@ -105,7 +105,7 @@ impl TryCopy for LineReader {
     }
 }
 
-// The bytes of both, of which no more than show that a run is too long.
+// The bytes of both, but no more than it takes to show that a run is too long.
 fn joined(alloc: Global, front: &[u8], back: &[u8]) -> Result<Vec<u8>, NoMemory>
     ensures run { IfOk result (λ run. run.items ≡ take 511 (front.now ++ back.now)) }
     ensures few { IfOk result (λ run. length run.items ≤ 511) }
@@ -117,7 +117,7 @@ fn joined(alloc: Global, front: &[u8], back: &[u8]) -> Result<Vec<u8>, NoMemory>
     Ok(run)
 }
 
-// No more than so many of the first bytes.
+// The first `most` bytes, or all if there are fewer.
 fn first_bytes(bytes: &[u8], most: usize) -> &[u8]
     ensures bytes { result.now ≡ take most bytes.now }
     ensures few { length result.now ≤ most }
@@ -129,7 +129,7 @@ fn first_bytes(bytes: &[u8], most: usize) -> &[u8]
     }
 }
 
-// What the last run reads as, if it isn't empty.
+// Reads the last run, if it isn't empty.
 fn last_line(alloc: Global, run: &[u8]) -> Result<Option<Line>, NoMemory>
     ensures line { IfOk result (λ line. line ≡ last_line run.now) }
     ensures memory { OnErr result (IsTrue (filled run.now) × TakesMemory (line_of run.now)) }
@@ -140,7 +140,7 @@ fn last_line(alloc: Global, run: &[u8]) -> Result<Option<Line>, NoMemory>
     Ok(Some(read_run(alloc, run)?))
 }
 
-// Puts what the run reads as after the lines, if it isn't empty.
+// Appends what `run` reads as to `lines`, if the run isn't empty.
 fn push_line(alloc: Global, lines: &mut Vec<Line>, run: &[u8]) -> Result<(), NoMemory>
     ensures lines { IfOk result (λ _. lines.new.items ≡ lines.old.items ++ map line_of (with_run run.now [])) }
     ensures memory { IfErr result (λ _. 0 < length run.now) }
@@ -151,8 +151,8 @@ fn push_line(alloc: Global, lines: &mut Vec<Line>, run: &[u8]) -> Result<(), NoM
     Ok(())
 }
 
-// Puts the lines of the text after the others, and gives the run after its last end. The text is empty, or begins
-// with an end.
+// Appends the lines of `text` to `lines`, and returns the run after its last end. The text is empty, or begins with
+// an end.
 fn push_lines<'a>(
     alloc: Global,
     lines: &mut Vec<Line>,

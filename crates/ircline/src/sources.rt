@@ -1,7 +1,7 @@
-// Who a message comes from.
+// The source of a message.
 use crate::person::Person;
 
-/// Who a message comes from, by its prefix (RFC 2812 section 2.3.1).
+/// The source of a message, by its prefix (RFC 2812 section 2.3.1).
 #[derive(Clone, Copy, Debug)]
 pub enum Source<'a> {
     /// The message has no prefix.

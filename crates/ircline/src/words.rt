@@ -1,4 +1,4 @@
-// The parts of a text at a byte.
+// Splits a text at a byte.
 ghost use Rattle.std.specs.Prelude.{◌≡◌, ◌≤◌, ℕ, Bool, true, false, [], length, MatchOption};
 ghost use Rattle.std.specs.Option.{ForSome};
 ghost use Rattle.bstr.specs.Find.{IsFirstByte};
@@ -6,7 +6,8 @@ ghost use Rattle.ircline.specs.Words.{up_to, from_first, holds, before, behind};
 
 use bstr::ByteSlice;
 
-/// The text before and from this place, the first of a byte that a search was for, or all of it and nothing.
+/// Splits `text` at the index `first`, where a search found its byte. Returns all of the text and nothing if the search
+/// found none.
 pub fn parted(text: &[u8], first: Option<usize>) -> (&[u8], &[u8])
     requires { ForSome first (λ i. i ≤ length text.now) }
     ensures { (test : ℕ → Bool) → IsFirstByte test text.now first
@@ -18,7 +19,7 @@ pub fn parted(text: &[u8], first: Option<usize>) -> (&[u8], &[u8])
     }
 }
 
-/// What stands before and after the first such byte, or `None` where there is none.
+/// Returns what is before and after the first `byte` in `text`, or `None` if there is none.
 pub fn halves(text: &[u8], byte: u8) -> Option<(&[u8], &[u8])>
     ensures { MatchOption result
         ((holds byte text.now ≡ false) × (before byte text.now ≡ text.now) × (behind byte text.now ≡ []))

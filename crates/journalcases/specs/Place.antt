@@ -1,11 +1,11 @@
--- What a journal in its place is ready for.
+-- What a place of a journal is ready for.
 use Rattle.storage.specs.State.{IsSettled}
 use Rattle.disks.specs.Memory.{state_of}
 use Rattle.botjournal.specs.Journal.{IsSound}
 use Rattle.journalcases.specs.declared.place.Place.{Place}
 use Rattle.journalcases.specs.declared.place.Place.TheVariants.{OnDisks, InUse}
 
--- disks may be opened, and a journal may be called
+-- the disks may be opened, or the journal may be called
 abbrev pub IsReady : Place → Type 0
 IsReady (OnDisks disks) = IsSettled (state_of disks.first) × IsSettled (state_of disks.second)
 IsReady (InUse journal) = IsSound state_of journal

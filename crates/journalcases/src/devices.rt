@@ -1,4 +1,4 @@
-// Steps that take two disks.
+// Steps that use two disks.
 ghost use Rattle.std.specs.Prelude.{◌<◌, IfOk, OnOk};
 ghost use Rattle.storage.specs.State.{IsSettled};
 ghost use Rattle.disks.specs.Memory.{state_of};
@@ -13,7 +13,7 @@ use disks::{MemDisk, Tear};
 use std::alloc::Global;
 use storage::Disk;
 
-/// `disks FIRST SECOND`
+/// Plays `disks FIRST SECOND`, where `rest` has the words.
 pub fn new_disks(alloc: Global, rest: &[u8]) -> Result<Place, CaseError>
     ensures { IfOk result IsReady }
 {
@@ -23,7 +23,7 @@ pub fn new_disks(alloc: Global, rest: &[u8]) -> Result<Place, CaseError>
     Ok(Place::OnDisks(crashed(Disks { first, second })))
 }
 
-/// `fail DISK CALL TEAR`
+/// Plays `fail DISK CALL TEAR` on `disks`, where `rest` has the words.
 pub fn fail(disks: Disks<MemDisk>, rest: &[u8]) -> Result<Place, CaseError>
     requires first { IsSettled (state_of disks.first) }
     requires second { IsSettled (state_of disks.second) }
@@ -51,7 +51,7 @@ fn plan(disks: &mut Disks<MemDisk>, disk: &[u8], call: u64, tear: Tear) -> Resul
     Ok(())
 }
 
-/// `misread DISK CALL`
+/// Plays `misread DISK CALL` on `disks`, where `rest` has the words.
 pub fn misread(disks: Disks<MemDisk>, rest: &[u8]) -> Result<Place, CaseError>
     requires first { IsSettled (state_of disks.first) }
     requires second { IsSettled (state_of disks.second) }
@@ -68,7 +68,7 @@ pub fn misread(disks: Disks<MemDisk>, rest: &[u8]) -> Result<Place, CaseError>
     Ok(Place::OnDisks(disks))
 }
 
-/// `bytes`: what the disks hold. A crash ends the step, so that nothing of it is left.
+/// Plays `bytes`, which prints what `disks` hold. A crash ends the step, so that nothing of it is left.
 pub fn bytes(alloc: Global, disks: Disks<MemDisk>, out: &mut Vec<u8>) -> Result<Place, CaseError>
     ensures { IfOk result IsReady }
 {
@@ -88,7 +88,7 @@ fn put_bytes(alloc: Global, disk: &mut MemDisk, out: &mut Vec<u8>) -> Result<(),
     }
 }
 
-/// Bytes in hexadecimal, and `-` for none.
+/// Appends `bytes` in hexadecimal, or `-` for none.
 pub fn put_hex(alloc: Global, bytes: &[u8], out: &mut Vec<u8>) -> Result<(), NoMemory> {
     if bytes.is_empty() {
         out.push(b'-')?;

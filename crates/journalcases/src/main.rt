@@ -1,34 +1,34 @@
 //! Plays cases of a bot's journal on two disks in memory, and prints what each step answers.
 //!
-//! Each line of standard input is a step, and its answer is a line of standard output; the steps that only prepare
-//! something have none. Bytes are in hexadecimal, and `-` is no byte.
+//! Each line of standard input is a step, and its answer is a line of standard output; steps that only prepare
+//! something have no answer. Bytes are in hexadecimal, and `-` is no byte.
 //!
 //! | step | what it does, and its answer |
 //! |---|---|
 //! | `disks FIRST SECOND` | takes two disks that hold these bytes |
-//! | `fail DISK CALL TEAR` | the stated write or sync of the `first` or `second` disk and all later ones fail, up to a crash |
+//! | `fail DISK CALL TEAR` | this write or sync of the `first` or `second` disk and all later ones fail until a crash |
 //! | `misread DISK CALL` | the stated read of the disk fails |
 //! | `create BASE` | makes a journal on the disks: `ok` or the code |
 //! | `open` | opens the journal on the disks: the base and each entry, or the code |
 //! | `restart` | opens the journal on what a crash leaves of its disks: as `open` |
-//! | `append ENTRY`, `rebase BASE` | `ok` or the code; `older layout` where nothing may be appended |
-//! | `spent` | whether the generations are: `spent` or `left` |
+//! | `append ENTRY`, `rebase BASE` | `ok` or the code; `older layout` if nothing may be appended |
+//! | `spent` | whether all generations are used: `spent` or `left` |
 //! | `layout` | the number of the journal's layout |
 //! | `bytes` | what the first and the second disk hold |
 //!
-//! A step that takes disks crashes them where a journal has them. Calls are counted from 1, from the step on. TEAR says
+//! A step that takes disks crashes them if a journal uses them. Calls are counted from 1, from the step on. TEAR says
 //! what the crash leaves in the ranges that weren't kept: `old` or `new` bytes, or this number in each byte. `a gate is
 //! missing` follows an answer of `open` or `restart` after which nothing can be written. A line that begins with `#` is
-//! printed as it is; an empty one says nothing.
+//! printed as it is, and an empty line is skipped.
 //!
-//! A line that is no step ends the program: it tells the line on standard error and ends with status 1, as for input
-//! above 1,048,576 bytes; with 3 where reading or writing fails; with 4 where memory runs out. Nothing stands on standard
-//! output then.
+//! A line that is no step ends the program, which reports the line on standard error and ends with status 1. The status
+//! is also 1 for input above 1,048,576 bytes; it is 3 if reading or writing fails, and 4 if memory runs out. Standard
+//! output is empty then.
 //!
-//! A base or an entry is told as it is written now, whatever layout it was read from.
+//! A base or an entry is printed in the current layout, whatever layout it was read from.
 //!
-//! The crate's files `stdin` and `stdout` hold the cases. The answers were worked out from the format that `botjournal`
-//! states, by the independent model `trials/journals/model.py`.
+//! The crate's files `stdin` and `stdout` hold the cases. The independent model `trials/journals/model.py` worked out
+//! the answers from the format that `botjournal` states.
 #![tactic(auto)]
 
 mod devices;

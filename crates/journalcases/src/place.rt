@@ -21,7 +21,7 @@ pub enum Place {
     InUse(Journal<MemDisk>),
 }
 
-/// The disks, as they are or, where a journal has them, as a crash leaves them.
+/// Takes the disks from `place`. If a journal uses them, they are as a crash leaves them.
 pub fn disks_of(place: Place) -> Disks<MemDisk>
     requires { IsReady place }
     ensures first { IsSettled (state_of result.first) }
@@ -33,7 +33,7 @@ pub fn disks_of(place: Place) -> Disks<MemDisk>
     }
 }
 
-/// What a crash leaves of the disks.
+/// Returns what a crash leaves of `disks`.
 pub fn crashed(disks: Disks<MemDisk>) -> Disks<MemDisk>
     ensures first { IsSettled (state_of result.first) }
     ensures second { IsSettled (state_of result.second) }
@@ -44,7 +44,7 @@ pub fn crashed(disks: Disks<MemDisk>) -> Disks<MemDisk>
     disks
 }
 
-/// The journal that is open.
+/// Takes the open journal from `place`. Returns `NoJournal` if none is open.
 pub fn journal_of(place: Place) -> Result<Journal<MemDisk>, CaseError>
     requires { IsReady place }
     ensures { IfOk result (λ journal. IsSound state_of journal) }

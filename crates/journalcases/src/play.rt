@@ -12,7 +12,7 @@ use bytetext::Failure;
 use disks::MemDisk;
 use std::alloc::Global;
 
-/// What the steps of a text answer.
+/// Plays the steps of the text `input`, and returns what they answer.
 pub fn play_all(alloc: Global, input: &[u8]) -> Result<Vec<u8>, Stop> {
     let mut out = Vec::new(alloc);
     let mut place = no_journal(alloc);
@@ -25,7 +25,7 @@ pub fn play_all(alloc: Global, input: &[u8]) -> Result<Vec<u8>, Stop> {
     Ok(out)
 }
 
-// Two empty disks.
+// Starts with two empty disks.
 fn no_journal(alloc: Global) -> Place
     ensures { IsReady result }
 {

@@ -19,7 +19,7 @@ use bytetext::NoMemory;
 use disks::MemDisk;
 use std::alloc::Global;
 
-/// `create BASE`
+/// Plays `create BASE` on `disks`, where BASE is `base`.
 pub fn create(
     alloc: Global,
     disks: Disks<MemDisk>,
@@ -40,7 +40,7 @@ pub fn create(
     }
 }
 
-/// `open`
+/// Plays `open` on `disks`.
 pub fn open(alloc: Global, disks: Disks<MemDisk>, out: &mut Vec<u8>) -> Result<Place, CaseError>
     requires first { IsSettled (state_of disks.first) }
     requires second { IsSettled (state_of disks.second) }
@@ -52,7 +52,7 @@ pub fn open(alloc: Global, disks: Disks<MemDisk>, out: &mut Vec<u8>) -> Result<P
     }
 }
 
-/// `restart`
+/// Plays `restart` of `journal`.
 pub fn restart(
     alloc: Global,
     journal: Journal<MemDisk>,
@@ -66,7 +66,7 @@ pub fn restart(
     }
 }
 
-/// `append ENTRY`
+/// Plays `append ENTRY` on `journal`, where ENTRY is `entry`.
 pub fn append(
     alloc: Global,
     journal: Journal<MemDisk>,
@@ -87,7 +87,7 @@ pub fn append(
     Ok(Place::InUse(journal))
 }
 
-/// `rebase BASE`
+/// Plays `rebase BASE` on `journal`, where BASE is `base`.
 pub fn rebase(
     alloc: Global,
     journal: Journal<MemDisk>,
@@ -104,7 +104,7 @@ pub fn rebase(
     Ok(Place::InUse(journal))
 }
 
-/// `spent`
+/// Plays `spent`, which asks `journal`.
 pub fn spent(journal: Journal<MemDisk>, out: &mut Vec<u8>) -> Result<Place, CaseError>
     requires { IsSound state_of journal }
     ensures { IfOk result IsReady }
@@ -118,7 +118,7 @@ pub fn spent(journal: Journal<MemDisk>, out: &mut Vec<u8>) -> Result<Place, Case
     Ok(Place::InUse(journal))
 }
 
-/// `layout`
+/// Plays `layout`, which asks `journal`.
 pub fn layout(
     alloc: Global,
     journal: Journal<MemDisk>,
@@ -132,7 +132,7 @@ pub fn layout(
     Ok(Place::InUse(journal))
 }
 
-// How a call ended.
+// Prints how a call ended.
 fn tell(answer: Result<(), JournalError>, out: &mut Vec<u8>) -> Result<(), CaseError> {
     match answer {
         Ok(()) => out.extend_from_slice(b"ok\n")?,
@@ -145,7 +145,7 @@ fn tell(answer: Result<(), JournalError>, out: &mut Vec<u8>) -> Result<(), CaseE
     Ok(())
 }
 
-// Tells why there is no journal, and crashes the disks: after a fault something may be pending.
+// Prints why no journal opened, and crashes the disks, since after a fault something may be pending.
 fn handed_back(returned: Returned<MemDisk>, out: &mut Vec<u8>) -> Result<Place, CaseError>
     ensures { IfOk result IsReady }
 {
@@ -153,7 +153,7 @@ fn handed_back(returned: Returned<MemDisk>, out: &mut Vec<u8>) -> Result<Place, 
     Ok(Place::OnDisks(crashed(returned.disks)))
 }
 
-// Tells what an opened journal holds.
+// Prints what an opened journal holds.
 fn found(alloc: Global, opened: Opened<MemDisk>, out: &mut Vec<u8>) -> Result<Place, CaseError>
     requires good { IsGoodOpened opened }
     requires sound { opened.whole ≡ true → IsSound state_of opened.journal }

@@ -4,16 +4,16 @@ use std::io;
 use std::io::ErrorKind;
 use thiserror::Error;
 
-/// Why a line is no step.
+/// The reason why a line is no step.
 #[derive(Clone, Copy, Debug, Error)]
 pub enum CaseFault {
     /// Its first word names no step.
     #[error("no such step")]
     NoSuchStep,
-    /// What follows isn't what the step takes.
+    /// The words after it don't fit the step.
     #[error("other words than this step takes")]
     BadWords,
-    /// The step wants a journal, and none is open.
+    /// The step needs a journal, and none is open.
     #[error("no journal is open")]
     NoJournal,
 }
@@ -21,7 +21,7 @@ pub enum CaseFault {
 /// Why a step was not made.
 pub type CaseError = Failure<CaseFault>;
 
-/// The words after the first aren't those that the step takes.
+/// The words after the first don't fit the step.
 pub const BAD_WORDS: CaseError = Failure::Refused(CaseFault::BadWords);
 
 /// Why the program ends early.
@@ -41,13 +41,13 @@ pub enum Stop {
     /// The input can't be read, or the answers can't be written.
     #[error("reading or writing failed")]
     Stream,
-    /// A growth was refused.
+    /// An allocation failed.
     #[error("out of memory: free some and try again")]
     NoMemory,
 }
 
 impl Stop {
-    /// The status that the program ends with.
+    /// Returns the status that the program ends with.
     pub fn status(self) -> u8 {
         match self {
             Stop::TooLong | Stop::NoStep { .. } => 1,
@@ -56,7 +56,7 @@ impl Stop {
         }
     }
 
-    /// Why this line ended the program.
+    /// Returns the stop for an `error` at `line`.
     pub fn at(line: usize, error: CaseError) -> Stop {
         match error {
             CaseError::Refused(fault) => Stop::NoStep { line, fault },

@@ -11,7 +11,7 @@ use hex::FromHexError;
 use std::alloc::Global;
 use std::str::FromStr;
 
-/// What stands before the first space, and what stands after it.
+/// Splits `text` at its first space, which belongs to neither part.
 pub fn cut(text: &[u8]) -> (&[u8], &[u8]) {
     match text.iter().position(|byte| *byte == b' ') {
         Some(end) => (&text[..end], &text[end + 1..]),
@@ -19,7 +19,7 @@ pub fn cut(text: &[u8]) -> (&[u8], &[u8]) {
     }
 }
 
-/// The bytes that a word stands for.
+/// Returns the bytes that `word` spells.
 pub fn bytes_of(alloc: Global, word: &[u8]) -> Result<Vec<u8>, CaseError> {
     if let b"-" = word {
         return Ok(Vec::new(alloc));
@@ -31,7 +31,7 @@ pub fn bytes_of(alloc: Global, word: &[u8]) -> Result<Vec<u8>, CaseError> {
     }
 }
 
-/// The base that a word spells.
+/// Reads the base that `word` spells.
 pub fn base_of(alloc: Global, word: &[u8]) -> Result<Base, CaseError>
     ensures { IfOk result IsGoodBase }
 {
@@ -42,7 +42,7 @@ pub fn base_of(alloc: Global, word: &[u8]) -> Result<Base, CaseError>
     }
 }
 
-/// The entry that a word spells.
+/// Reads the entry that `word` spells.
 pub fn entry_of(alloc: Global, word: &[u8]) -> Result<Entry, CaseError>
     ensures { IfOk result IsGoodEntry }
 {
@@ -53,7 +53,7 @@ pub fn entry_of(alloc: Global, word: &[u8]) -> Result<Entry, CaseError>
     }
 }
 
-/// Which call fails, from 1.
+/// Reads which call fails, from 1, from `word`.
 pub fn call_of(word: &[u8]) -> Result<u64, CaseError>
     ensures { IfOk result (λ call. 0 < call) }
 {
@@ -64,7 +64,7 @@ pub fn call_of(word: &[u8]) -> Result<u64, CaseError>
     Ok(call)
 }
 
-/// What a crash leaves.
+/// Reads what a crash leaves from `word`.
 pub fn tear_of(word: &[u8]) -> Result<Tear, CaseError> {
     match word {
         b"old" => Ok(Tear::Old),
@@ -73,7 +73,7 @@ pub fn tear_of(word: &[u8]) -> Result<Tear, CaseError> {
     }
 }
 
-// The number that a word spells.
+// Reads the number that `word` spells.
 fn number<T: FromStr>(word: &[u8]) -> Result<T, CaseError>
 where
     T::Err: Drop,

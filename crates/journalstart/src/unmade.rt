@@ -1,4 +1,4 @@
-// Disks on which no journal was ever made.
+// Disks on which no journal was ever created.
 ghost use Rattle.std.specs.Prelude.{◌≡◌, List, ℕ, false, IfOk};
 ghost use Rattle.storage.specs.State.{IsSettled};
 ghost use Rattle.storage.specs.Calls.{SameBytes, HasCause};
@@ -10,15 +10,15 @@ use storage::{Disk, DiskFault};
 /// The letters that stand after a disk's first gate.
 const LETTERS: [u8; 4] = [b'E', b'G', b'G', b'J'];
 
-/// As many first bytes of the first disk tell.
+/// How many first bytes of the first disk decide.
 const FRONT: usize = 5;
 
-/// Whether no journal was ever made on these disks: they are empty, or hold what a `create` on empty disks left that was
-/// stopped. That is a byte at most on the second; and on the first a byte at most, or a closed gate that is 0 or stands
-/// before a journal's letters, whatever the layout. Takes no memory.
+/// Whether no journal was ever created on the disks `first` and `second`: they are empty, or hold what is left of a
+/// `create` on empty disks that was stopped. That is at most one byte on `second`; and on `first` at most one byte, or
+/// a closed gate that is 0 or stands before a journal's letters, whatever the layout. Allocates nothing.
 ///
 /// # Errors
-/// Where the first disk fails.
+/// If the first disk fails.
 pub fn was_never_made<D: Disk>(first: &mut D, second: &mut D) -> Result<bool, DiskFault>
     requires { IsSettled (D.state first.old) }
     ensures unmade { IfOk result (λ unmade. unmade ≡ is_unmade (D.state first.old).seen (D.state second.old).seen) }
@@ -57,8 +57,8 @@ fn is_unmade_front(front: &[u8]) -> bool
     }
 }
 
-/// The law of such disks. It does nothing: what it ensures holds of any bytes.
+/// The law of such disks. The function does nothing: its clause holds for any bytes.
 pub fn law_of_unmade_disks()
-    // What a crash leaves of a journal that was made is never taken for disks without one.
+    // What a crash leaves of a journal that was created is never taken for disks without one.
     ensures made { (first second : List ℕ) → IsJournal first second → is_unmade first second ≡ false }
 {}

@@ -16,10 +16,10 @@ use std::fs::File;
 use std::rt::Files;
 use userfile::{Change, Userfile};
 
-/// After how many changes the journal is written anew.
+/// The number of changes after which the hub rewrites its journal.
 const A_BASE: u32 = 50;
 
-/// Has the hub in the files accept so many changes, and prints the number of each.
+/// Has the hub in the files accept `asked.count` changes, and prints the number of each.
 pub fn keep<R: AllocGlobal + Files<File = File> + Print>(
     rt: &R,
     asked: &Asked,
@@ -40,7 +40,8 @@ pub fn keep<R: AllocGlobal + Files<File = File> + Print>(
     Ok(())
 }
 
-// The hub whose journal these disks hold, which is made where none ever was: then nothing was told of one.
+// Opens the hub whose journal these disks hold, or makes it if no hub was ever made there. No change of such a hub was
+// ever printed.
 fn hub_on(alloc: Global, disks: Pair) -> Result<Bot<FileDisk>, Stop>
     requires first_settled { IsSettled (state_of disks.first.mirror) }
     requires second_settled { IsSettled (state_of disks.second.mirror) }
@@ -52,7 +53,7 @@ fn hub_on(alloc: Global, disks: Pair) -> Result<Bot<FileDisk>, Stop>
     old_hub(alloc, disks)
 }
 
-// A new hub, whose journal these disks hold from now on.
+// Makes a new hub, whose journal these disks hold from now on.
 fn new_hub(alloc: Global, disks: Pair) -> Result<Bot<FileDisk>, Stop>
     requires first_settled { IsSettled (state_of disks.first.mirror) }
     requires second_settled { IsSettled (state_of disks.second.mirror) }
@@ -63,7 +64,7 @@ fn new_hub(alloc: Global, disks: Pair) -> Result<Bot<FileDisk>, Stop>
     }
 }
 
-// The hub whose journal these disks hold.
+// Opens the hub whose journal these disks hold.
 fn old_hub(alloc: Global, disks: Pair) -> Result<Bot<FileDisk>, Stop>
     requires first_settled { IsSettled (state_of disks.first.mirror) }
     requires second_settled { IsSettled (state_of disks.second.mirror) }
@@ -74,7 +75,7 @@ fn old_hub(alloc: Global, disks: Pair) -> Result<Bot<FileDisk>, Stop>
     }
 }
 
-// A hub without leaves.
+// Returns the configuration of a hub without leaves.
 fn lone_hub(alloc: Global) -> Result<Config, NoMemory> {
     Ok(Config {
         number: 0,
@@ -101,7 +102,7 @@ fn accept_one(alloc: Global, hub: &mut Bot<FileDisk>, store: &Nobodies) -> Resul
     Ok(())
 }
 
-// The change that adds the user, or takes it away where there is one.
+// Returns the change that adds the user, or that removes it if it exists.
 fn next_change(alloc: Global, userfile: &Userfile) -> Result<Change, NoMemory> {
     let handle = Text::from_slice(alloc, b"egg")?;
     if userfile.user_count() == 0 {
@@ -111,7 +112,7 @@ fn next_change(alloc: Global, userfile: &Userfile) -> Result<Change, NoMemory> {
     }
 }
 
-// Does one step of the hub.
+// Makes one step of the hub.
 fn tell(alloc: Global, hub: &mut Bot<FileDisk>, store: &Nobodies, event: Event) -> Result<(), Stop>
     requires { IsGoodEvent event }
 {

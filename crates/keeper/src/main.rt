@@ -1,20 +1,24 @@
-//! Keeps the hub of a net without leaves in two files: asks it for changes, and prints the number of each one that it
-//! accepted, once it has.
+//! Keeps the hub of a net without leaves in two files. It asks the hub for changes, and prints the number of each one
+//! once the hub has accepted it.
 //!
 //! ```text
 //! keeper [--old] FILE FILE [COUNT]
 //! ```
 //!
-//! The files are the disks of the hub's journal. They are made where both are missing, and so is the hub where a start
-//! that was to make it was stopped; with `--old` the hub has to be there, and nothing is made. `held N` tells that the
-//! hub is at version N: it had accepted so many changes before. Then the user `egg` is added and taken away by turns,
-//! COUNT times, or for ever without it, and the number of each change is a line. After each 50 changes the journal is
-//! written anew. `trials/kill` ends this program at random moments and looks whether a change that was told is
-//! missing.
+//! The files are the disks of the hub's journal. If both are missing, the program makes them. It also makes the hub if
+//! a start that was to make it was stopped. With `--old` the hub must exist already, and the program makes nothing.
+//! `held N` says that the hub is at version N: it had accepted N changes before. Then the program adds and removes the
+//! user `egg` by turns, COUNT times, or for ever without COUNT, and prints the number of each change on a line. After
+//! each 50 changes it rewrites the journal. `trials/kill` ends this program at random moments and looks whether a
+//! change that it printed is missing.
 //!
-//! The program ends with status 0; 1 where the files hold no such hub's journal or a disk fails; 2 for other words; 3
-//! where a file is missing, in use, or can't be opened, read or brought to its device, and where the command line can't
-//! be read or standard output can't be written; 4 where memory runs out. Standard error tells which.
+//! The program ends with one of these statuses, and standard error says why if it isn't 0:
+//! - 0: all is done.
+//! - 1: the files hold no such hub's journal, or a disk fails.
+//! - 2: the words are others.
+//! - 3: a file is missing, is in use, or can't be opened, read or brought to its device; or the command line can't be
+//!   read, or standard output can't be written.
+//! - 4: memory runs out.
 #![tactic(auto)]
 
 mod keeping;

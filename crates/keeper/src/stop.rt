@@ -11,13 +11,13 @@ use thiserror::Error;
 /// Why the program ends early.
 #[derive(Clone, Copy, Debug, Error)]
 pub enum Stop {
-    /// The hub was not made, or not found in the files.
+    /// The hub could not be made, or was not found in the files.
     #[error("{0}")]
     Bot(BotFault),
     /// The hub refused a step.
     #[error("{0}")]
     Step(Refusal),
-    /// The hub has other users than this program gives it.
+    /// The hub has users that this program did not give it.
     #[error("the hub in these files has other users: give other files")]
     OtherUsers,
     /// The command line is not understood.
@@ -26,19 +26,19 @@ pub enum Stop {
     /// A file can't be used as a disk.
     #[error("{0}")]
     File(FileFault),
-    /// A disk failed before the hub was there.
+    /// A disk failed before the hub existed.
     #[error("{0}")]
     Disk(DiskFault),
     /// The command line can't be read, or standard output can't be written.
     #[error("the command line can't be read, or standard output can't be written")]
     Stream,
-    /// A growth was refused.
+    /// An allocation failed.
     #[error("out of memory: free some and try again")]
     NoMemory,
 }
 
 impl Stop {
-    /// The status that the program ends with.
+    /// Returns the status that the program ends with.
     pub fn status(self) -> u8 {
         match self {
             Stop::Bot(_) | Stop::Step(_) | Stop::OtherUsers | Stop::Disk(_) => 1,

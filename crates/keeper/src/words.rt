@@ -6,7 +6,7 @@ use std::rt::Env;
 /// What the command line asks for.
 #[derive(Drop)]
 pub struct Asked {
-    /// Whether the hub has to be there already.
+    /// Whether the hub must exist already.
     pub is_old: bool,
     pub first: String,
     pub second: String,
@@ -14,7 +14,7 @@ pub struct Asked {
     pub count: u64,
 }
 
-/// What the command line asks for.
+/// Reads what the command line asks for.
 pub fn asked_of<R: AllocGlobal + Env>(rt: &R) -> Result<Asked, Stop> {
     let mut words = env::args(rt)?;
     let _program = words.next();

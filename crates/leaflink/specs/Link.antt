@@ -1,4 +1,4 @@
--- A leaf's end of the link as contracts see it, and how its calls stand to the protocol's.
+-- A leaf's end of the link as contracts see it, and how its calls match the protocol's.
 use Rattle.std.specs.Prelude.{◌≤◌, ℕ, List, [], ◌∷◌, take, Result}
 use Rattle.std.specs.List.{AllByRecursion}
 use Rattle.userfile.specs.declared.change.Change.{Change}
@@ -32,11 +32,11 @@ use Rattle.linkstate.specs.Ends.{End, end_of, Calls as EndCalls, CallsRestart as
 abbrev pub LeafEnd : Type 0
 LeafEnd = End Leaf
 
--- bytes of two disks that are a leaf's of this number: they mean what it keeps, or that with the record in doubt
+-- bytes of two disks that belong to the leaf of this number: they mean what it keeps, or that with the record in doubt
 abbrev pub IsOwn : ℕ → Leaf → List ℕ → List ℕ → Type 0
 IsOwn number leaf = AreOf (leaf_meaning number) leaf_folded leaf.kept leaf.doubt
 
--- what becomes of a leaf that is put anew: its state alone goes into the journal, which has a next generation
+-- what a leaf becomes when its journal is rewritten: the journal gets its state alone, and has a next generation
 abbrev pub RenewsLeaf : LeafState → LeafState → Type 0
 RenewsLeaf = Renews LeafMayWrite leaf_folded Compact
 
@@ -55,12 +55,12 @@ KeptLeaf = Kept LeafState LeafRecord
 abbrev pub leaf_end : ℕ → KeptLeaf → LeafLoose → LeafEnd
 leaf_end leaves leaf loose = end_of leaf.who leaves leaf loose
 
--- the oldest asks alone, at most so many
+-- only the oldest asks, at most this number
 abbrev pub keeps_asks : LeafEnd → ℕ → LeafEnd
 keeps_asks leaf count =
     record leaf { bot = record leaf.bot { loose = record leaf.bot.loose { waiting = take count leaf.bot.loose.waiting } } }
 
--- ---- how a call stands to its row
+-- ---- how a call matches its row
 
 module _ (leaf : LeafEnd) where
   abbrev pub asked : Change → How → Row Leaf
@@ -69,11 +69,11 @@ module _ (leaf : LeafEnd) where
   abbrev pub pumped : How → Row Leaf
   pumped how = leaf_pumped leaf.leaves leaf.number how leaf.bot
 
-  -- of a leaf that is up
+  -- the row of a leaf that is up
   abbrev pub pumped_up : How → Row Leaf
   pumped_up how = leaf_pumped_up leaf.leaves leaf.number how leaf.bot leaf.bot.kept.out leaf.bot.loose.waiting
 
-  -- of what is out
+  -- the row of the outstanding requests
   abbrev pub sent_again_at : How → Row Leaf
   sent_again_at how = sent_again leaf.leaves leaf.number how leaf.bot leaf.bot.kept.out
 
@@ -83,26 +83,26 @@ module _ (leaf : LeafEnd) where
   abbrev pub received_up : Packet → How → Row Leaf
   received_up packet how = leaf_received_up leaf.leaves leaf.number how leaf.bot (from_wire packet)
 
-  -- of a change
+  -- the row of a change
   abbrev pub change_placed_at : ℕ → Change → How → Row Leaf
   change_placed_at number change how =
       change_placed leaf.leaves leaf.number how leaf.bot change (place_of number leaf.bot.kept.version)
 
-  -- of a reply
+  -- the row of a reply
   abbrev pub reply_placed_at : ℕ → ℕ → Outcome → How → Row Leaf
   reply_placed_at of request reply how = reply_received leaf.leaves leaf.number how leaf.bot of request reply
 
-  -- of a part
+  -- the row of a part
   abbrev pub part_placed_at : ℕ → ℕ → ℕ → List Record → How → Row Leaf
   part_placed_at version part count items how =
       leaf_received_up leaf.leaves leaf.number how leaf.bot (Part version part count items)
 
-  -- of a part that is new
+  -- the row of a part that is new
   abbrev pub part_taken_at : ℕ → ℕ → ℕ → List Record → How → Row Leaf
   part_taken_at version part count items how =
       part_taken leaf.leaves leaf.number how leaf.bot part (with_part (set_for leaf.bot.loose.parts version count) part items)
 
-  -- of a text
+  -- the row of a text
   abbrev pub text_placed_at : ℕ → ℕ → List ℕ → How → Row Leaf
   text_placed_at from to text how = leaf_received_up leaf.leaves leaf.number how leaf.bot (BotText from to text)
 
@@ -112,11 +112,11 @@ module _ (leaf : LeafEnd) where
   abbrev pub restarted : How → Row Leaf
   restarted how = leaf_restarted leaf.leaves leaf.number how leaf.bot
 
-  -- a text goes to the hub
+  -- the leaf sends a text to the hub
   abbrev pub told : ℕ → List ℕ → Row Leaf
   told to text = unless_down leaf.bot (text_told leaf.bot leaf.leaves leaf.number 0 to text)
 
--- the leaf's number is one of the net's, of at most 1,000 leaves, and each ask that waits has a spelling
+-- the leaf's number is one of the net's, which has at most 1,000 leaves, and each waiting ask has a spelling
 pub record IsLink (leaves number : ℕ) (waiting : List Change) : Type 0 where
   pub numbered : number ≤ leaves
   pub few : leaves ≤ MAX_LEAVES

@@ -1,13 +1,13 @@
 //! A leaf's end of the sharing link, over a journal.
 //!
-//! A [`LeafLink`] follows the hub: it applies the change numbered one above its version and no other, or puts a whole
-//! set of records in place where it was too far behind. It asks the hub for changes too, up to eight at a time, and asks
-//! again until it is answered. What it promised outlives a restart: each change that it applies, and each request that it
-//! sends, is in its journal first.
+//! A [`LeafLink`] follows the hub: it applies the change numbered one above its version and no other, or installs a
+//! whole set of records if it is too far behind. It also asks the hub for changes, up to eight at a time, and repeats
+//! each request until the hub replies. What it promised survives a restart: each change that it applies, and each
+//! request that it sends, is in its journal first.
 //!
-//! The journal stands on two disks that may fail. After such a fault the link is down: it shows what it showed, and
-//! takes nothing but a restart, which finds the record that was being written, or doesn't. Every other call either does
-//! all that it says or leaves the link as it was, also where memory runs out.
+//! The journal stands on two disks that may fail. After such a fault the link is down: it shows what it showed before,
+//! and takes nothing but a restart, which finds the record that was being written, or doesn't. Every other call either
+//! does all that it says or leaves the link as it was, even if memory runs out.
 //!
 //! ```text
 //! let mut leaf = LeafLink::create(alloc, first, second, 1, 3)?;   // leaf 1 of 3, on two disks

@@ -11,8 +11,8 @@ use std::marker::Model;
 use storage::Disk;
 use userfile::{Change, Userfile, shape};
 
-/// A leaf's end: its userfile at a version, the asks that wait, with room for all of them, the requests that are out, and
-/// the journal.
+/// A leaf's end: its userfile at a version, the waiting asks, with room for the most that may wait, the outstanding
+/// requests, and the journal.
 pub struct LeafLink<D: Disk> {
     pub(crate) leaves: u16,
     pub(crate) kept: Kept<LeafState, D>,
@@ -45,7 +45,7 @@ impl<D: Disk> Model for LeafLink<D> {
     ghost use Rattle.std.specs.VecDeque.{deque_capacity};
     ghost use Rattle.linkcalls.specs.declared.TheConstants.{MAX_ASKS};
 
-    // It is a leaf of the net, and there is room for all asks that may wait.
+    // It is a leaf of the net, and has room for the most asks that may wait.
     ghost invariant = { λ l. IsLink l.leaves l.kept.who l.waiting.items × (MAX_ASKS ≤ deque_capacity l.waiting) };
 }
 
@@ -66,11 +66,12 @@ impl<D: Disk> LeafLink<D> {
     ghost use Rattle.leaflink.specs.Link.{Calls, CallsRestart, RenewsLeaf, asked, keeps_asks, pumped, pumped_up, sent_again_at, compacted, restarted, told};
     ghost use Rattle.linkcalls.specs.Texts.{Sends};
 
-    /// The leaf of this number, from 1 to the number of leaves, before the first change. What the disks held is lost.
+    /// Creates the leaf `number`, from 1 to `leaves`, on the disks `first` and `second`, before the first change. What
+    /// the disks held is lost.
     ///
     /// # Errors
-    /// With the disks: `NoMemory` where room is refused: nothing was written. `DiskFault` where a disk failed: what the
-    /// disks hold is then unknown.
+    /// Each hands the disks back. `NoMemory` if it cannot allocate room: nothing was written. `DiskFault` if a disk
+    /// failed: what the disks hold is then unknown.
     pub fn create(
         alloc: Global,
         first: D,
@@ -101,15 +102,15 @@ impl<D: Disk> LeafLink<D> {
         }
     }
 
-    /// The leaf of this number, as its journal on the two disks has it. A journal of the present layout stays as it is. One
-    /// of an older layout is put anew before this answers: its state alone, in the next generation, with the request that is
-    /// out.
+    /// Opens the leaf `number`, in a net of `leaves` leaves, from its journal on the disks `first` and `second`. A
+    /// journal of the present layout stays as it is. One of an older layout is rewritten before the call returns: its
+    /// state alone, in the next generation, with the outstanding request if it has one.
     ///
     /// # Errors
-    /// With the disks, which mean what they meant, or that put anew: `DiskFault` where a read failed; `NotAJournal` where
-    /// the disks hold no journal, or one that no leaf of this number writes; `NoMemory` where room for what they hold, or
-    /// for the asks, is refused. Then, of an older layout alone, `GenerationsSpent` where there is no next generation,
-    /// `NoMemory`, or `DiskFault` where a disk failed while it was written.
+    /// Each hands the disks back; they mean what they meant before, or that rewritten. `DiskFault` if a read failed.
+    /// `NotAJournal` if the disks hold no journal, or one that no leaf of this number writes. `NoMemory` if it cannot
+    /// allocate room for what they hold, or for the asks. Then, only for an older layout: `GenerationsSpent` if there
+    /// is no next generation, `NoMemory`, or `DiskFault` if a disk failed while the journal was rewritten.
     pub fn open(
         alloc: Global,
         first: D,
@@ -124,7 +125,7 @@ impl<D: Disk> LeafLink<D> {
         ensures row { Opens D.state first second number leaves no_loose (leaf_meaning number) RenewsLeaf result }
         // Nothing happened to disks that have the present layout.
         ensures still { AreCurrent D.state first second → IfOk result (λ link. AreStill (D.state first) (D.state second) link.device) }
-        // At each moment of the call a crash leaves what the disks meant, or that put anew.
+        // At each moment of the call a crash leaves what the disks meant, or that rewritten.
         ensures any_moment { OpensAtEachMoment D.state first second (leaf_meaning number) RenewsLeaf result }
     {
         let Ok(waiting) = VecDeque::with_capacity(alloc, MAX_ASKS) else {
@@ -144,53 +145,54 @@ impl<D: Disk> LeafLink<D> {
         }
     }
 
-    /// The version: the number of the last change that was applied, or that of the records that were put in place.
+    /// Returns the version: the number of the last change that was applied, or the version of the records that were
+    /// installed.
     pub fn version(&self) -> u32
         ensures { result ≡ self.now.bot.kept.version }
     {
         self.kept.state().version()
     }
 
-    /// The userfile at that version.
+    /// Returns the userfile at that version.
     pub fn userfile(&self) -> &Userfile
         ensures { result.now ≡ self.now.bot.kept.records }
     {
         self.kept.state().userfile()
     }
 
-    /// Whether a disk failed, or a restart did not end, since the journal was last opened: nothing is taken but a
-    /// restart.
+    /// Whether, since the journal was last opened, a disk failed or a restart did not finish: the leaf then takes
+    /// nothing but a restart.
     pub fn is_down(&self) -> bool
         ensures { result ≡ self.now.bot.down }
     {
         self.kept.is_down()
     }
 
-    /// How many asks wait.
+    /// Returns how many asks wait.
     pub fn ask_count(&self) -> usize
         ensures { result ≡ length self.now.bot.loose.waiting }
     {
         self.waiting.len()
     }
 
-    /// Takes back all asks but the oldest ones, of which this many stay. Takes no memory.
+    /// Keeps the oldest `count` asks and withdraws the others. Allocates nothing.
     ///
-    /// A caller that asks for several things, all or none, counts the asks before it begins, and comes back to that
-    /// count where it has to give up.
+    /// A caller that asks for several things, all or none, counts the asks before it begins, and returns to that count
+    /// if it has to give up.
     pub fn keep_asks(&mut self, count: usize)
         ensures { self.new ≡ keeps_asks self.old count }
     {
         self.waiting.truncate(count);
     }
 
-    /// Lets a change wait for a pump: `Queued`. Takes no memory.
+    /// Queues `change` for a pump: `Queued`. Allocates nothing.
     ///
     /// # Errors
-    /// `Down`, then `BadChange` for a bad shape, then `AsksFull` where 64 asks wait; each leaves the leaf as it was.
+    /// `Down`, then `BadChange` for a bad shape, then `AsksFull` if 64 asks wait; each leaves the leaf as it was.
     pub fn ask(&mut self, alloc: Global, change: Change) -> Result<Answer, LinkError>
         ensures row { Calls self.old (asked self.old change) result self.new }
         ensures few { IfOk result (λ answer. answer.packets ≡ []) }
-        // No disk is used, and a refusal leaves all as it was.
+        // The call uses no disk, and an error leaves all as it was.
         ensures quiet { self.new.device ≡ self.old.device }
         ensures stays { OnErr result (self.new ≡ self.old) }
         ensures memory { result ≢ Err no_memory }
@@ -209,15 +211,15 @@ impl<D: Disk> LeafLink<D> {
         Ok(Answer::only(alloc, Note::Queued))
     }
 
-    /// Says hello to the hub, with the layout of the journal and the version that the leaf is at, and asks it for what is
-    /// asked here. All requests that are out go again, by rising number. Then the oldest ask goes under the next number,
-    /// once that is journaled, where this number is less than eight above the lowest that is out. `Sent` with the highest
-    /// number that is sent, or `Idle` where it is the hello alone.
+    /// Sends the hub a hello, with the layout of the journal and the leaf's version, and then the leaf's requests. All
+    /// outstanding requests go again, by rising number. Then the oldest ask goes under the next number, once that is
+    /// journaled, if this number is less than eight above the lowest outstanding one. Returns `Sent` with the highest
+    /// number that is sent, or `Idle` if only the hello is.
     ///
     /// # Errors
-    /// `Down`; then `NumbersSpent` after request 4,294,967,295 where an ask waits and nothing is out; then `NoMemory`; each
-    /// leaves the leaf as it was. `JournalFault` where a disk failed in this call: the leaf is down, the request is in
-    /// doubt, and nothing is sent.
+    /// `Down`; then `NumbersSpent` after request 4,294,967,295 if an ask waits and no request is outstanding; then
+    /// `NoMemory`; each leaves the leaf as it was. `JournalFault` if a disk failed in this call: the leaf is down, the
+    /// request is in doubt, and nothing is sent.
     pub fn pump(&mut self, alloc: Global) -> Result<Answer, LinkError>
         ensures row { Calls self.old (pumped self.old) result self.new }
         ensures few { GoOut (WINDOW + 1) result }
@@ -234,7 +236,7 @@ impl<D: Disk> LeafLink<D> {
         self.send_again(alloc)
     }
 
-    // Lets the oldest ask go out, after what is out.
+    // Sends the oldest ask, after the outstanding requests.
     fn pump_ask(&mut self, alloc: Global) -> Result<Answer, LinkError>
         requires up { self.old.bot.down ≡ false }
         requires may { may_go_out self.old.bot.kept.last self.old.bot.kept.out ≡ true }
@@ -263,7 +265,7 @@ impl<D: Disk> LeafLink<D> {
         }
     }
 
-    // Sends a hello, and what is out once more.
+    // Sends a hello, and the outstanding requests again.
     fn send_again(&self, alloc: Global) -> Result<Answer, LinkError>
         ensures row { Calls self.now (sent_again_at self.now) result self.now }
         ensures few { GoOut (WINDOW + 1) result }
@@ -277,12 +279,12 @@ impl<D: Disk> LeafLink<D> {
         })
     }
 
-    /// A text to another bot, which the caller is to send to the hub, where its step has sent so many so far. The leaf
-    /// stays as it was.
+    /// Returns `text` for the bot `to`, which the caller is to send to the hub, when its step has sent `sent` texts so
+    /// far. The leaf stays as it was.
     ///
     /// # Errors
-    /// `Down`; `BadBotText` where there is no such bot, it is this leaf, or the text is none that a bot may tell
-    /// another; then `TextsFull` from 64 on, then `NoMemory`.
+    /// `Down`; `BadBotText` if there is no bot `to`, it is this leaf, or no bot may send such a text; then `TextsFull`
+    /// if `sent` is 64 or more; then `NoMemory`.
     pub fn send_text(
         &self,
         alloc: Global,
@@ -303,7 +305,8 @@ impl<D: Disk> LeafLink<D> {
     ///
     /// # Errors
     /// `Down`; then `NumbersSpent` at generation 4,294,967,295; then `NoMemory`; each leaves the leaf as it was.
-    /// `JournalFault` where a disk failed in this call: the leaf is down, and whether the journal was written in doubt.
+    /// `JournalFault` if a disk failed in this call: the leaf is down, and it is in doubt whether the journal was
+    /// written.
     pub fn compact(&mut self, alloc: Global) -> Result<Answer, LinkError>
         ensures row { Calls self.old (compacted self.old) result self.new }
         ensures few { IfOk result (λ answer. answer.packets ≡ []) }
@@ -320,12 +323,12 @@ impl<D: Disk> LeafLink<D> {
         }
     }
 
-    /// Crashes both disks, as where the program ended, and opens the journal on what that left: `Restarted` with the
-    /// version. The record that was in doubt counts, or doesn't. The asks that wait, and the parts that are kept, are
+    /// Crashes both disks, as if the program had ended, and opens the journal on what the crash left: `Restarted` with
+    /// the version. The record that was in doubt counts, or doesn't. The waiting asks and the parts that were kept are
     /// lost.
     ///
     /// # Errors
-    /// `DiskFault` where a disk failed, or `NoMemory`: the leaf is down, and all else as it was.
+    /// `DiskFault` if a disk failed, or `NoMemory`: the leaf is down, and all else is as it was.
     pub fn restart(&mut self, alloc: Global) -> Result<Answer, LinkError>
         ensures row { CallsRestart self.old (restarted self.old) result self.new }
         ensures few { IfOk result (λ answer. answer.packets ≡ []) }
@@ -340,7 +343,7 @@ impl<D: Disk> LeafLink<D> {
         }
     }
 
-    /// Says what a crash leaves at this moment, between two calls. It does nothing.
+    /// States what a crash leaves at this moment, between two calls. It does nothing.
     pub fn know_disks(&self)
         // What is the leaf's, with the record in doubt or without it.
         ensures left { MayLeave (leaf_meaning self.now.number) leaf_folded self.now.bot.kept self.now.bot.doubt self.now.device.first self.now.device.second }
@@ -348,7 +351,7 @@ impl<D: Disk> LeafLink<D> {
         self.kept.know_disks();
     }
 
-    /// The two disks, in the order in which they were given.
+    /// Returns the two disks, in the order in which they were given.
     pub fn into_disks(self) -> Disks<D>
         // Whatever a crash leaves on them is the leaf's, with the record in doubt or without it.
         ensures left { MayLeave (leaf_meaning self.number) leaf_folded self.bot.kept self.bot.doubt (D.state result.first) (D.state result.second) }

@@ -10,7 +10,7 @@ use linkcalls::{Note, Outgoing, Packet};
 use std::alloc::Global;
 use userfile::Change;
 
-/// A hello, and these requests in their order.
+/// Returns a hello, and `requests` in their order.
 pub(crate) fn hello_and_requests(
     alloc: Global,
     leaf: u16,
@@ -26,7 +26,7 @@ pub(crate) fn hello_and_requests(
     Ok(packets)
 }
 
-// A hello, with the layout of the journal and the version that the leaf is at.
+// Returns a hello, with the layout of the journal and the leaf's version.
 fn hello_packet(leaf: u16, version: u32) -> Outgoing
     ensures { result ≡ hello_packet leaf version }
 {
@@ -40,7 +40,7 @@ fn hello_packet(leaf: u16, version: u32) -> Outgoing
     }
 }
 
-/// A request for a change, under this number.
+/// Returns a request for `change`, under the number `request`.
 pub(crate) fn request_packet(
     alloc: Global,
     leaf: u16,
@@ -60,7 +60,7 @@ pub(crate) fn request_packet(
     })
 }
 
-/// What is told where these requests go out again: the highest number, or that nothing waits. Takes no memory.
+/// Returns the note for `requests` that go out again: the highest number, or that nothing waits. Allocates nothing.
 pub(crate) fn again_note(requests: &[Request]) -> Note
     ensures { told_of result ≡ again_note requests.now }
 {

@@ -1,4 +1,4 @@
-// The parts that a leaf keeps of one version, until all are there.
+// The parts that a leaf keeps of one version, until it has them all.
 ghost use Rattle.std.specs.Prelude.{◌≡◌, ◌<◌, ◌≤◌, ◌==◌, if◌then◌else◌, Some, None, IfSome, OnOk, OnErr, is_some, option_map};
 ghost use Rattle.std.specs.List.{AllByRecursion, list_all};
 ghost use Rattle.usercodec.specs.Records.{IsGoodRecord};
@@ -36,7 +36,7 @@ impl KeptParts {
     ghost use Rattle.protocol.specs.Snapshots.{joined, no_parts, with_part};
     ghost use Rattle.leaflink.specs.Parts.{left};
 
-    // No part of this version and count.
+    // Creates an empty set of this version and count.
     pub(crate) fn empty(alloc: Global, version: u32, count: u8) -> Result<KeptParts, NoMemory>
         ensures { IfOk result (λ kept. kept ≡ no_parts version count) }
     {
@@ -47,21 +47,21 @@ impl KeptParts {
         Ok(KeptParts { version, parts })
     }
 
-    // The version.
+    // Returns the version.
     pub(crate) fn version(&self) -> u32
         ensures { result ≡ self.now.version }
     {
         self.version
     }
 
-    // Whether they are of this version, and so many.
+    // Whether they are of this version and count.
     pub(crate) fn are_of(&self, version: u32, count: u8) -> bool
         ensures { result ≡ ((self.now.version == version) && (length self.now.parts == count)) }
     {
         self.version == version && self.parts.len() == usize::from(count)
     }
 
-    // Keeps a part, in the place of one of its number.
+    // Keeps a part, and drops one of its number.
     pub(crate) fn put(&mut self, part: u8, records: Seq<Record>)
         requires numbered { (0 < part) × (part - 1 < length self.old.parts) }
         requires good { AllByRecursion IsGoodRecord records }
@@ -70,7 +70,7 @@ impl KeptParts {
         self.parts[usize::from(part) - 1] = Some(records);
     }
 
-    // All records, where this part is the only one that isn't kept.
+    // Returns all records, if this part is the only one that isn't kept.
     fn whole_with<'a>(&'a self, part: u8, records: &'a [Record]) -> Option<Walk<'a>>
         requires numbered { (0 < part) × (part - 1 < length self.now.parts) }
         requires good { AllByRecursion IsGoodRecord records.now }
@@ -102,7 +102,7 @@ pub(crate) fn is_behind(version: u32, kept: &Option<KeptParts>) -> bool
     }
 }
 
-// All records of a version, where this part is the only one that isn't kept.
+// Returns all records of a version, if this part is the only one that isn't kept.
 pub(crate) fn whole_set<'a>(
     kept: &'a Option<KeptParts>,
     version: u32,
@@ -127,7 +127,7 @@ pub(crate) fn whole_set<'a>(
     }
 }
 
-// A part that is the only one.
+// Returns the records of a part that is the only one.
 fn whole_alone(count: u8, records: &[Record]) -> Option<Walk<'_>>
     requires good { AllByRecursion IsGoodRecord records.now }
     ensures whole { option_map left result ≡ (if count == 1 then Some records.now else None) }
@@ -145,7 +145,7 @@ fn whole_alone(count: u8, records: &[Record]) -> Option<Walk<'_>>
     }
 }
 
-// Keeps a part, with the others of its version and count, or alone where there are none.
+// Keeps a part, with the others of its version and count, or alone if there are none.
 pub(crate) fn keep_part(
     alloc: Global,
     kept: &mut Option<KeptParts>,

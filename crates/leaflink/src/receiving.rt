@@ -23,20 +23,22 @@ impl<D: Disk> LeafLink<D> {
     ghost use Rattle.leaflink.specs.Link.{Calls};
     ghost use Rattle.leaflink.specs.Link.{received, received_up, change_placed_at, reply_placed_at, part_placed_at, part_taken_at, text_placed_at};
 
-    /// Takes a packet of the hub's.
+    /// Takes `packet` from the hub.
     ///
-    /// The change numbered one above the version is `Applied`; one at most the version is `Old`, and one further above
-    /// is `Early`. A reply to a request that is out ends it: `Accepted` with the change's number, or `Refused`; any other
-    /// reply is `Old`. A part of the records at a later version is `Kept` until the others of that version are
-    /// there; then all are put in place, `Installed` with the version. A part of a version that is not above the leaf's,
-    /// or is below that of the kept parts, is `Old`; one of another version, or of another count, takes the place of all
-    /// kept parts. A text for this leaf from a bot of the net is `Text`. What is not for this leaf is `Stray`.
+    /// - The change numbered one above the version is `Applied`. A lower number is `Old`, a higher one `Early`.
+    /// - A reply to an outstanding request ends it: `Accepted` with the change's number, or `Refused`. Any other reply
+    ///   is `Old`.
+    /// - A part of the records at a later version is `Kept` until the leaf has the others of that version; then it
+    ///   installs all of them, `Installed` with the version. A part is `Old` if its version is not above the leaf's, or
+    ///   is below that of the kept parts. A part of another version, or of another count, replaces all kept parts.
+    /// - A text for this leaf from a bot of the net is `Text`.
+    /// - A packet that is not for this leaf is `Stray`.
     ///
     /// # Errors
-    /// `Down`; then `Diverged` where the records refuse the next change, or the parts are not those of one userfile; then
-    /// `NumbersSpent` where the parts are whole at generation 4,294,967,295 of the journal; then `NoMemory`; each leaves
-    /// the leaf as it was, save that `Diverged` drops the kept parts. `JournalFault` where a disk failed in this call:
-    /// the leaf is down, and what the packet tells is in doubt. `Old`, `Early` and `Stray` take no memory.
+    /// `Down`; then `Diverged` if the records refuse the next change, or the parts are not those of one userfile; then
+    /// `NumbersSpent` if the parts are complete at generation 4,294,967,295 of the journal; then `NoMemory`; each
+    /// leaves the leaf as it was, except that `Diverged` drops the kept parts. `JournalFault` if a disk failed in this
+    /// call: the leaf is down, and the effect of the packet is in doubt. `Old`, `Early` and `Stray` allocate nothing.
     pub fn receive(&mut self, alloc: Global, packet: &Packet) -> Result<Answer, LinkError>
         requires records { HasGoodRecords packet.now }
         ensures row { Calls self.old (received self.old packet.now) result self.new }
@@ -106,7 +108,7 @@ impl<D: Disk> LeafLink<D> {
         }
     }
 
-    // Ends the request that the reply is to, where it is out.
+    // Ends the request that the reply is to, if it is outstanding.
     fn receive_reply(
         &mut self,
         alloc: Global,
@@ -153,14 +155,14 @@ impl<D: Disk> LeafLink<D> {
         self.take_part(alloc, version, part, count, records)
     }
 
-    // Whether the leaf is at that version or above, or keeps parts of a later one.
+    // Whether the leaf is at that version or a later one, or keeps parts of a later one.
     fn is_old_part(&self, version: u32) -> bool
         ensures { result ≡ (nat_le version self.now.bot.kept.version || is_behind version self.now.bot.loose.parts) }
     {
         version <= self.kept.state().version() || is_behind(version, &self.parts)
     }
 
-    // Takes a part that is new: where it is the last one that was missing, all records are put in place.
+    // Takes a part that is new: if it is the last missing one, installs all records.
     fn take_part(
         &mut self,
         alloc: Global,
@@ -217,7 +219,7 @@ impl<D: Disk> LeafLink<D> {
     }
 }
 
-// The note of a reply.
+// Returns the note of a reply.
 fn note_of(reply: Outcome) -> Note
     ensures { told_of result ≡ reply_note reply }
 {
@@ -227,7 +229,7 @@ fn note_of(reply: Outcome) -> Note
     }
 }
 
-// Whether there is no part of this number among so many.
+// Whether no part has the number `part` among `count` parts.
 fn is_no_part(part: u8, count: u8) -> bool
     ensures { result ≡ ((part == 0) || nat_lt count part) }
 {
@@ -241,7 +243,7 @@ fn is_no_reply(leaf: u16, request: u32, number: u16) -> bool
     leaf != number || request == 0
 }
 
-// Whether a text is not for this leaf, or from none of the net.
+// Whether a text is not for this leaf, or from no bot of the net.
 fn is_no_text(from: u16, to: u16, number: u16, leaves: u16) -> bool
     ensures { result ≡ (nat_lt leaves from || not (to == number)) }
 {

@@ -1,4 +1,4 @@
-// A walk over the records of a whole set of parts, which takes no memory.
+// A walk over the records of a whole set of parts, which allocates nothing.
 ghost use Rattle.std.specs.Prelude.{◌≡◌, ◌≤◌, ◌&&◌, [], true, nat_le, length, IfOk};
 ghost use Rattle.std.specs.List.{AllByRecursion, list_any};
 ghost use Rattle.userfile.specs.Together.{repeats};
@@ -15,8 +15,8 @@ use std::alloc::Global;
 use usercodec::Record;
 use userfile::{MAX_BANS, MAX_USERS, Userfile};
 
-// The records that are left: those here, those of the parts in front, those of the part at hand, and those of the parts
-// after it. A part that isn't there has none.
+// The records not reached yet: those here, those of the parts in front, those of the part at hand, and those of the
+// parts after it. A part that is missing has none.
 #[derive(Clone, Copy)]
 pub(crate) struct Walk<'a> {
     pub(crate) here: &'a [Record],
@@ -26,7 +26,8 @@ pub(crate) struct Walk<'a> {
 }
 
 impl<'a> Walk<'a> {
-    // Whether the records are those of one userfile. It takes time by the square of their number, which is limited first.
+    // Whether the records are those of one userfile. The time grows with the square of their number, which is limited
+    // first.
     pub(crate) fn stand_together(self) -> bool
         requires good { AllByRecursion IsGoodRecord (left self) }
         ensures { result ≡ stand_together (records_from (left self.entry)) }
@@ -34,7 +35,7 @@ impl<'a> Walk<'a> {
         self.are_few() && !self.repeats()
     }
 
-    // The userfile of the records.
+    // Returns the userfile of the records.
     pub(crate) fn userfile(self, alloc: Global) -> Result<Userfile, NoMemory>
         requires good { AllByRecursion IsGoodRecord (left self) }
         requires together { stand_together (records_from (left self)) ≡ true }
@@ -47,7 +48,7 @@ impl<'a> Walk<'a> {
         }
     }
 
-    // A copy of each record, in order.
+    // Returns a copy of each record, in order.
     fn copies(self, alloc: Global) -> Result<Vec<Record>, NoMemory>
         ensures { IfOk result (λ items. items.items ≡ left self.entry) }
     {
@@ -60,7 +61,7 @@ impl<'a> Walk<'a> {
         Ok(items)
     }
 
-    // Whether there are no more users and bans than a userfile holds.
+    // Whether there are no more users and bans than a userfile can hold.
     fn are_few(self) -> bool
         ensures { result ≡ (nat_le (length (users_in (left self.entry))) MAX_USERS && nat_le (length (bans_in (left self.entry))) MAX_BANS) }
     {
@@ -115,7 +116,7 @@ impl<'a> Walk<'a> {
         false
     }
 
-    // The next record, and the walk on from it.
+    // Returns the next record, and the walk on from it.
     fn next(self) -> Option<(&'a Record, Walk<'a>)>
         ensures { Steps (left self.entry) result }
     {
@@ -126,7 +127,7 @@ impl<'a> Walk<'a> {
         }
     }
 
-    // The same walk, with a record here where one is left.
+    // Returns the same walk, with a record here if one is left.
     fn opened(self) -> Walk<'a>
         ensures same { left result ≡ left self.entry }
         ensures open { result.here.now ≡ [] → left result ≡ [] }
@@ -159,7 +160,7 @@ impl<'a> Walk<'a> {
     }
 }
 
-// Whether a userfile holds one of two records alone.
+// Whether a userfile can't hold both records.
 fn clash(one: &Record, other: &Record) -> bool
     ensures { result ≡ clash one.now other.now }
 {

@@ -6,7 +6,7 @@ use streams::{
     Duplex, Given, Memory, ReadError, Stream, Taken, WriteFault, read_up_to, write_all, write_out,
 };
 
-// A reader that is interrupted before each read of at most three bytes, and answers this error after the last.
+// A reader that is interrupted before each read of at most three bytes, and answers `after` once no byte is left.
 #[derive(Drop)]
 struct Halting<'a> {
     rest: &'a [u8],
@@ -36,7 +36,8 @@ impl Read for Halting<'_> {
     }
 }
 
-// A writer that is interrupted before each write of at most three bytes, has room for so many, and then answers this.
+// A writer that is interrupted before each write of at most three bytes, has room for `room` bytes, and then answers
+// `full`.
 #[derive(Drop)]
 struct Filling {
     taken: Vec<u8>,
@@ -80,7 +81,7 @@ impl Write for Filling {
     }
 }
 
-// What is read of ten bytes and what comes after them, up to a bound.
+// Reads ten bytes and what comes after them, at most `most` bytes.
 fn read_ten(alloc: Global, after: Option<ErrorKind>, most: usize) -> Result<Vec<u8>, ReadError> {
     let mut stream = Duplex::new(slow_reader(b"0123456789", after), io::sink());
     read_up_to(alloc, &mut stream, most)
@@ -102,7 +103,7 @@ fn a_stream_is_read_to_its_end_or_to_a_bound(rt: HostRuntime) {
     assert!(rt; read_ten(alloc, Some(ErrorKind::WouldBlock), 11).err() == Some(ReadError::Fault));
 }
 
-// What a stream answers that has no byte, and then this.
+// Returns what a stream answers that has no byte, and then `after`.
 fn answer_of(after: Option<ErrorKind>) -> Given {
     let mut stream = Duplex::new(slow_reader(b"", after), io::sink());
     stream.give(&mut [0; 8])

@@ -1,5 +1,5 @@
-//! Tests of the pure parts, of what no clause says and no line of `vectors` shows: each public call once where it does its
-//! work, with whole values. A module is the tests of one library, or of one part of it.
+//! Tests of the pure parts, for what no clause says and no line of `vectors` shows. They make each public call once
+//! where it does its work, with whole values. Each module tests one library, or one part of it.
 #![tactic(auto)]
 
 #[cfg(test)]

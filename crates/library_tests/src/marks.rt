@@ -4,7 +4,7 @@ use bytetext::Text;
 use std::alloc::Global;
 use userfile::{Change, Userfile};
 
-// An info text for the user of this handle.
+// Makes the change that sets the info text of the user `handle`.
 fn telling(alloc: Global, handle: &[u8], info: &[u8]) -> Option<Change> {
     match (
         Text::from_slice(alloc, handle),
@@ -45,7 +45,7 @@ fn an_info_text_is_set_and_emptied(rt: HostRuntime) {
     assert!(rt; people.info_of(b"alice") == b"".as_slice());
 }
 
-// A ban of this channel and mask until a second.
+// Makes the change that adds a ban of this `channel` and `mask` until the second `expires`.
 fn banning(alloc: Global, channel: &[u8], mask: &[u8], expires: u64) -> Option<Change> {
     match (
         Text::from_slice(alloc, channel),
@@ -64,7 +64,7 @@ fn banning(alloc: Global, channel: &[u8], mask: &[u8], expires: u64) -> Option<C
     }
 }
 
-// A mark for the ban of this channel and mask.
+// Makes the change that sets or clears the mark of the ban of this `channel` and `mask`.
 fn marking(alloc: Global, channel: &[u8], mask: &[u8], on: bool) -> Option<Change> {
     match (
         Text::from_slice(alloc, channel),
@@ -75,8 +75,8 @@ fn marking(alloc: Global, channel: &[u8], mask: &[u8], on: bool) -> Option<Chang
     }
 }
 
-// Three bans in this order: one of #a until second 7 and one of all channels, with masks that casemapping makes the same,
-// and one of #b. The first two are sticky where all is well.
+// Makes three bans, in this order: one of #a until second 7, one of all channels, and one of #b. Casemapping makes the
+// masks of the first two the same. Those two are sticky if all is well.
 fn three_bans(alloc: Global) -> Userfile {
     let mut bans = Userfile::new(alloc);
     let _ = answer(alloc, &mut bans, banning(alloc, b"#a", b"*!*@bad[1]", 7));
@@ -87,7 +87,7 @@ fn three_bans(alloc: Global) -> Userfile {
     bans
 }
 
-// The mask of the ban that comes back; the empty text where none does.
+// Returns the mask of the ban that comes back, or the empty text if none does.
 fn back<'a>(bans: &'a Userfile, channel: &[u8], mask: &[u8], now: u64) -> &'a [u8] {
     match bans.sticky_ban(channel, mask, now) {
         Some(ban) => ban.mask.as_bytes(),

@@ -2,7 +2,7 @@
 use bytetext::{NoMemory, Seq, Text, Texts, TryCopy, copies_of};
 use std::alloc::Global;
 
-// Two words as a list.
+// Makes a list of two words.
 fn words(alloc: Global) -> Result<Texts, NoMemory> {
     let mut words = Seq::empty(alloc);
     words.push(Text::from_slice(alloc, b"egg")?)?;

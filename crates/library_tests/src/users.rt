@@ -11,7 +11,7 @@ fn letters(text: &[u8]) -> Flags {
     Flags::parse(text).unwrap_or(Flags::empty())
 }
 
-// These hostmasks; none where one can't be made.
+// Makes these hostmasks, or returns `None` if one can't be made.
 fn masks_of(alloc: Global, texts: &[&[u8]]) -> Option<Hostmasks> {
     let mut masks = Vec::new(alloc);
     for text in texts {
@@ -20,7 +20,7 @@ fn masks_of(alloc: Global, texts: &[&[u8]]) -> Option<Hostmasks> {
     Some(Hostmasks::new(masks))
 }
 
-// Flags v on this channel.
+// Makes the flags v on `channel`.
 fn voiced_on(alloc: Global, channel: &[u8]) -> Option<ChannelEntries> {
     let mut entries = Vec::new(alloc);
     let entry = ChannelFlags {
@@ -31,12 +31,12 @@ fn voiced_on(alloc: Global, channel: &[u8]) -> Option<ChannelEntries> {
     Some(ChannelEntries::new(entries))
 }
 
-// A user of this handle with these masks, and something in each other field.
+// Makes a user of this `handle` with these `masks`, and something in each other field.
 fn user_of(alloc: Global, handle: &[u8], masks: &[&[u8]]) -> Option<User> {
     told_user(alloc, handle, masks, b"likes  tea")
 }
 
-// The same with this info text.
+// Makes the same user, with this `info` text.
 fn told_user(alloc: Global, handle: &[u8], masks: &[&[u8]], info: &[u8]) -> Option<User> {
     match (
         Text::from_slice(alloc, handle),
@@ -56,7 +56,7 @@ fn told_user(alloc: Global, handle: &[u8], masks: &[&[u8]], info: &[u8]) -> Opti
     }
 }
 
-// A sticky ban of this mask on #egg, until second 7.
+// Makes a sticky ban of `mask` on #egg, until second 7.
 fn ban_of(alloc: Global, mask: &[u8]) -> Option<Ban> {
     match (
         Text::from_slice(alloc, b"#egg"),
@@ -90,7 +90,7 @@ fn two<T: Drop>(alloc: Global, first: Option<T>, second: Option<T>) -> Option<Ve
 
 const ALICES: [&[u8]; 2] = [b"*!*@A.net", b"al?!*@*"];
 
-// Whether this is the user Alice with all that was given.
+// Returns whether `user` is the user Alice, with all that was given.
 fn is_alice(user: &User) -> bool {
     user.handle.is_same(b"Alice")
         && matches!(user.masks.as_slice(), [a, b] if a.as_bytes() == ALICES[0] && b.as_bytes() == ALICES[1])
@@ -100,7 +100,7 @@ fn is_alice(user: &User) -> bool {
         && user.info.is_same(b"likes  tea")
 }
 
-// Whether this is the ban with all that was given.
+// Returns whether `ban` is the ban, with all that was given.
 fn is_the_ban(ban: &Ban) -> bool {
     ban.channel.is_same(b"#egg")
         && ban.mask.as_bytes() == b"*!*@bad.net".as_slice()
@@ -110,7 +110,7 @@ fn is_the_ban(ban: &Ban) -> bool {
         && ban.sticky
 }
 
-// Whether the userfile holds Alice and the ban, and answers for them.
+// Returns whether the userfile holds Alice and the ban, and answers for them.
 fn is_full(userfile: &Userfile) -> bool {
     (userfile.user_count(), userfile.ban_count()) == (1, 1)
         && userfile.user_at(0).is_some_and(is_alice)
@@ -126,10 +126,10 @@ fn is_full(userfile: &Userfile) -> bool {
             .is_some_and(is_the_ban)
 }
 
-// One byte more than an info text has.
+// One byte more than an info text may have.
 pub(crate) const EIGHTY_ONE: [u8; 81] = [b'x'; 81];
 
-// The userfile of just these users and bans, or the code of the refusal.
+// Makes a userfile of just these `users` and `bans`, or returns the code of the refusal.
 fn gathered(
     alloc: Global,
     users: Option<Vec<User>>,
@@ -148,7 +148,7 @@ fn gathered(
     }
 }
 
-// Whether a userfile with everything in it is what was given, and its copy too.
+// Returns whether a userfile with every field in it is what was given, and its copy too.
 fn a_full_userfile_is_gathered_and_copied(alloc: Global) -> bool {
     let users = one(alloc, user_of(alloc, b"Alice", &ALICES));
     let bans = one(alloc, ban_of(alloc, b"*!*@bad.net"));
@@ -165,7 +165,7 @@ fn a_full_userfile_and_its_copy_hold_all_that_was_given(rt: HostRuntime) {
     assert!(rt; a_full_userfile_is_gathered_and_copied(rt.alloc()));
 }
 
-// The code with which these users are refused.
+// Returns the code with which these `users` are refused.
 fn refusal(alloc: Global, users: Option<Vec<User>>) -> &'static str {
     match gathered(alloc, users, Some(Vec::new(alloc))) {
         Ok(_) => "ok",
@@ -173,7 +173,7 @@ fn refusal(alloc: Global, users: Option<Vec<User>>) -> &'static str {
     }
 }
 
-// The code with which bans of these masks are refused.
+// Returns the code with which bans of these two masks are refused.
 fn ban_refusal(alloc: Global, first: &[u8], second: &[u8]) -> &'static str {
     let bans = two(alloc, ban_of(alloc, first), ban_of(alloc, second));
     match gathered(alloc, Some(Vec::new(alloc)), bans) {
@@ -187,7 +187,7 @@ const SEVENTEEN: [&[u8]; 17] = [
     b"j!*@*", b"k!*@*", b"l!*@*", b"m!*@*", b"n!*@*", b"o!*@*", b"p!*@*", b"q!*@*",
 ];
 
-// Users of these handles, each with this mask.
+// Makes two users of these handles, each with the same mask.
 fn pair(alloc: Global, first: &[u8], second: &[u8]) -> Option<Vec<User>> {
     two(
         alloc,
@@ -230,7 +230,7 @@ fn records_that_do_not_stand_together_are_refused(rt: HostRuntime) {
     assert!(rt; ban_refusal(alloc, b"*!*@a.net", b"*!*@A.net") == "U8");
 }
 
-// What a userfile says to a change.
+// Applies `change` to `userfile`, and returns the answer.
 pub(crate) fn answer(
     alloc: Global,
     userfile: &mut Userfile,
@@ -246,7 +246,7 @@ pub(crate) fn answer(
     }
 }
 
-// What the empty userfile says to a change.
+// Applies `change` to an empty userfile, and returns the answer.
 fn answer_to(alloc: Global, change: Option<Change>) -> &'static str {
     answer(alloc, &mut Userfile::new(alloc), change)
 }
@@ -276,7 +276,7 @@ fn texts_that_no_script_can_spell_are_refused(rt: HostRuntime) {
     assert!(rt; answer_to(alloc, giving(alloc, b"a b!*@*")) == "U4");
 }
 
-// Whether a copied change is the change.
+// Returns whether the copy of a change is that change.
 fn a_change_is_copied(alloc: Global) -> bool {
     let twin = giving(alloc, b"*!*@a.net").map(|change| change.copy(alloc));
     match &twin {
@@ -287,7 +287,7 @@ fn a_change_is_copied(alloc: Global) -> bool {
     }
 }
 
-// Whether lists give back what they were made of.
+// Returns whether lists give back what they were made of.
 fn lists_give_back_their_vec(alloc: Global) -> bool {
     let (Some(masks), Some(entries)) = (masks_of(alloc, &ALICES), voiced_on(alloc, b"#a")) else {
         return false;

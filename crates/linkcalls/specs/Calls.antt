@@ -1,4 +1,4 @@
--- What a call answers, in the words of the protocol.
+-- What a call returns, in the words of the protocol.
 use Rattle.std.specs.Prelude.{◌≡◌, List, [], ◌∷◌, Result, Err}
 use Rattle.linkcalls.specs.declared.note.Note.{Note}
 use Rattle.linkcalls.specs.declared.note.Note.TheVariants as told
@@ -10,7 +10,7 @@ use Rattle.protocol.specs.Notes.{Note as Meaning, LinkFault as Fault}
 use Rattle.protocol.specs.Notes.Note.{Queued, Idle, Sent as RequestSent, Accepted, Refused, Served, Old, Repeat, Gap, Early, Applied, Kept, Installed, Compacted, Relayed, Text, Stray, Restarted}
 use Rattle.protocol.specs.Notes.LinkFault.{Down, BadChange, AsksFull, Diverged, NumbersSpent, JournalFault, BadBotText, DiskFault, OtherLayout}
 
--- what a note tells
+-- what a note means in the protocol
 abbrev pub note_of : Note → Meaning
 note_of told.Queued = Queued
 note_of told.Idle = Idle
@@ -39,7 +39,7 @@ abbrev pub outgoings_of : List Outgoing → List Sent
 outgoings_of [] = []
 outgoings_of (outgoing ∷ others) = outgoing_of outgoing ∷ outgoings_of others
 
--- the refusal tells this fault of the protocol; that a step has sent too many texts is none of it
+-- the error is this fault of the protocol; the protocol has none for a step that has sent too many texts
 abbrev pub IsFault : LinkFault → Result Meaning Fault → Type 0
 IsFault fault.Down said = said ≡ Err Down
 IsFault (fault.BadChange of_change) said = said ≡ Err (BadChange of_change)

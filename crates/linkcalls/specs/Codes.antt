@@ -1,4 +1,4 @@
--- The letter and number of each refusal by a link.
+-- The letter and number of each error of a link.
 use Rattle.std.specs.Prelude.{ℕ, List, codes}
 use Rattle.linkcalls.specs.declared.error.LinkFault.{LinkFault}
 use Rattle.linkcalls.specs.declared.error.LinkFault.TheVariants.{Down, BadChange, AsksFull, Diverged, NumbersSpent, JournalFault, BadBotText, TextsFull, DiskFault, OtherLayout}

@@ -19,11 +19,11 @@ HasGoodRecords (wire.Refused leaf request fault) = Unit {0}
 HasGoodRecords (wire.BotText from to text) = Unit {0}
 HasGoodRecords (wire.Part version part count records) = AllByRecursion IsGoodRecord records
 
--- so of all packets that are to be sent
+-- all packets that are to be sent have such records
 abbrev pub AreGood : List Outgoing → Type 0
 AreGood packets = AllByRecursion (λ (outgoing : Outgoing). HasGoodRecords outgoing.packet) packets
 
--- what is answered sends at most so many packets, and they have records of good shape
+-- the result sends at most this number of packets, and they have records of good shape
 abbrev pub GoOut : ℕ → Result Answer (Failure LinkFault) → Type 0
 GoOut most (Ok answer) = (length answer.packets ≤ most) × AreGood answer.packets
 GoOut most (Err error) = Unit {0}

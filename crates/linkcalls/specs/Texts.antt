@@ -1,4 +1,4 @@
--- When a bot may send another a text, and what goes out.
+-- When a bot may send a text to another, and what goes out.
 use Rattle.std.specs.Prelude.{◌≡◌, ◌<◌, ◌≤◌, ℕ, nat_le, List, [], ◌∷◌, if◌then◌else◌, Option, None, Some, Result, Ok, Err}
 use Rattle.bytetext.specs.declared.failure.Failure.{Failure}
 use Rattle.bytetext.specs.declared.failure.Failure.TheVariants.{Refused, NoMemory}
@@ -12,19 +12,19 @@ use Rattle.linkcalls.specs.declared.error.LinkFault.{LinkFault}
 use Rattle.linkcalls.specs.declared.error.LinkFault.TheVariants.{Down, BadChange, AsksFull, Diverged, NumbersSpent, JournalFault, BadBotText, TextsFull, DiskFault, OtherLayout}
 use Rattle.linkcalls.specs.declared.TheConstants.{MAX_TEXTS}
 
--- what stands against a text of this bot to another, where its step has sent so many
+-- why this bot may not send a text to another, if its step has sent this number of texts
 abbrev pub text_fault : ℕ → ℕ → ℕ → List ℕ → ℕ → Option LinkFault
 text_fault leaves number to text sent =
     if is_bad_text leaves number to text then Some BadBotText
     else if nat_le MAX_TEXTS sent then Some TextsFull
     else None
 
--- a text from one bot to another, on its way to the bot that takes it next
+-- a text from one bot to another, sent to the bot that takes it next
 abbrev pub text_by : ℕ → ℕ → ℕ → List ℕ → Outgoing
 text_by next from to text = record { to = next; packet = BotText from to text }
 
 module _ {S : Type 0} (row : Row S) (sent : ℕ) where
-  -- why a text doesn't go out: its row says so, or its step has sent as many as it may
+  -- why a text doesn't go out: its row says so, or its step has already sent the most texts allowed
   abbrev pub TextRefused : LinkFault → Type 0
   TextRefused TextsFull = (row.told ≡ Ok Relayed) × (MAX_TEXTS ≤ sent)
   TextRefused Down = IsFault Down row.told
@@ -37,7 +37,7 @@ module _ {S : Type 0} (row : Row S) (sent : ℕ) where
   TextRefused DiskFault = IsFault DiskFault row.told
   TextRefused OtherLayout = IsFault OtherLayout row.told
 
-  -- A text that is to go out, by cases on the answer: its row says what goes. It is out of memory only where it goes.
+  -- A text to send, by cases on the result: its row says what goes. It runs out of memory only if the text would go.
   abbrev pub Sends : Result Outgoing (Failure LinkFault) → Type 0
   Sends (Ok outgoing) = (row.told ≡ Ok Relayed) × (sent < MAX_TEXTS) × (row.sends ≡ outgoing_of outgoing ∷ [])
   Sends (Err (Refused fault)) = TextRefused fault

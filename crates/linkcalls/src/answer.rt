@@ -1,4 +1,4 @@
-// What a call of a link answers.
+// What a call of a link returns.
 ghost use Rattle.std.specs.Prelude.{◌≡◌, []};
 
 use crate::note::Note;
@@ -27,17 +27,17 @@ impl TryCopy for Outgoing {
 /// Packets to send, in order.
 pub type Outgoings = Seq<Outgoing>;
 
-/// What a call answers: what came of it, and what is to be sent.
+/// What a call returns: its outcome, and what to send.
 #[derive(Drop)]
 pub struct Answer {
-    /// What came of the call.
+    /// The outcome of the call.
     pub note: Note,
     /// The packets to send, in order.
     pub packets: Outgoings,
 }
 
 impl Answer {
-    /// A note and nothing to send. Takes no memory.
+    /// Returns `note` with nothing to send. Allocates nothing.
     pub fn only(alloc: Global, note: Note) -> Answer
         ensures { result ≡ record { note = note; packets = [] } }
     {

@@ -1,8 +1,8 @@
-//! What a call of either end of the sharing link answers.
+//! What a call of either end of the sharing link returns.
 //!
-//! An [`Answer`] is a [`Note`], which tells what came of the call, and the packets that the caller is to send. A
-//! [`LinkFault`] tells why a call is refused. The contracts of both ends say in the words of `protocol` what they answer:
-//! `Meets`, in `specs/Meets`, is how a call's answer stands to its row there.
+//! An [`Answer`] is a [`Note`], which says what the call did, and the packets that the caller is to send. A
+//! [`LinkFault`] says why a call is rejected. The contracts of both ends use the words of `protocol`: `Meets`, in
+//! `specs/Meets`, says how a call's result matches its row there.
 //!
 //! ```text
 //! match hub.pump(alloc) {
@@ -27,7 +27,7 @@ pub use sharewire::Packet;
 /// The most leaves that a hub has.
 pub const MAX_LEAVES: u16 = 1000;
 
-/// The most asks that wait at a bot.
+/// The most asks that can wait at a bot.
 pub const MAX_ASKS: usize = 64;
 
 /// The most changes that a hub sends on one hello.

@@ -1,16 +1,16 @@
-// What a call tells of itself.
+// What a call of a link did.
 use bytetext::{NoMemory, Text, TryCopy};
 use std::alloc::Global;
 use userfile::ChangeFault;
 
-/// What came of a call.
+/// The outcome of a call.
 #[derive(Debug, Drop)]
 pub enum Note {
     /// The ask waits for a pump.
     Queued,
     /// Nothing waits.
     Idle,
-    /// The leaf's requests went out, this number the highest of them.
+    /// The leaf's requests went out; this number is the highest of them.
     Sent(u32),
     /// A change was accepted under this number.
     Accepted(u32),
@@ -18,7 +18,7 @@ pub enum Note {
     Refused(ChangeFault),
     /// The hub answers a hello with this many packets.
     Served(usize),
-    /// The packet tells nothing new.
+    /// The packet brings nothing new.
     Old,
     /// A request came again, and its reply, which is kept, goes out again.
     Repeat,
@@ -28,24 +28,24 @@ pub enum Note {
     Early,
     /// The leaf applied the change of this number.
     Applied(u32),
-    /// The leaf keeps the part of this number until the others are there.
+    /// The leaf keeps the part of this number until it has the others.
     Kept(u32),
-    /// The leaf put the records of this version in place.
+    /// The leaf installed the records of this version.
     Installed(u32),
-    /// The journal has the state alone.
+    /// The journal holds the state alone.
     Compacted,
     /// The text goes on to the bot that takes it next.
     Relayed,
     /// A text for this bot.
     Text {
-        /// The bot that says it.
+        /// The bot that sent it.
         from: u16,
-        /// What is said: 1 to 400 bytes, none of them NUL, CR or LF, where the packet was read from bytes.
+        /// The text: 1 to 400 bytes, none of them NUL, CR or LF, if the packet was read from bytes.
         text: Text,
     },
-    /// The packet is not for this bot, or names what the net does not have.
+    /// The packet is not for this bot, or names something that the net does not have.
     Stray,
-    /// The journal was opened again, at this version.
+    /// The journal was reopened, at this version.
     Restarted(u32),
 }
 

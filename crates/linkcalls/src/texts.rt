@@ -9,8 +9,8 @@ use bytetext::{NoMemory, Text};
 use sharewire::{Packet, is_bot_text};
 use std::alloc::Global;
 
-/// What stands against a text of this bot to another, in a net of so many leaves, where its step has sent so many texts:
-/// `BadBotText`, then `TextsFull`. Takes no memory.
+/// Returns why the bot `number` may not send `text` to the bot `to`, in a net of `leaves` leaves, when its step has
+/// sent `sent` texts: `BadBotText`, then `TextsFull`. Allocates nothing.
 pub fn text_fault(leaves: u16, number: u16, to: u16, text: &[u8], sent: usize) -> Option<LinkFault>
     ensures { result ≡ text_fault leaves number to text.now sent }
 {
@@ -23,10 +23,10 @@ pub fn text_fault(leaves: u16, number: u16, to: u16, text: &[u8], sent: usize) -
     None
 }
 
-/// A text from one bot to another, on its way to the bot that takes it next.
+/// Returns `text` from the bot `from` to the bot `to`, as a packet for the bot `next`, which takes it next.
 ///
 /// # Errors
-/// `NoMemory` where room for the text is refused: never for the empty text.
+/// `NoMemory` if it cannot allocate room for the text; never for the empty text.
 pub fn text_by(
     alloc: Global,
     next: u16,

@@ -16,7 +16,7 @@ use userfile::Change;
 /// A call of a link.
 #[derive(Drop)]
 pub enum Call {
-    /// An ask for a change.
+    /// A request for a change.
     Ask(Change),
     /// A pump.
     Pump,
@@ -24,11 +24,11 @@ pub enum Call {
     Compact,
     /// A restart.
     Restart,
-    /// A packet that it takes.
+    /// The receipt of a packet.
     Take(Good),
 }
 
-/// Makes a call of a bot's link, and prints what it answers. A bot above the last one is none.
+/// Makes the `call` of the link of `bot`, and prints what it answers. A number above the last bot's names none.
 pub fn make(
     alloc: Global,
     net: &mut Net,
@@ -64,7 +64,7 @@ fn answer_of(alloc: Global, link: &mut BotLink<MemDisk>, call: Call) -> Result<A
     }
 }
 
-// Prints what a call answered, and sends its packets, both by a copy of the answer.
+// Prints what a call answered, and sends its packets, both from a copy of the answer.
 fn tell(
     alloc: Global,
     net: &mut Net,
@@ -131,7 +131,7 @@ fn put_sent(
     put(out, b"\n")
 }
 
-/// Takes in what a bot shows now, which was at this version before.
+/// Notes what `bot` shows now, and a breach if its version fell below `before`, the version that it had.
 pub fn see(alloc: Global, net: &mut Net, bot: u16, before: u32) -> Result<(), NoMemory> {
     let Some(Place::Linked(link)) = net.bots.get(usize::from(bot)) else {
         return Ok(());

@@ -1,4 +1,4 @@
-// Steps that take a bot's disks.
+// Steps that use a bot's disks.
 ghost use Rattle.std.specs.Prelude.{◌<◌, ◌≤◌, IfOk, OnOk};
 ghost use Rattle.storage.specs.State.{IsSettled};
 ghost use Rattle.disks.specs.Memory.{state_of};
@@ -15,7 +15,7 @@ use disks::{MemDisk, Tear};
 use std::alloc::Global;
 use std::mem;
 
-/// `plan B DISK CALL TEAR`
+/// Plays `plan B DISK CALL TEAR`, where B is `bot` and `rest` the other words.
 pub fn plan(
     alloc: Global,
     net: &mut Net,
@@ -48,7 +48,7 @@ fn fail(disks: &mut Disks<MemDisk>, disk: &[u8], call: u64, tear: Tear) -> Resul
     Ok(())
 }
 
-// Which call fails, from 1.
+// Reads which call fails, from 1.
 fn call_of(word: &[u8]) -> Result<u64, CaseError>
     ensures { IfOk result (λ call. 0 < call) }
 {
@@ -67,7 +67,7 @@ fn tear_of(word: &[u8]) -> Result<Tear, CaseError> {
     }
 }
 
-/// `planread B DISK`
+/// Plays `planread B DISK`, where B is `bot` and DISK is `disk`.
 pub fn plan_read(
     alloc: Global,
     net: &mut Net,
@@ -82,7 +82,7 @@ pub fn plan_read(
     Ok(see(alloc, net, bot, before)?)
 }
 
-// Each disk is read once where a link is opened, so the read after that one is a restart's.
+// Opening a link reads each disk once, so the second read is a restart's.
 fn misread(disks: &mut Disks<MemDisk>, disk: &[u8]) -> Result<(), CaseError>
     requires first { IsSettled (state_of disks.old.first) }
     requires second { IsSettled (state_of disks.old.second) }
@@ -97,7 +97,7 @@ fn misread(disks: &mut Disks<MemDisk>, disk: &[u8]) -> Result<(), CaseError>
     Ok(())
 }
 
-/// `hold B FIRST SECOND`
+/// Plays `hold B FIRST SECOND`, where B is `bot` and `rest` the other words.
 pub fn hold(
     alloc: Global,
     net: &mut Net,
@@ -110,7 +110,7 @@ pub fn hold(
     Ok(see(alloc, net, bot, 0)?)
 }
 
-/// `stop B FIRST SECOND DISK CALL TEAR`
+/// Plays `stop B FIRST SECOND DISK CALL TEAR`, where B is `bot` and `rest` the other words.
 pub fn stop(
     alloc: Global,
     net: &mut Net,
@@ -129,7 +129,7 @@ pub fn stop(
     Ok(see(alloc, net, bot, 0)?)
 }
 
-/// `again B`
+/// Plays `again B`, where B is `bot`.
 pub fn again(alloc: Global, net: &mut Net, bot: u16, out: &mut Vec<u8>) -> Result<(), CaseError> {
     let before = version_of(net, bot);
     let disks = taken(alloc, net, bot);
@@ -137,7 +137,7 @@ pub fn again(alloc: Global, net: &mut Net, bot: u16, out: &mut Vec<u8>) -> Resul
     Ok(see(alloc, net, bot, before)?)
 }
 
-// Two disks that hold the bytes of two words.
+// Makes two disks that hold the bytes of the two words in `rest`.
 fn held(alloc: Global, rest: &[u8]) -> Result<Disks<MemDisk>, CaseError>
     ensures first { IfOk result (λ disks. IsSettled (state_of disks.first)) }
     ensures second { IfOk result (λ disks. IsSettled (state_of disks.second)) }
@@ -162,7 +162,7 @@ fn disk_of(alloc: Global, word: &[u8]) -> Result<MemDisk, CaseError>
     Ok(MemDisk::holding(alloc, bytes)?)
 }
 
-// The version that a bot shows.
+// Returns the version that `bot` shows, or 0 if it has no link.
 fn version_of(net: &Net, bot: u16) -> u32 {
     match net.bots.get(usize::from(bot)) {
         Some(Place::Linked(link)) => link.version(),
@@ -170,7 +170,7 @@ fn version_of(net: &Net, bot: u16) -> u32 {
     }
 }
 
-// A bot's disks as a crash leaves them; empty ones of a bot that there isn't. The bot is left with empty ones.
+// Takes the disks of `bot` as a crash leaves them, and leaves it empty ones. Returns empty ones if no such bot exists.
 fn taken(alloc: Global, net: &mut Net, bot: u16) -> Disks<MemDisk>
     ensures first { IsSettled (state_of result.first) }
     ensures second { IsSettled (state_of result.second) }
@@ -185,7 +185,7 @@ fn taken(alloc: Global, net: &mut Net, bot: u16) -> Disks<MemDisk>
     }
 }
 
-// Opens a bot's link on these disks.
+// Opens the link of `bot` on `disks`.
 fn open(
     alloc: Global,
     net: &mut Net,
@@ -205,7 +205,7 @@ fn open(
     Ok(())
 }
 
-// What a bot of the net has after it was opened on these disks.
+// Opens a bot of the net on `disks`, and returns what it has then.
 fn place_on(
     alloc: Global,
     leaves: &Leaves,

@@ -15,7 +15,7 @@ use std::alloc::Global;
 use std::marker::Model;
 use storage::Disk;
 
-/// How many leaves a net has: at most as many as a hub may have.
+/// How many leaves a net has: at most `MAX_LEAVES`.
 #[derive(Drop)]
 pub struct Leaves {
     count: u16,
@@ -36,7 +36,7 @@ impl Leaves {
     ghost use Rattle.std.specs.Prelude.{◌≡◌, ◌≤◌};
     ghost use Rattle.linkcalls.specs.declared.TheConstants.{MAX_LEAVES};
 
-    /// So many, where a hub may have them.
+    /// Makes a count of `count` leaves. Returns `NO_STEP` above `MAX_LEAVES`.
     pub fn new(count: u16) -> Result<Leaves, CaseError> {
         if count > MAX_LEAVES {
             return Err(NO_STEP);
@@ -44,7 +44,7 @@ impl Leaves {
         Ok(Leaves { count })
     }
 
-    /// How many.
+    /// Returns the number of leaves.
     pub fn count(&self) -> u16
         ensures count { result ≡ self.now }
         ensures few { result ≤ MAX_LEAVES }
@@ -53,7 +53,7 @@ impl Leaves {
     }
 }
 
-/// A packet whose records have a spelling each, as those of a packet that was sent, or read from bytes.
+/// A packet whose records each have a spelling: one that was sent or read from bytes.
 #[derive(Drop)]
 pub struct Good {
     packet: Packet,
@@ -75,7 +75,7 @@ impl Good {
     ghost use Rattle.sharewire.specs.Frames.{IsGoodPacket};
     ghost use Rattle.linkcalls.specs.Shapes.{HasGoodRecords};
 
-    /// A copy of this packet, which was read from bytes.
+    /// Copies `packet`, which was read from bytes.
     #[tactic(auto, using(crate::proofs::Shapes::good_records))]
     pub fn read(alloc: Global, packet: &Packet) -> Result<Good, NoMemory>
         requires { IsGoodPacket packet.now }
@@ -83,7 +83,7 @@ impl Good {
         Good::copy_of(alloc, packet)
     }
 
-    /// A copy of this packet.
+    /// Copies `packet`.
     pub fn copy_of(alloc: Global, packet: &Packet) -> Result<Good, NoMemory>
         requires { HasGoodRecords packet.now }
     {
@@ -92,7 +92,7 @@ impl Good {
         })
     }
 
-    /// The packet.
+    /// Returns the packet.
     pub fn packet(&self) -> &Packet
         ensures { HasGoodRecords result.now }
     {
@@ -109,7 +109,7 @@ pub struct Sent {
     pub packet: Good,
 }
 
-/// A bot's link, or its disks where no link could be opened on them.
+/// A bot's link, or its disks if no link could be opened on them.
 #[derive(Drop)]
 pub enum Place {
     /// The link.
@@ -125,14 +125,14 @@ pub struct Net {
     pub leaves: Leaves,
     /// The bots, by their numbers.
     pub bots: Vec<Place>,
-    /// The packets that were ever sent, in order.
+    /// All packets that were ever sent, in order.
     pub packets: Vec<Sent>,
     /// What was seen of the bots' versions and records.
     pub seen: Seen,
 }
 
 impl Net {
-    /// A hub and these leaves, none of which was ever used.
+    /// Creates a hub and these `leaves`, all of them new.
     pub fn new(alloc: Global, leaves: Leaves) -> Result<Net, NoMemory> {
         let mut bots = Vec::new(alloc);
         let count = leaves.count();
@@ -148,7 +148,7 @@ impl Net {
     }
 }
 
-// A bot that was never used.
+// Creates a new bot.
 fn new_bot(alloc: Global, number: u16, leaves: u16) -> Result<Place, NoMemory>
     requires numbered { number ≤ leaves }
     requires few { leaves ≤ MAX_LEAVES }
@@ -161,7 +161,7 @@ fn new_bot(alloc: Global, number: u16, leaves: u16) -> Result<Place, NoMemory>
     }
 }
 
-// The disks on which no link was made, unless memory ran out.
+// Returns the disks on which no link was made, or `NoMemory` if memory ran out.
 fn kept_disks(returned: Returned<MemDisk>) -> Result<Disks<MemDisk>, NoMemory> {
     match returned.error {
         Failure::Refused(_) => Ok(returned.disks),
@@ -169,7 +169,7 @@ fn kept_disks(returned: Returned<MemDisk>) -> Result<Disks<MemDisk>, NoMemory> {
     }
 }
 
-/// What a crash leaves of a bot's disks.
+/// Takes the disks from `place`, as a crash leaves them.
 pub fn disks_of(place: Place) -> Disks<MemDisk>
     ensures first { IsSettled (state_of result.first) }
     ensures second { IsSettled (state_of result.second) }

@@ -14,7 +14,7 @@ use scriptwords::change_of;
 use sharewire::{Packet, WireReader};
 use std::alloc::Global;
 
-/// What the steps of a text answer.
+/// Plays the steps of the text `input`, and returns what they answer.
 pub fn play_all(alloc: Global, input: &[u8]) -> Result<Vec<u8>, Stop> {
     let mut out = Vec::new(alloc);
     let mut net = match no_leaves(alloc) {
@@ -132,7 +132,7 @@ fn play_at(
     }
 }
 
-// `ask B CHANGE`
+// Plays `ask B CHANGE`.
 fn ask(
     alloc: Global,
     net: &mut Net,
@@ -146,13 +146,13 @@ fn ask(
     }
 }
 
-// `leaves N`
+// Plays `leaves N`.
 fn begin(alloc: Global, net: &mut Net, count: u16) -> Result<(), CaseError> {
     *net = Net::new(alloc, Leaves::new(count)?)?;
     Ok(())
 }
 
-// `check`
+// Plays `check`.
 fn check(net: &Net, out: &mut Vec<u8>) -> Result<(), CaseError> {
     let breaches = net.seen.breaches();
     put(
@@ -166,7 +166,7 @@ fn check(net: &Net, out: &mut Vec<u8>) -> Result<(), CaseError> {
     Ok(())
 }
 
-// `deliver K`
+// Plays `deliver K`.
 fn deliver(
     alloc: Global,
     net: &mut Net,
@@ -183,7 +183,7 @@ fn deliver(
     Ok(put(out, b"world O3\n")?)
 }
 
-// `give B FRAME`
+// Plays `give B FRAME`.
 fn give(
     alloc: Global,
     net: &mut Net,
@@ -200,7 +200,7 @@ fn give(
     Ok(())
 }
 
-// The packets that these bytes begin with.
+// Reads the packets that `bytes` begin with.
 fn packets_in(alloc: Global, bytes: &[u8]) -> Result<Seq<Packet>, NoMemory>
     ensures { IfOk result (λ packets. AllByRecursion IsGoodPacket packets) }
 {
@@ -209,7 +209,7 @@ fn packets_in(alloc: Global, bytes: &[u8]) -> Result<Seq<Packet>, NoMemory>
     Ok(feed.packets)
 }
 
-// `show B`
+// Plays `show B`.
 fn show(alloc: Global, net: &Net, bot: u16, out: &mut Vec<u8>) -> Result<(), CaseError> {
     let Some(Place::Linked(link)) = net.bots.get(usize::from(bot)) else {
         return Ok(put(out, b"world O2\n")?);

@@ -5,19 +5,19 @@ use linkcalls::{Note, Packet};
 use std::alloc::Global;
 use userfile::{Ban, User, Userfile};
 
-/// A text.
+/// Appends `text`.
 pub fn put(out: &mut Vec<u8>, text: &[u8]) -> Result<(), NoMemory> {
     out.extend_from_slice(text)?;
     Ok(())
 }
 
-/// A number in base ten.
+/// Appends `number` in base ten.
 pub fn put_number(out: &mut Vec<u8>, number: u64) -> Result<(), NoMemory> {
     let mut buffer = Buffer::new();
     put(out, buffer.format(number).as_bytes())
 }
 
-/// A word and a number, each with a space before it.
+/// Appends `word` and `number`, each with a space before it.
 pub fn put_counted(out: &mut Vec<u8>, word: &[u8], number: u64) -> Result<(), NoMemory> {
     put_word(out, word)?;
     put(out, b" ")?;
@@ -29,7 +29,7 @@ fn put_word(out: &mut Vec<u8>, word: &[u8]) -> Result<(), NoMemory> {
     put(out, word)
 }
 
-/// `B WORD CODE`
+/// Appends the line `B WORD CODE`: the number of `bot`, `word` and `code`.
 pub fn put_code(out: &mut Vec<u8>, bot: u16, word: &[u8], code: &str) -> Result<(), NoMemory> {
     put_number(out, u64::from(bot))?;
     put_word(out, word)?;
@@ -37,7 +37,7 @@ pub fn put_code(out: &mut Vec<u8>, bot: u16, word: &[u8], code: &str) -> Result<
     put(out, b"\n")
 }
 
-/// What came of a call, after the bot's number.
+/// Appends what came of a call, as `note` has it. The bot's number stands before it.
 pub fn put_note(out: &mut Vec<u8>, note: &Note) -> Result<(), NoMemory> {
     match note {
         Note::Queued => put_word(out, b"Queued"),
@@ -67,7 +67,7 @@ pub fn put_note(out: &mut Vec<u8>, note: &Note) -> Result<(), NoMemory> {
     }
 }
 
-/// A packet, with a space before it.
+/// Appends `packet`, with a space before it.
 pub fn put_packet(out: &mut Vec<u8>, packet: &Packet) -> Result<(), NoMemory> {
     match packet {
         Packet::Hello { version, .. } => put_counted(out, b"Hello", u64::from(*version)),
@@ -107,7 +107,7 @@ pub fn put_packet(out: &mut Vec<u8>, packet: &Packet) -> Result<(), NoMemory> {
     }
 }
 
-/// The records, a line for each user and each ban, and one more for an info and for a mark.
+/// Writes the records of `userfile`: a line for each user and each ban, and one more for an info and for a mark.
 pub fn records_text(alloc: Global, userfile: &Userfile) -> Result<Vec<u8>, NoMemory> {
     let mut out = Vec::new(alloc);
     for place in 0..userfile.user_count() {
@@ -167,7 +167,7 @@ fn put_ban(out: &mut Vec<u8>, ban: &Ban) -> Result<(), NoMemory> {
     put(out, b"\n")
 }
 
-// The channel of a ban, or `*` of a global one.
+// Appends the channel of a ban, or `*` if the ban is global.
 fn put_channel(out: &mut Vec<u8>, ban: &Ban) -> Result<(), NoMemory> {
     put_word(
         out,

@@ -18,7 +18,7 @@ pub struct Seen {
 }
 
 impl Seen {
-    /// Nothing.
+    /// Starts with nothing seen.
     pub fn nothing(alloc: Global) -> Seen {
         Seen {
             versions: Vec::new(alloc),
@@ -26,12 +26,12 @@ impl Seen {
         }
     }
 
-    /// What breaks the promise: a line for each breach.
+    /// Returns what breaks the promise, a line for each breach.
     pub fn breaches(&self) -> &[u8] {
         &self.breaches
     }
 
-    /// Takes a bot's version and records in.
+    /// Notes that `bot` has `records` at version `number`, and a breach if another bot had other records there.
     pub fn note(&mut self, bot: u16, number: u32, records: Vec<u8>) -> Result<(), NoMemory> {
         match self
             .versions
@@ -48,7 +48,7 @@ impl Seen {
         Ok(())
     }
 
-    /// Takes in that a bot's version went back to this one.
+    /// Notes the breach that `bot` did `what` at version `number`, such as ` went back to `.
     pub fn note_breach(&mut self, bot: u16, what: &[u8], number: u32) -> Result<(), NoMemory> {
         put_number(&mut self.breaches, u64::from(bot))?;
         self.breaches.extend_from_slice(what)?;

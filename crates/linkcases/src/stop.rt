@@ -4,7 +4,7 @@ use std::io;
 use std::io::ErrorKind;
 use thiserror::Error;
 
-/// Why a line is no step: its first word names none, or what follows isn't what the step takes.
+/// The reason why a line is no step: its first word names none, or the words after it don't fit the step.
 #[derive(Clone, Copy, Debug, Error)]
 #[error("no such step")]
 pub struct NoStep;
@@ -27,13 +27,13 @@ pub enum Stop {
     /// The input can't be read, or the answers can't be written.
     #[error("reading or writing failed")]
     Stream,
-    /// A growth was refused.
+    /// An allocation failed.
     #[error("out of memory: free some and try again")]
     NoMemory,
 }
 
 impl Stop {
-    /// The status that the program ends with.
+    /// Returns the status that the program ends with.
     pub fn status(self) -> u8 {
         match self {
             Stop::TooLong | Stop::NoStep(_) => 1,
@@ -42,7 +42,7 @@ impl Stop {
         }
     }
 
-    /// Why this line ended the program.
+    /// Returns the stop for an `error` at `line`.
     pub fn at(line: usize, error: CaseError) -> Stop {
         match error {
             CaseError::Refused(_) => Stop::NoStep(line),

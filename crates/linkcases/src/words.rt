@@ -5,7 +5,7 @@ use hex::FromHexError;
 use std::alloc::Global;
 use std::str::FromStr;
 
-/// What stands before the first space, and what stands after it.
+/// Splits `text` at its first space, which belongs to neither part.
 pub fn cut(text: &[u8]) -> (&[u8], &[u8]) {
     match text.iter().position(|byte| *byte == b' ') {
         Some(end) => (&text[..end], &text[end + 1..]),
@@ -13,7 +13,7 @@ pub fn cut(text: &[u8]) -> (&[u8], &[u8]) {
     }
 }
 
-/// The bytes that a word spells in hexadecimal.
+/// Decodes `word`, which spells bytes in hexadecimal.
 pub fn bytes_of(alloc: Global, word: &[u8]) -> Result<Vec<u8>, CaseError> {
     if let b"-" = word {
         return Ok(Vec::new(alloc));
@@ -25,7 +25,7 @@ pub fn bytes_of(alloc: Global, word: &[u8]) -> Result<Vec<u8>, CaseError> {
     }
 }
 
-/// The number that a word spells.
+/// Reads the number that `word` spells.
 pub fn number<T: FromStr>(word: &[u8]) -> Result<T, CaseError>
 where
     T::Err: Drop,

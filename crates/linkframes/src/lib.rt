@@ -1,8 +1,8 @@
-//! Packets over a connection: from its frames, and as frames.
+//! Packets over a connection: read from its frames, and written as frames.
 //!
-//! A [`FrameReader`] reads the frames of a connection from its first byte on, whatever pieces they come in. Each packet
-//! that it answers was read from a frame, so its records are of good shape, which is what a bot's step asks of them.
-//! [`frame_of`] is the other way.
+//! A [`FrameReader`] reads the frames of a connection from its first byte on, in pieces of any size. Each packet that
+//! it returns was read from a frame, so its records are of good shape, which a bot's step requires. [`frame_of`]
+//! returns the frame of a packet.
 //!
 //! ```text
 //! let feed = reader.feed(alloc, piece)?;              // the packets that are whole now, and the fault after them

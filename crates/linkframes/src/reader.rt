@@ -4,13 +4,13 @@ use sharewire::{Feed, WireReader};
 use std::alloc::Global;
 use std::marker::Model;
 
-/// Reads the frames of a connection from its first byte on: so each packet that it answers has a frame. Contracts see
-/// how the stream ends so far, as of a [`WireReader`].
+/// Reads the frames of a connection from its first byte on, so each packet that it returns has a frame. Contracts see
+/// how the stream ends so far, as for a [`WireReader`].
 pub struct FrameReader {
     reader: WireReader,
 }
 
-// By hand, so that this is proved once.
+// Written by hand, so that the drop is proved once.
 impl Drop for FrameReader {
     fn drop(self) {
         let FrameReader { reader: _ } = self;
@@ -35,7 +35,7 @@ impl FrameReader {
     ghost use Rattle.linkcalls.specs.Shapes.{HasGoodRecords};
     ghost use Rattle.linkframes.specs.Streams.{TellsOn};
 
-    /// A reader before the first byte. Takes no memory.
+    /// Creates a reader for a connection from which no byte was read yet. Allocates nothing.
     pub fn new(alloc: Global) -> FrameReader
         ensures empty { result ≡ Ok [] }
         ensures told { Tells [] [] result }
@@ -45,17 +45,18 @@ impl FrameReader {
         }
     }
 
-    /// The packets whose frames end in these bytes, and the fault after them if there is one.
+    /// Reads `bytes`, and returns the packets whose frames end in them, and the fault after those if there is one.
     ///
     /// # Errors
-    /// `NoMemory` where a growth is refused: never where no bytes come, nor after a fault. The reader is then as before.
+    /// `NoMemory` if an allocation fails: never if `bytes` is empty, nor after a fault. The reader is then as before.
     pub fn feed(&mut self, alloc: Global, bytes: &[u8]) -> Result<Feed, NoMemory>
-        // Of any stream that has told these packets so far, the packets go on with those of the answer.
+        // For any stream that contains the packets read so far, that stream and then `bytes` contain those packets and
+        // then the returned ones.
         ensures told { TellsOn bytes.now self.old self.new result }
         ensures fault { IfOk result (λ feed. feed.fault ≡ fault_told self.old self.new) }
         ensures good { IfOk result (λ feed. AllByRecursion HasGoodRecords feed.packets) }
         ensures memory { OnErr result (0 < length bytes.now) }
-        // A reader that has failed takes no memory, and stays so.
+        // A reader that has failed allocates nothing, and stays so.
         ensures failed { IsErr self.old → IsOk result }
         ensures stays { IsErr self.old → self.new ≡ self.old }
         ensures unchanged { OnErr result (self.new ≡ self.old) }

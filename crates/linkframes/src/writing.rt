@@ -9,11 +9,11 @@ use sharewire::{MAX_PART_RECORDS, Packet, is_bot_text, write_packet};
 use std::alloc::Global;
 use userfile::shape;
 
-/// The frame of a packet, as [`write_packet`] spells it; none where it has none: of layout 0, of a change whose shape is
-/// bad, of more than eight records, of a text that may not be told.
+/// Returns the frame of `packet`, as [`write_packet`] writes it. Returns `None` if the packet has no frame: its layout
+/// is 0, its change has a bad shape, it has more than eight records, or its text may not be sent.
 ///
 /// # Errors
-/// `NoMemory` where room for it is refused: never where it has none.
+/// `NoMemory` if an allocation fails: never if the packet has no frame.
 pub fn frame_of(alloc: Global, packet: &Packet) -> Result<Option<Vec<u8>>, NoMemory>
     requires good { HasGoodRecords packet.now }
     ensures given { IfOk result (λ given. IsGiven packet.now given) }
@@ -25,8 +25,8 @@ pub fn frame_of(alloc: Global, packet: &Packet) -> Result<Option<Vec<u8>>, NoMem
     Ok(Some(write_packet(alloc, packet)?))
 }
 
-// Whether a packet can be written: its layout is not 0, its change is of good shape, its records are few, and its text is
-// one that may be told.
+// Whether a packet can be written: its layout is not 0, its change is of good shape, it has few enough records, and
+// its text may be sent.
 fn has_frame(packet: &Packet) -> bool
     requires good { HasGoodRecords packet.now }
     ensures { IsTrue result ↔ CanBeWritten packet.now }

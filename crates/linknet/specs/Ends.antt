@@ -1,4 +1,4 @@
--- A bot's end of the link, be it the hub's or a leaf's, and its calls as rows of one kind.
+-- A bot's end of the link, the hub's or a leaf's, and its calls as rows of one kind.
 use Rattle.std.specs.Prelude.{ℕ, zero, suc, Bool, List, take}
 use Rattle.userfile.specs.Records.{Records}
 use Rattle.userfile.specs.declared.change.Change.{Change as UserChange}
@@ -32,7 +32,7 @@ abbrev pub end_is_down : End → Bool
 end_is_down (AtHub hub) = hub.down
 end_is_down (AtLeaf leaf) = leaf.down
 
--- the asks that wait
+-- the waiting asks
 abbrev pub end_asks : End → List UserChange
 end_asks (AtHub hub) = hub.loose
 end_asks (AtLeaf leaf) = leaf.loose.waiting
@@ -42,7 +42,7 @@ abbrev pub with_asks : End → List UserChange → End
 with_asks (AtHub hub) asks = AtHub (record hub { loose = asks })
 with_asks (AtLeaf leaf) asks = AtLeaf (record leaf { loose = record leaf.loose { waiting = asks } })
 
--- the end with its oldest asks alone, at most so many
+-- the end with only its oldest asks, at most this number
 abbrev pub with_oldest : End → ℕ → End
 with_oldest end count = with_asks end (take count (end_asks end))
 
@@ -55,14 +55,14 @@ of_hub row = record { told = row.told; sends = row.sends; after = AtHub row.afte
 abbrev pub of_leaf : Row Leaf → Row End
 of_leaf row = record { told = row.told; sends = row.sends; after = AtLeaf row.after }
 
--- the bot of this number, of a net of so many leaves
+-- the bot of this number, in a net of `leaves` leaves
 module _ (leaves number : ℕ) (how : How) where
-  -- what it is told to do
+  -- the row of an event at the bot
   abbrev pub end_did : End → Event → Row End
   end_did (AtHub hub) event = of_hub (hub_event leaves how hub event)
   end_did (AtLeaf leaf) event = of_leaf (leaf_event leaves how number leaf event)
 
-  -- a packet that it takes
+  -- the row of a packet that the bot takes
   abbrev pub end_received : End → Packet → Row End
   end_received (AtHub hub) packet = of_hub (hub_received leaves how hub packet)
   end_received (AtLeaf leaf) packet = of_leaf (leaf_received leaves number how leaf packet)

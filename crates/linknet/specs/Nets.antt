@@ -27,7 +27,7 @@ leaf_ends (leaf ∷ leaves) = AtLeaf leaf ∷ leaf_ends leaves
 abbrev pub ends_of : Net → List End
 ends_of net = AtHub net.hub ∷ leaf_ends net.leaves
 
--- these ends, and the packets that were ever sent, are what this sound moment of history left
+-- these ends, and the packets that were ever sent, are the state after this sound moment of history
 pub record IsMoment (ends : List End) (packets : List Sent) (h : History) : Type 0 where
   pub net : Net
   pub ends_are : ends ≡ ends_of net
@@ -47,7 +47,7 @@ IsShaped (Refused leaf request fault) = Unit {0}
 IsShaped (BotText from to text) = Unit {0}
 IsShaped (Part version part count items) = AllByRecursion HasShape items
 
--- a hub and so many leaves; each end shows the records that its version means, and is not ahead of what was accepted; each
+-- a hub and its leaves; each end shows the records that its version means, and is not ahead of what was accepted; each
 -- part that was ever sent is of good shape
 pub record Shows (ends : List End) (packets : List Sent) (h : History) : Type 0 where
   pub many : length ends ≡ h.count + 1
@@ -67,21 +67,21 @@ pub record Keeps (before after : List End) : Type 0 where
 
 -- ---- a call
 
--- the hub told that this version was reached: it accepted a change, or a restart found that it had
+-- the hub reported that this version was reached: it accepted a change, or a restart found that it had
 abbrev pub TellsReached : ℕ → ℕ → Result Note LinkFault → Type 0
 TellsReached version bot told = (bot ≡ 0) × ((told ≡ Ok (Accepted version)) ⊎ (told ≡ Ok (Restarted version)))
 
--- the accepted changes grow just as it is told
+-- the accepted changes grow exactly as the call reports
 pub record MovesAsTold (before after : List AcceptedChange) (bot : ℕ) (told : Result Note LinkFault) : Type 0 where
-  -- they stay, or there is one more, and the call told so
+  -- they stay, or there is one more, and the call reported it
   pub stay_or_grow : (after ≡ before)
       ⊎ ((entry : AcceptedChange) × (after ≡ before ++ entry ∷ []) × TellsReached (length before + 1) bot told)
-  -- where the hub tells that it accepted a change there is one more, of the number that it tells
+  -- if the hub reports that it accepted a change, there is one more, with the number that it reports
   pub accepted : (number : ℕ) → bot ≡ 0 → told ≡ Ok (Accepted number) → (number ≡ length before + 1) × (length after ≡ number)
-  -- where the hub tells that it restarted there are as many as it tells
+  -- if the hub reports that it restarted, the number of changes is the version that it reports
   pub restarted : (version : ℕ) → bot ≡ 0 → told ≡ Ok (Restarted version) → length after ≡ version
 
--- what the call of one bot leaves, which is this row, is a moment that history grew into
+-- what one bot's call leaves, according to this row, is a moment that history grew into
 pub record Follows (h : History) (bot : ℕ) (row : Row End) (ends : List End) (packets : List Sent) : Type 0 where
   pub after : History
   pub moment : IsMoment ends packets after

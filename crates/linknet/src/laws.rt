@@ -8,8 +8,9 @@ ghost use Rattle.protocol.specs.History.{History, start, Grows};
 ghost use Rattle.linknet.specs.Ends.{End, new_end, end_did, end_received};
 ghost use Rattle.linknet.specs.Nets.{IsMoment, Shows, Keeps, RowFollows};
 
-/// The laws of the sharing link for whoever holds all ends in one list, the hub's first, and the list of the packets that
-/// were ever sent. It does nothing: what it ensures holds of any ends and packets that a moment of history left.
+/// The laws of the sharing link for a caller that holds all ends in one list, the hub's first, and the list of the
+/// packets that were ever sent. The function does nothing: its clauses hold for any ends and packets that a moment of
+/// history left.
 pub fn laws_of_ends()
     // Ends that were never used are such a moment: the first.
     ensures begins { (count : ℕ) (ends : List End) → length ends ≡ count + 1
@@ -17,11 +18,11 @@ pub fn laws_of_ends()
         → IsMoment ends [] (start count) }
     // Each end shows the records that its version means, and each part that was ever sent is of good shape.
     ensures shows { (ends : List End) (packets : List Sent) (h : History) → IsMoment ends packets h → Shows ends packets h }
-    // One bot does what it is told, however its device works: that leaves such a moment, into which history grew.
+    // One event at a bot, however its device works, leaves such a moment, into which history grew.
     ensures did { (ends : List End) (packets : List Sent) (h : History) → IsMoment ends packets h
         → (leaves bot : ℕ) (end : End) (how : How) (event : Event) → leaves ≡ h.count → slice_get ends bot ≡ Some end
         → RowFollows h ends packets bot (end_did leaves bot how end event) }
-    // So does the bot to which a packet was sent that takes it, now or again.
+    // So does a bot that takes a packet that was sent to it, for the first time or again.
     ensures received { (ends : List End) (packets : List Sent) (h : History) → IsMoment ends packets h
         → (leaves number : ℕ) (sent : Sent) (end : End) (how : How) → leaves ≡ h.count → item_at packets number ≡ Some sent
         → slice_get ends sent.to ≡ Some end

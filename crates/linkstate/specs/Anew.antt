@@ -1,4 +1,4 @@
--- Putting the state alone into an older journal that was opened, before its end answers.
+-- Rewriting an older journal that was opened, with the state alone, before its end returns.
 use Rattle.std.specs.Prelude.{◌≡◌, ◌⊎◌, ◌-◌, ◌^◌, List, ℕ, Some, Result, Ok, Err}
 use Rattle.bytetext.specs.declared.failure.Failure.{Failure}
 use Rattle.bytetext.specs.declared.failure.Failure.TheVariants.{Refused, NoMemory}
@@ -10,7 +10,7 @@ use Rattle.bytejournal.specs.declared.opening.Returned.{Returned}
 use Rattle.botjournal.specs.Contents.{Contents, meaning}
 use Rattle.botjournal.specs.Ledger.{Ledger, Pending, Device, Failed, AtEachMoment, device_on, written}
 
--- what the journal is refused for where a disk failed
+-- the journal's error when a disk failed
 abbrev pub journal_error : Failure DiskFailed → Failure JournalFault
 journal_error (Refused fault) = Refused DiskFault
 journal_error NoMemory = NoMemory
@@ -19,7 +19,7 @@ journal_error NoMemory = NoMemory
 abbrev pub IsHeldOr : Type 0 → Pending → Contents → List ℕ → List ℕ → Type 0
 IsHeldOr may pending contents x y = (meaning x y ≡ Some contents) ⊎ (may × (meaning x y ≡ Some (written pending contents)))
 
--- why it isn't put anew
+-- why it can't be rewritten
 abbrev pub CannotPut : Ledger → Failure JournalFault → Device → Type 0
 CannotPut ledger (Refused DiskFault) now = Failed ledger.device now
 CannotPut ledger (Refused NotAJournal) now = ⊥
@@ -32,7 +32,7 @@ abbrev pub returned_device : {D : Type 0} → (D → State) → Returned D → D
 returned_device disk returned = device_on (disk returned.disks.first) (disk returned.disks.second)
 
 module _ {D V : Type 0} (disk : D → State) where
-  -- Putting anew what an end keeps, which its journal may take, by cases on the answer.
+  -- Rewriting the journal with what an end keeps, which it may take, by cases on the result.
   abbrev pub PutsAnew : Type 0 → (Device → V) → (V → Device) → Ledger → Result V (Returned D) → Type 0
   PutsAnew may resting device_in ledger (Ok end) = may × (end ≡ resting (device_in end))
   PutsAnew may resting device_in ledger (Err returned) = CannotPut ledger returned.error (returned_device disk returned)

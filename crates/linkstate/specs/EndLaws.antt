@@ -1,4 +1,5 @@
--- The laws of an end's state hold of both ends: what is journaled means the state with the record folded in, which stays one.
+-- The laws of an end's state hold for both ends: a journal with one more record means the state with the record folded
+-- in, and the result is again a state.
 use Rattle.std.proofs.Common.{◌≡◌, ◌==◌, ◌+◌, ◌≤◌, ◌<◌, ℕ, Bool, true, false, nat_lt, if◌then◌else◌, List, [], ◌∷◌, Some, refl, arith, ltb-true}
 use Rattle.std.proofs.lemmas.Bool.{and_parts}
 use Rattle.std.specs.List.{AllByRecursion}
@@ -32,7 +33,7 @@ hub-entry generation hub (Applied number change) found any is at = absurd (cc)
 hub-entry generation hub (ReqOut request change) found any is at = absurd (cc)
 hub-entry generation hub (ReqDone request) found any is at = absurd (cc)
 
--- the state is of the journal's generation
+-- the state has the journal's generation
 pub hub-generation : (leaves : ℕ) (contents : Contents) (hub : HubState) → hub_meaning leaves contents ≡ Some hub
     → hub.generation ≡ contents.generation
 hub-generation leaves contents hub means =
@@ -87,7 +88,7 @@ leaf_writes number contents leaf (Install version records) above is may means =
 leaf_writes number contents leaf Compact above is may means =
     leaf_reads_back number contents leaf Compact means (leaf-generation number contents leaf means) is.records tt
 
--- the requests that are out, with the next one, and without one
+-- the outstanding requests, with the next one, and without one
 good-without : (number : ℕ) (out : List Request) → AllByRecursion IsGoodRequest out → AllByRecursion IsGoodRequest (without number out)
 good-without number [] good = tt
 good-without number (request ∷ out) good = by (request.number == number) (good-without number out good.1)

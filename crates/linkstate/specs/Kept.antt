@@ -11,8 +11,8 @@ use Rattle.protocol.specs.Bots.{counted}
 use Rattle.linkcalls.specs.declared.error.LinkFault.{LinkFault}
 use Rattle.linkcalls.specs.declared.error.LinkFault.TheVariants.{JournalFault, DiskFault as NotRead}
 
--- whose state it is: of the hub how many leaves it has, of a leaf its number; the state that is kept; whether a disk failed since
--- the journal was opened; the record that is in doubt since; and its two disks
+-- whose state it is: of the hub the number of its leaves, of a leaf its own number; the state that is kept; whether a
+-- disk failed since the journal was opened; the record that is in doubt since then; and its two disks
 pub record Kept (S R : Type 0) : Type 0 where
   pub who : ℕ
   pub state : S
@@ -20,7 +20,7 @@ pub record Kept (S R : Type 0) : Type 0 where
   pub doubt : Option R
   pub device : Device
 
--- Writing to a journal that has generations left, by cases on the answer.
+-- Writing to a journal that has generations left, by cases on the result.
 abbrev pub WritesAny : Ledger → Pending → Result (Unit {0}) (Failure DiskFault) → Ledger → Type 0
 WritesAny old pending (Ok _) new = Writes pending old new
 WritesAny old pending (Err (Refused _)) new = FailsAt pending old new
@@ -30,9 +30,9 @@ WritesAny old pending (Err NoMemory) new = new ≡ old
 abbrev pub LeavesWritten : Pending → Ledger → Ledger → Type 0
 LeavesWritten pending old new = (new ≡ old) ⊎ LeavesEither pending old new
 
--- ---- how a journal stands to the state
+-- ---- how a journal relates to the state
 
--- these contents have the present layout, where there are any
+-- these contents have the present layout, if there are any
 abbrev pub IsCurrent : Option Contents → Type 0
 IsCurrent None = Unit {0}
 IsCurrent (Some contents) = contents.layout ≡ LAYOUT
@@ -76,24 +76,25 @@ module _ {S R : Type 0} (state_of : Contents → Option S) (folded : S → R →
   abbrev pub LeavesOwn : S → Option R → Device → Device → Type 0
   LeavesOwn kept doubt before now = AtEachMoment before now (AreOf kept doubt)
 
--- ---- putting the state alone into its journal
+-- ---- rewriting a journal with the state alone
 
--- what becomes of a state by the record that puts it alone into its journal, which it may take
+-- what a state becomes by the record that writes it alone into its journal, which the journal may take
 abbrev pub Renews : {S R : Type 0} → (S → R → Type 0) → (S → R → S) → R → S → S → Type 0
 Renews may folded renewal before kept = may before renewal × (kept ≡ folded before renewal)
 
--- ---- what the calls answer
+-- ---- what the calls return
 
 module _ {S R : Type 0} (folded : S → R → S) where
-  -- Journaling a record, by cases on the answer: it is kept, and counted; or a disk failed, and it is in doubt; or all is as it was.
+  -- Journaling a record, by cases on the result: it is kept, and counted; or a disk failed, and it is in doubt; or all
+  -- is as it was.
   abbrev pub Journals : R → Kept S R → Result (Unit {0}) (Failure LinkFault) → Kept S R → Type 0
   Journals entry old (Ok _) new = new ≡ record old { state = folded old.state entry; device = new.device }
   Journals entry old (Err (Refused fault)) new = (fault ≡ JournalFault)
       × (new ≡ record old { down = true; doubt = Some entry; device = new.device }) × Failed old.device new.device
   Journals entry old (Err NoMemory) new = new ≡ old
 
-  -- A restart, by cases on the answer: the record in doubt doesn't count, or does; else the end is down. What it finds has the present
-  -- layout, as all has that a crash leaves of an end: nothing is put anew.
+  -- A restart, by cases on the result: the record in doubt doesn't count, or does; otherwise the end is down. What it
+  -- finds has the present layout, as has all that a crash leaves of an end: nothing is rewritten.
   abbrev pub Restarts : Kept S R → Result (Unit {0}) (Failure LinkFault) → Kept S R → Type 0
   Restarts old (Ok _) new =
       (new ≡ record old { down = false; doubt = None; device = new.device })

@@ -5,17 +5,17 @@ use Rattle.std.specs.Option.{option_map}
 use Rattle.botjournal.specs.declared.entry.Entry.{Entry}
 use Rattle.protocol.specs.Journals.{read_next, reads, record_if}
 
--- a record that there is
+-- a record that was found
 pub if-some : {R : Type 0} (b : Bool) (given found : R) → record_if b given ≡ Some found → (b ≡ true) × (given ≡ found)
 if-some true given found is = (refl, cc)
 if-some false given found is = absurd (cc)
 
--- nothing is asked of entries
+-- entries have to meet no condition
 pub all-any : (entries : List Entry) → AllByRecursion (λ (entry : Entry). Unit {0}) entries
 all-any [] = tt
 all-any (entry ∷ entries) = (tt, all-any entries)
 
--- what holds of the start, and stays with each record of a good entry
+-- what holds at the start, and still holds after each record of a good entry
 module _ {Kept Record : Type 0} (record_of : Kept → Entry → Option Record) (folded : Kept → Record → Kept)
     (Good : Entry → Type 0) (Is : Kept → Type 0)
     (stays : (kept : Kept) (entry : Entry) (found : Record) → Good entry → record_of kept entry ≡ Some found → Is kept → Is (folded kept found)) where
@@ -37,7 +37,7 @@ module _ {Kept Record : Type 0} (record_of : Kept → Entry → Option Record) (
   reads-well (entry ∷ entries) start good well =
       reads-well entries (read_next record_of folded start entry) good.1 (next-well start entry good.0 well)
 
-  -- holds of what all of them make of it
+  -- holds of the result of all of them
   pub read-well : (may : Bool) (start kept : Kept) (entries : List Entry) → AllByRecursion Good entries → (may ≡ true → Is start)
       → (if may then reads record_of folded (Some start) entries else None) ≡ Some kept → Is kept
   read-well true start kept entries good well is =

@@ -1,4 +1,4 @@
--- What reading a journal's contents and taking one more entry answer, and what a new end keeps.
+-- What reading a journal's contents and taking one more entry return, and what a new end keeps.
 use Rattle.std.specs.Prelude.{◌≡◌, ◌==◌, ◌&&◌, ℕ, suc, Bool, true, false, List, [], slice_get, Option, None, Some, is_some, Result, Ok, Err}
 use Rattle.std.specs.List.{list_all}
 use Rattle.bytetext.specs.declared.failure.Failure.{Failure}
@@ -18,13 +18,13 @@ use Rattle.protocol.specs.LeafRules.{LeafState}
 use Rattle.protocol.specs.Journals.{read_next, reads, stand_together, record_if, hub_of, is_hub_base, is_to_leaf, AreTo, leaf_of, is_leaf_base}
 use Rattle.linkstate.specs.declared.fault.StateFault.{StateFault}
 
--- what is meant is read, and a refusal says that nothing is meant
+-- the result is what the contents mean, and an error says that they mean nothing
 abbrev pub Reads : {Kept : Type 0} → Option Kept → Result Kept (Failure StateFault) → Type 0
 Reads meant (Ok kept) = meant ≡ Some kept
 Reads meant (Err (Refused fault)) = meant ≡ None
 Reads meant (Err NoMemory) = Unit {0}
 
--- the next entry is folded in, or told to be no record of this state; memory runs out only where it is one
+-- the next entry is folded in, or rejected as no record of this state; memory runs out only if it is one
 abbrev pub Takes : {Kept Record : Type 0} → (Kept → Entry → Option Record) → (Kept → Record → Kept) → Kept → Entry
     → Result Unit (Failure StateFault) → Kept → Type 0
 Takes record_of folded old entry (Ok _) new = read_next record_of folded (Some old) entry ≡ Some new
@@ -42,7 +42,7 @@ TakesAll record_of folded old entries (Err NoMemory) new = Unit {0}
 abbrev pub empty_base : ℕ → Base
 empty_base bot = record { bot = bot; version = 0; records = []; replies = []; last_request = 0; out = [] }
 
--- the records of a base, where they stand together in one userfile
+-- the records of a base, if one userfile can hold them together
 abbrev pub sound_records : List UserfileRecord → Option Records
 sound_records items = record_if (stand_together (records_from items)) (records_from items)
 
@@ -51,19 +51,19 @@ abbrev pub contents_in : ℕ → ℕ → Found → Contents
 contents_in layout generation found =
     record { layout = layout; generation = generation; base = found.base; entries = found.entries }
 
--- a hub on a base alone, where the base is a hub's
+-- a hub on a base alone, if the base is a hub's
 abbrev pub hub_on : ℕ → ℕ → Base → Option HubState
 hub_on leaves generation base = record_if (is_hub_base leaves base) (hub_of leaves generation base)
 
--- the base is a hub's, and has replies to no more than so many leaves
+-- the base is a hub's, and has replies to at most this number of leaves
 abbrev pub is_hubs : ℕ → Base → Bool
 is_hubs leaves base = (base.bot == 0) && list_all (is_to_leaf leaves) base.replies
 
--- a leaf on a base alone, where the base is that leaf's
+-- a leaf on a base alone, if the base is that leaf's
 abbrev pub leaf_on : ℕ → ℕ → Base → Option LeafState
 leaf_on number generation base = record_if (is_leaf_base number base) (leaf_of generation base)
 
--- what a hub keeps of a leaf: replies to it, at most eight, whose requests have numbers one after the other
+-- what a hub keeps of a leaf: replies to it, at most eight, whose requests have consecutive numbers
 abbrev pub IsKept : ℕ → List Reply → Type 0
 IsKept leaf kept = AreTo leaf kept × AreInTurn kept
 

@@ -25,7 +25,8 @@ impl Model for AcceptedChange {
 impl AcceptedChange {
     ghost use Rattle.std.specs.Prelude.{◌≡◌};
 
-    /// The change that this bot asked for under this number of its own; both are 0 for the hub's own changes.
+    /// Creates the accepted change of `change`, which the bot `origin` asked for under its own request number
+    /// `request`. Both numbers are 0 for the hub's own changes.
     pub fn new(origin: u16, request: u32, change: Change) -> AcceptedChange
         ensures { result ≡ record { origin = origin; request = request; change = change } }
     {
@@ -36,21 +37,21 @@ impl AcceptedChange {
         }
     }
 
-    /// The bot that asked: 0 for the hub.
+    /// Returns the bot that asked: 0 for the hub.
     pub fn origin(&self) -> u16
         ensures { result ≡ self.now.origin }
     {
         self.origin
     }
 
-    /// The asking leaf's request number: 0 for the hub's own.
+    /// Returns the asking leaf's request number: 0 for the hub's own.
     pub fn request(&self) -> u32
         ensures { result ≡ self.now.request }
     {
         self.request
     }
 
-    /// The change itself.
+    /// Returns the change itself.
     pub fn change(&self) -> &Change
         ensures { result.now ≡ self.now.change }
     {

@@ -1,4 +1,4 @@
-// The next change that a hub accepts, made in memory alone or after its entry in a journal.
+// The next change that a hub accepts, applied in memory alone or after its entry in a journal.
 ghost use Rattle.std.specs.Prelude.{◌≡◌, ◌++◌, ◌∷◌, [], false, None, IfOk, OnOk, OnErr};
 ghost use Rattle.userfile.specs.Apply.{refusal, changed, bad_shape};
 ghost use Rattle.botjournal.specs.declared.TheConstants.{LAYOUT};
@@ -16,7 +16,7 @@ use std::alloc::Global;
 use storage::Disk;
 use userfile::Userfile;
 
-// Makes a change that isn't refused, and puts it after the others.
+// Applies a change that isn't refused, and appends it to the others.
 pub(crate) fn apply_next(
     alloc: Global,
     userfile: &mut Userfile,
@@ -38,7 +38,7 @@ pub(crate) fn apply_next(
     Ok(())
 }
 
-// The entry of an accepted change of good shape.
+// Returns the entry of an accepted change of good shape.
 pub(crate) fn accepted_entry(alloc: Global, accepted: &AcceptedChange) -> Result<Entry, NoMemory>
     requires shape { bad_shape accepted.now.change ≡ None }
     ensures entry { IfOk result (λ entry. entry ≡ Accepted accepted.now.origin accepted.now.request accepted.now.change) }
@@ -55,7 +55,7 @@ pub(crate) fn accepted_entry(alloc: Global, accepted: &AcceptedChange) -> Result
     })
 }
 
-// Journals an entry, makes the change of it, which isn't refused, and puts the change after the others.
+// Journals an entry, applies its change, which isn't refused, and appends the change to the others.
 pub(crate) fn keep_next<D: Disk>(
     alloc: Global,
     userfile: &mut Userfile,

@@ -1,4 +1,4 @@
-// What an end of the link keeps, as the journal that it is kept in sees it.
+// What an end of the link keeps, as its journal sees it.
 ghost use Rattle.std.specs.Prelude.{◌≡◌, ◌≢◌, ◌-◌, ◌^◌, ℕ, Option, Some, false, IfOk, OnOk, OnErr};
 ghost use Rattle.std.specs.List.{AllByRecursion};
 ghost use Rattle.botjournal.specs.declared.TheConstants.{LAYOUT};
@@ -17,12 +17,12 @@ use storage::Disk;
 
 /// What an end of the link keeps over a restart: how it is read from a journal, and what it writes there.
 ///
-/// Whose it is stands as `who` in every call: of the hub how many leaves it has, of a leaf its number.
+/// Each call names the end by `who`: for the hub the number of its leaves, for a leaf its own number.
 pub trait EndState: Drop + Sized {
     /// What it journals, one record a call.
     type Record: Drop;
 
-    /// There is such an end.
+    /// Whether such an end exists.
     ghost is_end: { ℕ → Type 0 };
 
     /// Which bot the journal is of.
@@ -34,41 +34,41 @@ pub trait EndState: Drop + Sized {
     /// What always holds of the state.
     ghost is_state: { ℕ → Self → Type 0 };
 
-    /// What the contents of a journal mean: nothing where they are not the end's.
+    /// What the contents of a journal mean: nothing if they are not the end's.
     ghost meaning: { ℕ → Contents → Option Self };
 
     /// A record that may be journaled in this state.
     ghost may: { Self → Self.Record → Type 0 };
 
-    /// What the journal is given of a record.
+    /// What is written into the journal for a record.
     ghost pending: { ℕ → Self → Self.Record → Pending };
 
     /// The state once a record is kept.
     ghost folded: { Self → Self.Record → Self };
 
-    /// The record that puts the state alone into the journal.
+    /// The record that writes the state alone into the journal.
     ghost renewal: { Self.Record };
 
-    /// Which bot the journal is of.
+    /// Returns the bot that the journal of `who` belongs to.
     fn bot(who: u16) -> u16
         ensures { result ≡ bot who };
 
-    /// The state before the first change, in the first generation of its journal.
+    /// Returns the state of `who` before the first change, in the first generation of its journal.
     ///
     /// # Errors
     /// `NoMemory`.
     fn start(alloc: Global, who: u16) -> Result<Self, NoMemory>
         requires end { is_end who }
         ensures start { IfOk result (λ kept. kept ≡ start who) }
-        // A journal that is made anew means it.
+        // A newly created journal means it.
         ensures means { IfOk result (λ kept. meaning who (new_contents (empty_base (bot who))) ≡ Some kept) }
         ensures state { IfOk result (λ kept. is_state who kept) };
 
-    /// What a journal's base and entries mean, in this generation. They have spellings, as all have that a journal was
-    /// opened with.
+    /// Returns what a journal's `base` and `entries` mean to `who`, in this `generation`. They have spellings, as they
+    /// all have when a journal was opened with them.
     ///
     /// # Errors
-    /// `NotAJournal` where they mean nothing, or `NoMemory`.
+    /// `NotAJournal` if they mean nothing, or `NoMemory`.
     fn read(
         alloc: Global,
         who: u16,
@@ -79,14 +79,15 @@ pub trait EndState: Drop + Sized {
         requires end { is_end who }
         requires good { IsGoodBase base.now }
         requires spelled { AllByRecursion IsGoodEntry entries.now }
-        // In whichever layout they stood.
+        // In any layout that they had.
         ensures reads { (layout : ℕ) → Reads (meaning who (record { layout = layout; generation = generation; base = base.now; entries = entries.now })) result }
         ensures state { IfOk result (λ kept. is_state who kept) };
 
-    /// Journals a record, and then makes the state of it. All memory is taken before the first device call.
+    /// Journals the record `entry` of `who` in `ledger`, and then folds it into the state. It allocates everything
+    /// before the first device call.
     ///
     /// # Errors
-    /// What [`Ledger::append`] is refused for; each leaves the state as it was.
+    /// Those of [`Ledger::append`]; each leaves the state as it was.
     fn write<D: Disk>(
         &mut self,
         alloc: Global,
@@ -105,10 +106,11 @@ pub trait EndState: Drop + Sized {
         ensures folds { OnOk result (self.new ≡ folded self.old entry) }
         ensures stays { OnErr result (self.new ≡ self.old) };
 
-    /// Puts the state alone into its journal, of whichever layout that is, in the next generation and the present layout.
+    /// Writes the state of `who` alone into its journal `ledger`, whichever layout that has, in the next generation and
+    /// the present layout.
     ///
     /// # Errors
-    /// `NoMemory`, where nothing was written, or `DiskFault`; each leaves the state as it was.
+    /// `NoMemory`, when nothing was written, or `DiskFault`; each leaves the state as it was.
     fn renew<D: Disk>(
         &mut self,
         alloc: Global,
@@ -126,11 +128,11 @@ pub trait EndState: Drop + Sized {
         ensures folds { OnOk result (self.new ≡ folded self.old renewal) }
         ensures stays { OnErr result (self.new ≡ self.old) };
 
-    // What a record makes of the contents means what it makes of the state, which stays one.
+    // The contents with a record written mean the state with the record folded in, and that is again a state.
     ghost writes: { (who : ℕ) (contents : Contents) (kept : Self) (entry : Self.Record) → is_end who → is_state who kept
         → may kept entry → meaning who contents ≡ Some kept → meaning who (written (pending who kept entry) contents) ≡ Some (folded kept entry) };
 
-    // What is put into the journal has the present layout.
+    // What is written into the journal has the present layout.
     ghost renews_layout: { (who : ℕ) (contents : Contents) (kept : Self) → (written (pending who kept renewal) contents).layout ≡ LAYOUT };
 
     ghost stays_state: { (who : ℕ) (kept : Self) (entry : Self.Record) → is_state who kept → may kept entry

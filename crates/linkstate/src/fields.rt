@@ -1,5 +1,5 @@
-// What the types of records say of their fields: masks are hostmasks, flags are letters, a moment has eight bytes. These
-// calls change nothing; who writes records down makes them for their clauses.
+// What the types of records say of their fields: masks are hostmasks, flags are letters, a moment has eight bytes.
+// These calls change nothing; the code that writes records makes them for their clauses.
 ghost use Rattle.std.specs.Prelude.{◌≡◌, ◌^◌, true, nat_lt, None};
 ghost use Rattle.std.specs.List.{AllByRecursion, list_all};
 ghost use Rattle.userfile.specs.Shapes.{is_hostmask};
@@ -72,7 +72,7 @@ fn know_entries(entries: &[ChannelFlags])
     }
 }
 
-/// What holds of a change of good shape: it has a spelling. There is nothing to run.
+/// States that `change`, which has a good shape, has a spelling. It does nothing at run time.
 pub fn know_change(change: &Change)
     requires { bad_shape change.now ≡ None }
     ensures { IsGoodChange change.now }

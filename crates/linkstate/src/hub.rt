@@ -21,7 +21,8 @@ use storage::Disk;
 use usercodec::Record;
 use userfile::{Change, ChangeFault, Userfile};
 
-/// What outlives a restart of a hub: its userfile, the changes accepted since the base, and the last replies to each leaf.
+/// What survives a restart of a hub: its userfile, the changes accepted since the base, and the last replies to each
+/// leaf.
 pub struct HubState {
     floor: u32,
     tail: Vec<AcceptedChange>,
@@ -80,10 +81,10 @@ impl HubState {
     ghost use Rattle.linkstate.specs.States.{Reads, Takes, TakesAll, ArePlaced, hub_on, is_hubs, empty_base, is_accepted};
     ghost use Rattle.linkstate.specs.Kept.{WritesAny, LeavesWritten};
 
-    /// A hub with so many leaves before the first change, in the first generation of its journal.
+    /// Creates the state of a hub with `leaves` leaves before the first change, in the first generation of its journal.
     ///
     /// # Errors
-    /// `NoMemory` where room for the places of the replies is refused: never without leaves.
+    /// `NoMemory` if it cannot allocate room for the replies; never without leaves.
     pub fn new(alloc: Global, leaves: u16) -> Result<HubState, NoMemory>
         ensures start { IfOk result (λ hub. hub ≡ (new_hub leaves).kept) }
         ensures empty { IfOk result (λ hub. hub ≡ hub_of leaves 1 (empty_base 0)) }
@@ -100,13 +101,13 @@ impl HubState {
         })
     }
 
-    /// What a journal's base and entries, in this generation, mean to a hub with so many leaves. The base is one that
-    /// has a spelling, as each has that a journal was opened with.
+    /// Returns what a journal's `base` and `entries` mean, in this `generation`, to a hub with `leaves` leaves. The
+    /// base has a spelling, as it has whenever a journal was opened with it.
     ///
     /// # Errors
-    /// `NotAJournal` where they mean nothing: the base is no hub's, has a reply to leaf 0 or to a leaf above the last, or
-    /// records that no userfile holds, or an entry is none that a hub writes in the state before it. Or `NoMemory`, but
-    /// not where the base is no hub's or has such a reply.
+    /// `NotAJournal` if they mean nothing: the base is no hub's, has a reply to leaf 0 or to a leaf above the last, or
+    /// records that no userfile holds, or an entry is one that a hub doesn't write in the state before it. Or
+    /// `NoMemory`, but not if the base is no hub's or has such a reply.
     pub fn read(
         alloc: Global,
         leaves: u16,
@@ -115,10 +116,10 @@ impl HubState {
         entries: &[Entry],
     ) -> Result<HubState, StateError>
         requires good { IsGoodBase base.now }
-        // In whichever layout they stood.
+        // In any layout that they had.
         ensures reads { (layout : _) → Reads (hub_meaning leaves (record { layout = layout; generation = generation; base = base.now; entries = entries.now })) result }
         ensures foreign { is_hubs leaves base.now ≡ false → result ≡ Err (Refused NotAJournal) }
-        // Each leaf has a place for its replies, and each reply is at its leaf's.
+        // Each leaf has a place for its replies, and each reply is at its leaf's place.
         ensures state { IfOk result (λ hub. IsHubState leaves hub) }
         ensures generation { IfOk result (λ hub. hub.generation ≡ generation) }
     {
@@ -129,7 +130,7 @@ impl HubState {
         }
     }
 
-    // A hub on a base alone, in that generation of the journal.
+    // Creates a hub on a base alone, in that generation of the journal.
     fn on_base(
         alloc: Global,
         leaves: u16,
@@ -154,53 +155,53 @@ impl HubState {
         })
     }
 
-    /// The version: how many changes the hub ever accepted.
+    /// Returns the version: how many changes the hub ever accepted.
     pub fn version(&self) -> u32
         ensures { result ≡ version_of self.now }
     {
         self.floor + self.tail.len() as u32
     }
 
-    /// The version of the journal's base. The changes up to it are no longer kept one by one.
+    /// Returns the version of the journal's base. The hub no longer keeps the changes up to it one by one.
     pub fn floor(&self) -> u32
         ensures { result ≡ self.now.floor }
     {
         self.floor
     }
 
-    /// The changes accepted since the journal's base, the oldest first.
+    /// Returns the changes accepted since the journal's base, the oldest first.
     pub fn tail(&self) -> &[AcceptedChange]
         ensures { result.now ≡ self.now.tail }
     {
         self.tail.as_slice()
     }
 
-    /// The userfile at the hub's version.
+    /// Returns the userfile at the hub's version.
     pub fn userfile(&self) -> &Userfile
         ensures { result.now ≡ self.now.records }
     {
         &self.userfile
     }
 
-    /// The last replies to a leaf: none for a bot that is no leaf of the hub.
+    /// Returns the last replies to `leaf`, or `None` if that is no leaf of the hub.
     pub fn replies_to(&self, leaf: u16) -> Option<&LeafReplies>
         ensures { option_copied result ≡ item_at self.now.replies leaf }
     {
         replies_at(self.replies.as_slice(), leaf)
     }
 
-    /// The journal's generation.
+    /// Returns the journal's generation.
     pub fn generation(&self) -> u32
         ensures { result ≡ self.now.generation }
     {
         self.generation
     }
 
-    /// Folds in the entry that the journal has next.
+    /// Folds in `entry`, the next one in the journal.
     ///
     /// # Errors
-    /// `NotAJournal` where it is none that a hub writes in this state, or `NoMemory`, which only an accepted change
-    /// wants. Both leave the state as it was.
+    /// `NotAJournal` if it is one that a hub doesn't write in this state, or `NoMemory`, which only an accepted change
+    /// can cause. Both leave the state as it was.
     pub fn take(&mut self, alloc: Global, entry: &Entry) -> Result<(), StateError>
         ensures takes { Takes hub_record hub_folded self.old entry.now result self.new }
         ensures memory { result ≡ Err no_memory → is_accepted entry.now ≡ true }
@@ -273,8 +274,8 @@ impl HubState {
         Ok(())
     }
 
-    // Journals a change that isn't refused as the next one, and makes it. All memory is taken before the journal's first
-    // device call. The change is the next request of the leaf that asked for it, or the hub's own.
+    // Journals a change that isn't refused as the next one, and applies it. It allocates everything before the
+    // journal's first device call. The change is the next request of the leaf that asked for it, or the hub's own.
     pub(crate) fn accept_next<D: Disk>(
         &mut self,
         alloc: Global,
@@ -311,7 +312,7 @@ impl HubState {
         }
     }
 
-    // Journals that a leaf's next request is refused, and keeps that as the reply to it.
+    // Journals that a leaf's next request is rejected, and keeps that as the reply to it.
     pub(crate) fn refuse_next<D: Disk>(
         &mut self,
         alloc: Global,
@@ -342,7 +343,8 @@ impl HubState {
         }
     }
 
-    // Puts the state alone into the journal, in its next generation: the changes so far are no longer kept one by one.
+    // Writes the state alone into the journal, in its next generation: the hub no longer keeps the changes so far one
+    // by one.
     pub(crate) fn rebase<D: Disk>(
         &mut self,
         alloc: Global,
@@ -370,10 +372,10 @@ impl HubState {
         }
     }
 
-    /// The userfile's records one by one, its users first: at most 700, each of which has a spelling.
+    /// Returns the userfile's records one by one, its users first: at most 700, each of which has a spelling.
     ///
     /// # Errors
-    /// `NoMemory` where room for copies is refused: never where there are no records.
+    /// `NoMemory` if it cannot allocate room for copies; never if there are no records.
     pub fn items(&self, alloc: Global) -> Result<Vec<Record>, NoMemory>
         ensures items { IfOk result (λ items. items.items ≡ items_of self.now.records) }
         ensures good { IfOk result (λ items. AreListed IsGoodRecord items.items) }
@@ -383,11 +385,11 @@ impl HubState {
         items_of(alloc, &self.userfile)
     }
 
-    /// The base of this state: what a journal that is written anew starts from. It has a spelling where each reply is at
-    /// its leaf's place, as in each state that was read, and there are not too many leaves for the count of replies.
+    /// Returns the base of this state, from which a rewritten journal starts. It has a spelling if each reply is at its
+    /// leaf's place, as in each state that was read, and there are not too many leaves for the count of replies.
     ///
     /// # Errors
-    /// `NoMemory` where room for copies is refused: never where there are no records and no replies.
+    /// `NoMemory` if it cannot allocate room for copies; never if there are no records and no replies.
     pub fn base(&self, alloc: Global) -> Result<Base, NoMemory>
         ensures base { IfOk result (λ base. base ≡ hub_base self.now) }
         ensures good { IfOk result (λ base. ArePlaced self.now.replies → 8 * length self.now.replies < 2 ^ 16 → IsGoodBase base) }
@@ -404,14 +406,14 @@ ghost use Rattle.std.specs.List.{list_all};
 ghost use Rattle.protocol.specs.Journals.{is_to_leaf};
 ghost use Rattle.linkstate.specs.States.{is_hubs};
 
-// Whether a base is a hub's, and has replies to no more than so many leaves.
+// Whether a base is a hub's, and has replies to at most `leaves` leaves.
 fn is_hubs(base: &Base, leaves: u16) -> bool
     ensures { result ≡ is_hubs leaves base.now }
 {
     base.bot == 0 && are_within(base.replies.as_slice(), leaves)
 }
 
-// Whether each reply is to one of so many leaves.
+// Whether each reply is to one of the `leaves` leaves.
 fn are_within(replies: &[Reply], leaves: u16) -> bool
     ensures { result ≡ list_all (is_to_leaf leaves) replies.now }
 {
@@ -425,7 +427,7 @@ ghost use Rattle.std.specs.List.{AllByRecursion};
 ghost use Rattle.usercodec.specs.Records.{IsGoodRecord};
 ghost use Rattle.botjournal.specs.Bases.{AreListed, IsGoodReply, IsGoodBase, are_kept};
 
-// The base of these parts. Its version has room, as its type says.
+// Creates the base of these parts. Its version is in range, as its type says.
 fn base_of(alloc: Global, version: u32, records: Vec<Record>, replies: Vec<Reply>) -> Base
     requires records { AreListed IsGoodRecord records.items }
     requires replies { AllByRecursion IsGoodReply replies.items }

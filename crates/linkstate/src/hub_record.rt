@@ -22,7 +22,7 @@ enum What {
     Rebase,
 }
 
-/// What a hub journals: an accepted change, the refusal of a leaf's next request, or its state alone.
+/// What a hub journals: an accepted change, the rejection of a leaf's next request, or its state alone.
 #[derive(Drop)]
 pub struct HubRecord {
     what: What,
@@ -42,7 +42,7 @@ impl HubRecord {
     ghost use Rattle.std.specs.Prelude.{◌≡◌};
     ghost use Rattle.protocol.specs.HubRules.{Accept, Settle, Rebase};
 
-    /// A change is accepted under the next number.
+    /// Creates the record that the change `entry` is accepted under the next number.
     pub fn accept(entry: AcceptedChange) -> HubRecord
         ensures { result ≡ Accept entry }
     {
@@ -51,7 +51,7 @@ impl HubRecord {
         }
     }
 
-    /// A leaf's next request is refused.
+    /// Creates the record that the next request of `leaf` is rejected for `fault`.
     pub fn settle(leaf: u16, fault: ChangeFault) -> HubRecord
         ensures { result ≡ Settle leaf fault }
     {
@@ -60,7 +60,7 @@ impl HubRecord {
         }
     }
 
-    /// The state alone goes into the journal.
+    /// Creates the record of the state alone.
     pub fn rebase() -> HubRecord
         ensures { result ≡ Rebase }
     {
@@ -138,7 +138,7 @@ impl EndState for HubState {
         _leaves: u16,
         ledger: &mut Ledger<D>,
     ) -> Result<(), LedgerError> {
-        // For the proof: it is a u32, so that one which is not the last has a next.
+        // For the proof: it is a u32, so if it is not the last one it has a next one.
         let _generation = self.generation();
         self.rebase(alloc, ledger)
     }
@@ -150,7 +150,7 @@ impl EndState for HubState {
     ghost stays_state = { hub_stays };
 }
 
-// The number of a leaf's next request.
+// Returns the number of a leaf's next request.
 fn next_number(kept: Option<&LeafReplies>) -> u32
     requires { next_number (option_copied kept) < 2 ^ 32 }
     ensures { result ≡ next_number (option_copied kept.entry) }

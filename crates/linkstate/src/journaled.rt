@@ -1,4 +1,4 @@
-// What goes into a journal that takes records.
+// Writing into a journal that takes records.
 ghost use Rattle.std.specs.Prelude.{◌≡◌, ◌≢◌, ◌-◌, ◌^◌, false, None, OnOk, OnErr};
 ghost use Rattle.userfile.specs.Apply.{refusal, changed};
 ghost use Rattle.botjournal.specs.declared.TheConstants.{LAYOUT};
@@ -32,7 +32,7 @@ pub(crate) fn entry_journaled<D: Disk>(
     }
 }
 
-// Puts a base in place, where there are generations left.
+// Replaces the base, if there are generations left.
 pub(crate) fn base_journaled<D: Disk>(
     alloc: Global,
     ledger: &mut Ledger<D>,
@@ -52,8 +52,8 @@ pub(crate) fn base_journaled<D: Disk>(
     }
 }
 
-// Appends the entry of a change that the userfile doesn't refuse, and then makes the change. All memory is taken before
-// the first device call; where a disk failed, or memory is short, the userfile is as it was.
+// Appends the entry of a change that the userfile doesn't refuse, and then applies the change. It allocates everything
+// before the first device call; if a disk failed, or memory ran out, the userfile is as it was.
 pub(crate) fn change_journaled<D: Disk>(
     alloc: Global,
     userfile: &mut Userfile,

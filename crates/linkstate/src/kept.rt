@@ -1,4 +1,4 @@
-// An end's state, in the journal that it is kept in.
+// An end's state, and the journal that keeps it.
 ghost use Rattle.std.specs.Prelude.{◌≡◌, None, Some, false, IfOk, IfErr};
 ghost use Rattle.bytetext.specs.declared.failure.Failure.TheVariants.{NoMemory as no_memory};
 ghost use Rattle.storage.specs.State.{IsSettled};
@@ -22,8 +22,8 @@ use std::marker::Model;
 use std::snapshot::Snapshot;
 use storage::Disk;
 
-/// What an end keeps, and the journal that it is kept in. Where a disk fails it is down: it shows what it showed, and
-/// takes nothing but a restart.
+/// What an end keeps, and the journal that keeps it. After a disk fails the end is down: it shows what it showed
+/// before, and takes nothing but a restart.
 pub struct Kept<S: EndState, D: Disk> {
     who: u16,
     state: S,
@@ -63,17 +63,17 @@ impl<S: EndState, D: Disk> Model for Kept<S, D> {
       device = k.ledger.device;
     } };
 
-    // The journal has the present layout, so that a record may be added to it, and a restart finds no other.
+    // The journal has the present layout, so that a record may be added to it, and a restart finds no other layout.
     ghost invariant = { λ k. S.is_end k.who × S.is_state k.who k.state
         × Stands (S.meaning k.who) S.folded k.state k.down (option_map (λ d. d.value) k.doubt) k.ledger.account
         × (k.ledger.account.contents.layout ≡ LAYOUT) };
 }
 
 impl<S: EndState, D: Disk> Kept<S, D> {
-    /// An end before the first change. What the disks held is lost.
+    /// Creates the end `who` on the disks `first` and `second`, before the first change. What the disks held is lost.
     ///
     /// # Errors
-    /// With the disks: `NoMemory`, where nothing was written, or `DiskFault`.
+    /// Each hands the disks back: `NoMemory`, when nothing was written, or `DiskFault`.
     pub fn create(alloc: Global, first: D, second: D, who: u16) -> Result<Kept<S, D>, Returned<D>>
         requires first_settled { IsSettled (D.state first) }
         requires second_settled { IsSettled (D.state second) }
@@ -98,13 +98,14 @@ impl<S: EndState, D: Disk> Kept<S, D> {
         }
     }
 
-    /// The end whose journal the disks hold. Where that has the present layout nothing is written. Where it has an older
-    /// one the state alone is put into it, in its next generation, before the end answers.
+    /// Opens the end `who` whose journal the disks `first` and `second` hold. If the journal has the present layout,
+    /// nothing is written. If it has an older one, the call first rewrites it with the state alone, in its next
+    /// generation.
     ///
     /// # Errors
-    /// With the disks: of the reading `DiskFault`; `NotAJournal` where they hold none, or another end's; `NoMemory`, but
-    /// never where neither holds a byte. Then of an older journal `GenerationsSpent` where it has no next generation,
-    /// `NoMemory` or `DiskFault`.
+    /// Each hands the disks back. While reading: `DiskFault`; `NotAJournal` if they hold no journal, or another end's;
+    /// `NoMemory`, but never if neither holds a byte. Then, only while rewriting an older journal: `GenerationsSpent`
+    /// if it has no next generation, `NoMemory` or `DiskFault`.
     pub fn open(alloc: Global, first: D, second: D, who: u16) -> Result<Kept<S, D>, Returned<D>>
         requires first_settled { IsSettled (D.state first) }
         requires second_settled { IsSettled (D.state second) }
@@ -112,7 +113,7 @@ impl<S: EndState, D: Disk> Kept<S, D> {
         ensures row { Finds D.state first second (λ k. k.device) (at_rest who) (S.meaning who) (Renews S.may S.folded S.renewal) (λ k. k.state) result }
         // Nothing happened to disks that have the present layout.
         ensures still { AreCurrent D.state first second → IfOk result (λ k. AreStill (D.state first) (D.state second) k.device) }
-        // At each moment of the call a crash leaves what the disks meant, or that put anew.
+        // At each moment of the call a crash leaves what the disks meant, or that rewritten.
         ensures any_moment { FindsAtEachMoment D.state first second (λ k. k.device) (S.meaning who) (Renews S.may S.folded S.renewal) result }
         ensures memory { IfErr result (λ returned. returned.error ≡ no_memory → HoldByte (D.state first) (D.state second)) }
     {
@@ -138,7 +139,7 @@ impl<S: EndState, D: Disk> Kept<S, D> {
         }
     }
 
-    // An end whose journal takes records and means its state.
+    // Creates an end whose journal takes records and means its state.
     fn up(who: u16, state: S, ledger: Ledger<D>) -> Kept<S, D>
         requires end { S.is_end who }
         requires state { S.is_state who state }
@@ -156,7 +157,7 @@ impl<S: EndState, D: Disk> Kept<S, D> {
         }
     }
 
-    // An end on an older journal, into which its state alone is put.
+    // Creates an end on an older journal, which it rewrites with the state alone.
     fn put_anew(
         alloc: Global,
         who: u16,
@@ -188,7 +189,7 @@ impl<S: EndState, D: Disk> Kept<S, D> {
         }
     }
 
-    /// Whose it is: of the hub how many leaves it has, of a leaf its number.
+    /// Returns whose state it is: for the hub the number of its leaves, for a leaf its own number.
     pub fn who(&self) -> u16
         ensures who { result ≡ self.now.who }
         ensures end { S.is_end result }
@@ -196,32 +197,32 @@ impl<S: EndState, D: Disk> Kept<S, D> {
         self.who
     }
 
-    /// The state that is kept.
+    /// Returns the state that is kept.
     pub fn state(&self) -> &S
         ensures { result.now ≡ self.now.state }
     {
         &self.state
     }
 
-    /// Says what always holds of the state. It does nothing.
+    /// States what always holds of the state. It does nothing.
     pub fn know_state(&self)
         ensures { S.is_state self.now.who self.now.state }
     {
         let _who = &self.who;
     }
 
-    /// Whether nothing is taken but a restart.
+    /// Whether the end takes nothing but a restart.
     pub fn is_down(&self) -> bool
         ensures { result ≡ self.now.down }
     {
         self.down
     }
 
-    /// Keeps a record that the state may take.
+    /// Keeps the record `entry`, which the state may take.
     ///
     /// # Errors
-    /// `NoMemory`, which leaves all as it was; `JournalFault` where a disk failed: then nothing but a restart is taken,
-    /// which tells whether the record counts.
+    /// `NoMemory`, which leaves all as it was; `JournalFault` if a disk failed: the end then takes nothing but a
+    /// restart, which shows whether the record counts.
     pub fn journal(&mut self, alloc: Global, entry: S::Record) -> Result<(), LinkError>
         requires up { self.old.down ≡ false }
         requires may { S.may self.old.state entry }
@@ -242,13 +243,13 @@ impl<S: EndState, D: Disk> Kept<S, D> {
         }
     }
 
-    /// Opens the journal again on what a crash leaves.
+    /// Reopens the journal on what a crash leaves.
     ///
     /// # Errors
-    /// `DiskFault` or `NoMemory`: nothing but a restart is taken, and what was in doubt still is.
+    /// `DiskFault` or `NoMemory`: the end takes nothing but a restart, and what was in doubt still is.
     pub fn restart(&mut self, alloc: Global) -> Result<(), LinkError>
         ensures row { Restarts S.folded self.old result self.new }
-        // Both disks are opened again, whatever is answered.
+        // Both disks are reopened, whatever the result.
         ensures reopened { Reopens self.old.device self.new.device }
         // At each moment of the call a crash leaves what is kept, with the record in doubt or without it.
         ensures any_moment { LeavesOwn (S.meaning self.old.who) S.folded self.old.state self.old.doubt self.old.device self.new.device }
@@ -278,18 +279,18 @@ impl<S: EndState, D: Disk> Kept<S, D> {
         }
     }
 
-    /// Says what a crash leaves at this moment, between two calls. It does nothing.
+    /// States what a crash leaves at this moment, between two calls. It does nothing.
     pub fn know_disks(&self)
         // What is the end's, with the record in doubt or without it.
         ensures left { MayLeave (S.meaning self.now.who) S.folded self.now.state self.now.doubt self.now.device.first self.now.device.second }
         ensures current { LeavesCurrent self.now.device.first self.now.device.second }
-        // Nothing is in doubt of an end that takes records.
+        // Nothing is in doubt for an end that takes records.
         ensures certain { self.now.down ≡ false → self.now.doubt ≡ None }
     {
         self.ledger.know_disks();
     }
 
-    /// The two disks, in the order in which they were given.
+    /// Returns the two disks, in the order in which they were given.
     pub fn into_disks(self) -> Disks<D>
         // Whatever a crash leaves on them is the end's, with the record in doubt or without it.
         ensures left { MayLeave (S.meaning self.who) S.folded self.state self.doubt (D.state result.first) (D.state result.second) }
@@ -306,7 +307,7 @@ impl<S: EndState, D: Disk> Kept<S, D> {
     }
 }
 
-// The base of a bot before the first change.
+// Creates the base of a bot before the first change.
 fn empty_base(alloc: Global, bot: u16) -> Base
     ensures base { result ≡ empty_base bot }
     ensures good { IsGoodBase result }
@@ -321,7 +322,7 @@ fn empty_base(alloc: Global, bot: u16) -> Base
     }
 }
 
-// The state that a journal means.
+// Returns the state that a journal means.
 fn state_in<S: EndState>(
     alloc: Global,
     who: u16,
@@ -342,7 +343,7 @@ fn state_in<S: EndState>(
     )
 }
 
-// What a journal is refused for that could not be put anew.
+// Converts the error of a journal that could not be rewritten.
 fn journal_error(error: LedgerError) -> JournalError
     ensures { result ≡ journal_error error }
 {

@@ -12,8 +12,8 @@ use storage::Disk;
 use usercodec::Record;
 use userfile::{Change, Userfile};
 
-/// What outlives a restart of a leaf: its version and userfile, the number of its last request, and the requests that are
-/// out.
+/// What survives a restart of a leaf: its version and userfile, the number of its last request, and its outstanding
+/// requests.
 pub struct LeafState {
     version: u32,
     userfile: Userfile,
@@ -69,7 +69,7 @@ impl LeafState {
     ghost use Rattle.linkstate.specs.Kept.{WritesAny, LeavesWritten};
     ghost use Rattle.usercodec.specs.Changes.{IsGoodChange};
 
-    /// A leaf before the first change, in the first generation of its journal. Takes no memory.
+    /// Creates the state of a leaf before the first change, in the first generation of its journal. Allocates nothing.
     pub fn new(alloc: Global) -> LeafState
         ensures start { result ≡ new_leaf.kept }
         ensures empty { (number : ℕ) → result ≡ leaf_of 1 (empty_base number) }
@@ -83,12 +83,12 @@ impl LeafState {
         }
     }
 
-    /// What a journal's base and entries, in this generation, mean to the leaf of this number. The base is one that has a
-    /// spelling, as each has that a journal was opened with.
+    /// Returns what a journal's `base` and `entries` mean, in this `generation`, to the leaf `number`. The base has a
+    /// spelling, as it has whenever a journal was opened with it.
     ///
     /// # Errors
-    /// `NotAJournal` where they mean nothing: the base is another bot's or has records that no userfile holds, or an
-    /// entry is none that a leaf writes in the state before it. Or `NoMemory`, but not where the base is another bot's.
+    /// `NotAJournal` if they mean nothing: the base is another bot's or has records that no userfile holds, or an entry
+    /// is one that a leaf doesn't write in the state before it. Or `NoMemory`, but not if the base is another bot's.
     pub fn read(
         alloc: Global,
         number: u16,
@@ -97,10 +97,10 @@ impl LeafState {
         entries: &[Entry],
     ) -> Result<LeafState, StateError>
         requires good { IsGoodBase base.now }
-        // In whichever layout they stood.
+        // In any layout that they had.
         ensures reads { (layout : _) → Reads (leaf_meaning number (record { layout = layout; generation = generation; base = base.now; entries = entries.now })) result }
         ensures foreign { base.now.bot ≢ number → result ≡ Err (Refused NotAJournal) }
-        // Where the entries have spellings, so have the requests that are out, and a base may have them.
+        // If the entries have spellings, so have the outstanding requests, and a base may hold them.
         ensures good { IfOk result (λ leaf. AllByRecursion IsGoodEntry entries.now → AreOut leaf.last leaf.out) }
     {
         let mut leaf = LeafState::on_base(alloc, number, generation, base)?;
@@ -110,7 +110,7 @@ impl LeafState {
         }
     }
 
-    // A leaf on a base alone, in that generation of the journal.
+    // Creates a leaf on a base alone, in that generation of the journal.
     fn on_base(
         alloc: Global,
         number: u16,
@@ -135,60 +135,61 @@ impl LeafState {
         })
     }
 
-    /// The version: the number of the last change that was applied, or that of the records that were put in place.
+    /// Returns the version: the number of the last change that was applied, or the version of the records that were
+    /// installed.
     pub fn version(&self) -> u32
         ensures { result ≡ self.now.version }
     {
         self.version
     }
 
-    /// The userfile at that version.
+    /// Returns the userfile at that version.
     pub fn userfile(&self) -> &Userfile
         ensures { result.now ≡ self.now.records }
     {
         &self.userfile
     }
 
-    /// The number of the last request: 0 before the first.
+    /// Returns the number of the last request: 0 before the first.
     pub fn last_request(&self) -> u32
         ensures { result ≡ self.now.last }
     {
         self.last
     }
 
-    /// The requests whose replies haven't come, by rising number.
+    /// Returns the requests that have no reply yet, by rising number.
     pub fn out(&self) -> &[Request]
         ensures { result.now ≡ self.now.out }
     {
         self.out.as_slice()
     }
 
-    /// Whether the request of this number is out.
+    /// Whether the request of the number `request` is outstanding.
     pub fn is_out(&self, request: u32) -> bool
         ensures { result ≡ is_out request self.now.out }
     {
         is_out(request, self.out.as_slice())
     }
 
-    /// Whether a next request may go out: it has a number, which is less than eight above the lowest that is out.
+    /// Whether a next request may go out: its number exists, and is less than eight above the lowest outstanding one.
     pub fn may_go_out(&self) -> bool
         ensures { result ≡ may_go_out self.now.last self.now.out }
     {
         self.last < u32::MAX && has_room(self.last, self.out.as_slice())
     }
 
-    /// The journal's generation.
+    /// Returns the journal's generation.
     pub fn generation(&self) -> u32
         ensures { result ≡ self.now.generation }
     {
         self.generation
     }
 
-    /// Folds in the entry that the journal has next.
+    /// Folds in `entry`, the next one in the journal.
     ///
     /// # Errors
-    /// `NotAJournal` where it is none that a leaf writes in this state, or `NoMemory`, which only a change that is kept
-    /// or that adds something wants. Both leave the state as it was.
+    /// `NotAJournal` if it is one that a leaf doesn't write in this state, or `NoMemory`, which only a change that is
+    /// kept or that adds something can cause. Both leave the state as it was.
     pub fn take(&mut self, alloc: Global, entry: &Entry) -> Result<(), StateError>
         ensures takes { Takes leaf_record leaf_folded self.old entry.now result self.new }
         ensures memory { result ≡ Err no_memory → wants_room entry.now ≡ true }
@@ -215,7 +216,7 @@ impl LeafState {
         Ok(())
     }
 
-    // The hub's next change.
+    // Folds in the hub's next change.
     fn apply(&mut self, alloc: Global, number: u32, change: &Change) -> Result<(), StateError>
         ensures takes { Takes leaf_record leaf_folded self.old (Applied number change.now) result self.new }
         ensures memory { result ≡ Err no_memory → grows change.now ≡ true }
@@ -236,7 +237,7 @@ impl LeafState {
         self.userfile.refusal_of(change).is_none() && is_one_above(number, self.version)
     }
 
-    // A request that goes out.
+    // Folds in a request that goes out.
     fn send(&mut self, alloc: Global, request: u32, change: &Change) -> Result<(), StateError>
         ensures { Takes leaf_record leaf_folded self.old (ReqOut request change.now) result self.new }
     {
@@ -258,7 +259,7 @@ impl LeafState {
         self.may_go_out() && is_one_above(request, self.last)
     }
 
-    // A request that got its reply.
+    // Folds in that a request got its reply.
     fn end(&mut self, request: u32) -> Result<(), StateError>
         ensures takes { Takes leaf_record leaf_folded self.old (ReqDone request) result self.new }
         ensures memory { result ≢ Err no_memory }
@@ -270,7 +271,7 @@ impl LeafState {
         Ok(())
     }
 
-    // Applies the hub's next change, which goes into the journal first. All memory is taken before that.
+    // Applies the hub's next change, after journaling it. It allocates everything before that.
     pub(crate) fn apply_next<D: Disk>(
         &mut self,
         alloc: Global,
@@ -301,7 +302,8 @@ impl LeafState {
         }
     }
 
-    // Lets a change be out under the next request number. All memory is taken before the journal's first device call.
+    // Journals a change under the next request number, and makes it outstanding. It allocates everything before the
+    // journal's first device call.
     pub(crate) fn put_out<D: Disk>(
         &mut self,
         alloc: Global,
@@ -333,7 +335,7 @@ impl LeafState {
         }
     }
 
-    // Ends the request of this number, which is out.
+    // Ends the outstanding request of this number.
     pub(crate) fn end_request<D: Disk>(
         &mut self,
         alloc: Global,
@@ -357,7 +359,7 @@ impl LeafState {
         }
     }
 
-    // Puts the records of a version in the place of what there was, in the next generation of the journal.
+    // Replaces the records by those of a version, in the next generation of the journal.
     pub(crate) fn install<D: Disk>(
         &mut self,
         alloc: Global,
@@ -388,7 +390,7 @@ impl LeafState {
         }
     }
 
-    // Puts the state alone into the journal, in its next generation.
+    // Writes the state alone into the journal, in its next generation.
     pub(crate) fn compact<D: Disk>(
         &mut self,
         alloc: Global,
@@ -415,11 +417,11 @@ impl LeafState {
         }
     }
 
-    /// The base of this state of the leaf of this number: what a journal that is written anew starts from. It has a
-    /// spelling where a base may have the requests that are out.
+    /// Returns the base of this state of the leaf `number`, from which a rewritten journal starts. It has a spelling if
+    /// a base may hold the outstanding requests.
     ///
     /// # Errors
-    /// `NoMemory` where room for copies is refused: never where there are no records, and no requests that are out.
+    /// `NoMemory` if it cannot allocate room for copies; never if there are no records, and no outstanding requests.
     pub fn base(&self, alloc: Global, number: u16) -> Result<Base, NoMemory>
         ensures base { IfOk result (λ base. base ≡ leaf_base number self.now) }
         ensures good { IfOk result (λ base. 0 < number → AreOut self.now.last self.now.out → IsGoodBase base) }
@@ -428,10 +430,11 @@ impl LeafState {
         self.base_with(alloc, number, self.version, &self.userfile)
     }
 
-    /// The same with the records of another version in the place of this state's.
+    /// Returns the same base of the leaf `number`, with the records of another `version`, those of `userfile`, instead
+    /// of this state's.
     ///
     /// # Errors
-    /// `NoMemory` where room for copies is refused: never where there are no records, and no requests that are out.
+    /// `NoMemory` if it cannot allocate room for copies; never if there are no records, and no outstanding requests.
     pub fn base_with(
         &self,
         alloc: Global,
@@ -453,7 +456,7 @@ ghost use Rattle.std.specs.Prelude.{◌≡◌, ◌+◌, ◌==◌, ◌<◌, []};
 ghost use Rattle.usercodec.specs.Records.{IsGoodRecord};
 ghost use Rattle.botjournal.specs.Bases.{AreListed, IsGoodBase, AreOut};
 
-// The base of these parts. Its numbers have room, as their types say.
+// Creates the base of these parts. Its numbers are in range, as their types say.
 fn base_of(
     alloc: Global,
     number: u16,

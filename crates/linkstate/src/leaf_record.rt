@@ -39,7 +39,7 @@ impl LeafRecord {
     ghost use Rattle.std.specs.Prelude.{◌≡◌};
     ghost use Rattle.protocol.specs.LeafRules.{Apply, Out, Done, Install, Compact};
 
-    /// The next change is applied.
+    /// Creates the record that the next change, `change`, is applied.
     pub fn apply(change: Change) -> LeafRecord
         ensures { result ≡ Apply change }
     {
@@ -48,7 +48,7 @@ impl LeafRecord {
         }
     }
 
-    /// A change is out under the next request number.
+    /// Creates the record that `change` goes out under the next request number.
     pub fn out(change: Change) -> LeafRecord
         ensures { result ≡ Out change }
     {
@@ -57,7 +57,7 @@ impl LeafRecord {
         }
     }
 
-    /// The request of this number, which is out, is done.
+    /// Creates the record that the outstanding request of the number `request` is done.
     pub fn done(request: u32) -> LeafRecord
         ensures { result ≡ Done request }
     {
@@ -66,7 +66,7 @@ impl LeafRecord {
         }
     }
 
-    /// The records of a version take the place of what there was.
+    /// Creates the record that the records of `userfile`, at `version`, replace those before.
     pub fn install(version: u32, userfile: Userfile) -> LeafRecord
         ensures { result ≡ Install version userfile }
     {
@@ -75,7 +75,7 @@ impl LeafRecord {
         }
     }
 
-    /// The state alone goes into the journal.
+    /// Creates the record of the state alone.
     pub fn compact() -> LeafRecord
         ensures { result ≡ Compact }
     {
@@ -163,7 +163,7 @@ impl EndState for LeafState {
         number: u16,
         ledger: &mut Ledger<D>,
     ) -> Result<(), LedgerError> {
-        // For the proof: it is a u32, so that one which is not the last has a next.
+        // For the proof: it is a u32, so if it is not the last one it has a next one.
         let _generation = self.generation();
         self.compact(alloc, number, ledger)
     }

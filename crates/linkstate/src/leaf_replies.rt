@@ -3,7 +3,8 @@ use arrayvec::ArrayVec;
 use botjournal::{Reply, WINDOW};
 use std::marker::Model;
 
-/// The last replies to a leaf, the oldest first: at most eight, of consecutive requests. They take no memory of their own.
+/// The last replies to a leaf, the oldest first: at most eight, to consecutive requests. They allocate nothing of their
+/// own.
 #[derive(Drop)]
 pub struct LeafReplies {
     replies: ArrayVec<Reply, WINDOW>,
@@ -23,7 +24,7 @@ impl LeafReplies {
     ghost use Rattle.botjournal.specs.declared.TheConstants.{WINDOW};
     ghost use Rattle.protocol.specs.HubRules.{last_request, last_eight, reply_to};
 
-    // No reply yet.
+    // Creates a list with no reply yet.
     pub(crate) fn none() -> LeafReplies
         ensures { result ≡ [] }
     {
@@ -32,7 +33,7 @@ impl LeafReplies {
         }
     }
 
-    /// The replies, the oldest first.
+    /// Returns the replies, the oldest first.
     pub fn as_slice(&self) -> &[Reply]
         ensures kept { result.now ≡ self.now }
         ensures few { length result.now ≤ WINDOW }
@@ -40,7 +41,7 @@ impl LeafReplies {
         self.replies.as_slice()
     }
 
-    /// The number of the last request that was replied to: 0 before the first.
+    /// Returns the number of the last request that was replied to: 0 before the first.
     pub fn last_request(&self) -> u32
         ensures { result ≡ last_request self.now }
     {
@@ -50,7 +51,7 @@ impl LeafReplies {
         }
     }
 
-    /// The reply to a request, where it is one of those that are kept.
+    /// Returns the reply to the request of the number `request`, if it is still kept.
     pub fn reply_to(&self, request: u32) -> Option<Reply>
         ensures { result ≡ reply_to request self.now }
     {
@@ -60,7 +61,7 @@ impl LeafReplies {
             .copied()
     }
 
-    // Puts a reply after the others; the oldest goes where there are eight.
+    // Appends a reply; if there are eight, drops the oldest.
     pub(crate) fn put(&mut self, reply: Reply)
         ensures { self.new ≡ last_eight (self.old ++ reply ∷ []) }
     {

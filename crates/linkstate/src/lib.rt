@@ -1,16 +1,16 @@
-//! What the two ends of the sharing link keep over a restart, and how it is read from their journals.
+//! What the two ends of the sharing link keep over a restart, and how that is read from their journals.
 //!
-//! A [`HubState`] is what a hub keeps: the userfile, the changes accepted since the journal's base ([`AcceptedChange`]),
-//! and the last eight replies to each leaf ([`LeafReplies`]). A [`LeafState`] is what a leaf keeps: the userfile at its
-//! version, the number of its last request, and the requests that are out, at most eight. Both are plain values in
-//! memory. A [`Kept`] is either of them in the journal that it is kept in: what it keeps next is journaled first. A
-//! journal of an older layout is put anew where a [`Kept`] is opened on it, before that answers: the state alone, in the
-//! next generation. No packet is here.
+//! A [`HubState`] is what a hub keeps: the userfile, the changes accepted since the journal's base
+//! ([`AcceptedChange`]), and the last eight replies to each leaf ([`LeafReplies`]). A [`LeafState`] is what a leaf
+//! keeps: the userfile at its version, the number of its last request, and its outstanding requests, at most eight.
+//! Both are plain values in memory. A [`Kept`] is one of them with the journal that keeps it, and journals each record
+//! before it keeps it. Opening a [`Kept`] on a journal of an older layout first rewrites that: the state alone, in the
+//! next generation. This crate has no packets.
 //!
 //! Each is read from a journal's base and entries, one entry after another by `take`, which folds in what a link writes
-//! in that state and refuses all else. The contracts say so in the words of `protocol`: what `read` answers is what the
-//! journal's contents mean, and `NotAJournal` comes exactly where they mean nothing. `base` gives the base from which a
-//! journal that is written anew starts.
+//! in that state and rejects all else. The contracts state this in the words of `protocol`: `read` returns what the
+//! journal's contents mean, and `NotAJournal` exactly if they mean nothing. `base` gives the base from which a
+//! rewritten journal starts.
 //!
 //! ```text
 //! let hub = HubState::read(alloc, 2, generation, &opened.base, opened.entries.as_slice())?;

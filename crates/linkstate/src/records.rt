@@ -14,10 +14,10 @@ use std::alloc::Global;
 use usercodec::Record;
 use userfile::{Ban, User, Userfile};
 
-/// The userfile of these records, where they stand together.
+/// Returns the userfile of the records `items`, if one can hold them together.
 ///
 /// # Errors
-/// `NotAJournal` where no userfile holds all of them, or `NoMemory`: never where there are none.
+/// `NotAJournal` if no userfile holds all of them. `NoMemory`, but never if there are none.
 pub fn userfile_of(alloc: Global, items: &[Record]) -> Result<Userfile, StateError>
     requires good { AllByRecursion IsGoodRecord items.now }
     ensures reads { Reads (sound_records items.now) result }
@@ -60,7 +60,7 @@ fn bans_in(alloc: Global, items: &[Record]) -> Result<Vec<Ban>, NoMemory>
     Ok(bans)
 }
 
-// The userfile's records one by one, its users first. Each has a spelling.
+// Returns the userfile's records one by one, its users first. Each has a spelling.
 pub(crate) fn items_of(alloc: Global, userfile: &Userfile) -> Result<Vec<Record>, NoMemory>
     ensures items { IfOk result (λ items. items.items ≡ items_of userfile.now) }
     ensures good { IfOk result (λ items. AreListed IsGoodRecord items.items) }

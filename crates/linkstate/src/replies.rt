@@ -13,7 +13,7 @@ use botjournal::{Answer, Reply};
 use bytetext::NoMemory;
 use std::alloc::Global;
 
-// The replies to a leaf among those of a base.
+// Returns the replies to a leaf among those of a base.
 fn replies_among(leaf: u16, replies: &[Reply]) -> LeafReplies
     requires few { length (replies_among leaf replies.now) ≤ WINDOW }
     ensures { result ≡ replies_among leaf replies.now }
@@ -27,7 +27,7 @@ fn replies_among(leaf: u16, replies: &[Reply]) -> LeafReplies
     kept
 }
 
-// A place for each leaf, of the replies of a base.
+// Returns a place for each leaf, with the replies of a base.
 pub(crate) fn replies_of(
     alloc: Global,
     leaves: u16,
@@ -44,7 +44,7 @@ pub(crate) fn replies_of(
     Ok(held)
 }
 
-// The replies that there are.
+// Returns all replies that are kept.
 pub(crate) fn replies_in(alloc: Global, held: &[LeafReplies]) -> Result<Vec<Reply>, NoMemory>
     ensures replies { IfOk result (λ replies. replies.items ≡ replies_in held.now) }
     ensures memory { IfErr result (λ _. 0 < length (replies_in held.now)) }
@@ -56,7 +56,7 @@ pub(crate) fn replies_in(alloc: Global, held: &[LeafReplies]) -> Result<Vec<Repl
     Ok(replies)
 }
 
-// The last replies to a leaf that has a place.
+// Returns the last replies to a leaf that has a place.
 pub(crate) fn replies_at(held: &[LeafReplies], leaf: u16) -> Option<&LeafReplies>
     ensures { option_copied result ≡ item_at held.now leaf }
 {
@@ -87,7 +87,8 @@ pub(crate) fn is_next(held: &[LeafReplies], leaf: u16, request: u32) -> bool
     }
 }
 
-// Puts the reply to a leaf's next request after the others that are kept; the hub's own changes have none. Takes no memory.
+// Appends the reply to a leaf's next request to those that are kept; the hub's own changes have none. Allocates
+// nothing.
 pub(crate) fn put_reply(held: &mut Vec<LeafReplies>, leaf: u16, request: u32, answer: Answer)
     requires { is_next held.old.items leaf request ≡ true }
     ensures { held.new.items ≡ with_reply held.old.items leaf answer }
@@ -105,7 +106,7 @@ pub(crate) fn put_reply(held: &mut Vec<LeafReplies>, leaf: u16, request: u32, an
     }
 }
 
-// What the types of replies say of their fields: there is nothing to run.
+// What the types of replies say of their fields. It does nothing at run time.
 pub(crate) fn know_replies(replies: &[Reply])
     ensures { AllByRecursion IsGoodReply replies.now }
 {

@@ -1,4 +1,4 @@
--- One bot's turn in a live net, of what its sockets gave.
+-- One bot's turn in a live net, given what its sockets gave.
 use Rattle.std.specs.Prelude.{◌≡◌, ℕ, Bool, false, List, []}
 use Rattle.procstore.specs.Promises.{Promised}
 use Rattle.sharewire.specs.declared.packet.Packet.{Packet}
@@ -7,8 +7,9 @@ use Rattle.turns.specs.declared.turn.Heard.{Heard}
 use Rattle.turns.specs.declared.turn.Told.{Told}
 use Rattle.turns.specs.Turns.{Turns}
 
--- Its steps are just those of a connection that began, the lines that the server's bytes end, this reading, these packets,
--- in order, and a pump where one is due; what is told is what they report. Nothing is asked for and nothing compacted.
+-- Its steps are exactly these, in order: a connection if one began, the lines that the server's bytes end, this reading
+-- of the clock, these packets, and a pump if one is due. The turn reports what the steps report. It requests no change
+-- and compacts nothing.
 pub record TakesTurn (promised : Promised) (names : List (List ℕ))
     (old : Bot) (held : List ℕ) (began : Bool) (packets : List Packet) (now : ℕ) (pumps : Bool)
     (told : Told) (new : Bot) (after : List ℕ) : Type 0 where

@@ -1,5 +1,5 @@
--- What a line of a live script says by itself: a command of its own, or what a line of a replay's script says, but for
--- what the network itself does in a live botnet.
+-- What a line of a live script says by itself: a command that only a live script has, or what a line of a replay's
+-- script says, except for what the network itself does in a live botnet.
 use Rattle.std.specs.Prelude.{ℕ, List, [], ◌∷◌, Option, None, Some}
 use Rattle.botcore.specs.declared.event.Event.{Event}
 use Rattle.botcore.specs.declared.event.Event.TheVariants.{Connect, Line, Ask, Pump, Receive, Clock, Bind, Unbind, Compact, Restart}
@@ -18,7 +18,8 @@ use Rattle.liveloop.specs.declared.saying.Saying.{Saying}
 use Rattle.liveloop.specs.declared.saying.Saying.TheVariants.{Nothing, Leaves, Zone, Told, Wrong}
 use Rattle.liveloop.specs.Words.{own_command}
 
--- the server gives a bot its lines, the hub its packets, and one clock is all bots'
+-- no line, no packet and no clock of one bot: the server sends its lines, the hub its packets, and all bots share one
+-- clock
 abbrev pub shared_event : ℕ → Event → Saying
 shared_event bot Connect = Told (connects bot)
 shared_event bot (Ask change) = Told (Tell bot (Ask change))
@@ -36,7 +37,7 @@ shared_step (Some (At bot event)) = shared_event bot event
 shared_step (Some (Deliver packet)) = Wrong
 shared_step None = Wrong
 
--- the last of them: every command that a live script shares has one step
+-- the last of these steps: every command that a live script shares has one step
 abbrev pub last_step : List Step → Option Step
 last_step [] = None
 last_step (step ∷ []) = Some step
@@ -53,7 +54,7 @@ shared_saying (replay_zone rule) = Zone rule
 shared_saying (replay_told command) = shared_command command
 shared_saying replay_wrong = Wrong
 
--- a command of its own, or else what a replay's script says
+-- a command that only a live script has, or else what a replay's script says
 abbrev pub either : Option Command → Saying → Saying
 either (Some command) shared = Told command
 either None shared = shared
@@ -61,7 +62,7 @@ either None shared = shared
 abbrev pub saying_of : List ℕ → Saying
 saying_of line = either (own_command (words_of line)) (shared_saying (replay_saying_of line))
 
--- a bot is told no packet whose records are of bad shape: a command tells none
+-- a command gives a bot no packet whose records have a bad shape: it gives none
 abbrev pub IsGoodCommand : Command → Type 0
 IsGoodCommand (Tell bot event) = IsGoodEvent event
 IsGoodCommand (connects bot) = Unit {0}

@@ -1,4 +1,4 @@
--- What a guest heard, line by line.
+-- What a guest received, line by line.
 use Rattle.std.specs.Prelude.{ℕ, List, [], ◌∷◌, ◌++◌}
 use Rattle.std.specs.List.{flat_map}
 

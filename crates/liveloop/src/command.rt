@@ -3,36 +3,36 @@ use crate::moment::Moment;
 use botcore::Event;
 use bytetext::{Seq, Text};
 
-/// One command after the number of leaves. Whether there is such a bot or guest is seen when the command is done.
+/// One command after the number of leaves. Whether its bot or guest exists is checked when the command is done.
 #[derive(Drop)]
 pub enum Command {
-    /// This bot is told an ask, a pump, a compaction, a restart, a bind or an unbind.
+    /// Makes this bot take a step: an ask, a pump, a compaction, a restart, a bind or an unbind.
     Tell {
         /// The bot's number.
         bot: u16,
-        /// What it is told.
+        /// The step's event.
         event: Event,
     },
-    /// This bot has a new connection to the server.
+    /// Gives this bot a new connection to the server.
     Connect(u16),
-    /// The version and the records of this bot are shown.
+    /// Shows the version and the records of this bot.
     Show(u16),
-    /// Turns are made until each bot is at this version or above.
+    /// Makes turns until each bot is at this version or above.
     Until(u32),
-    /// So many turns are made, at most [`MAX_TURNS`](crate::MAX_TURNS).
+    /// Makes this number of turns, at most [`MAX_TURNS`](crate::MAX_TURNS).
     Turns(u32),
-    /// A client in memory registers under a nick and joins a channel.
+    /// Makes a client in memory register under a nick and join a channel.
     Guest {
-        /// The nick, which is the user name too.
+        /// The nick, which is also the user name.
         nick: Text,
         /// The channel.
         channel: Text,
     },
-    /// A guest says something.
+    /// Makes a guest say something.
     Say(Speech),
-    /// What a guest got since the last time is printed.
+    /// Prints what a guest has received since the last time.
     Heard(Text),
-    /// Each bot's clock shows this moment from now on.
+    /// Sets the moment that each bot's clock shows from now on.
     Clock(Moment),
 }
 
@@ -42,7 +42,7 @@ pub struct Speech {
     pub nick: Text,
     /// A channel or a nick.
     pub target: Text,
-    /// What is said.
+    /// The text that the guest says.
     pub text: Text,
 }
 

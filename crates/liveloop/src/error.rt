@@ -15,19 +15,19 @@ pub enum LiveError {
     /// The script breaks a rule. No socket was opened, and nothing was written.
     #[error("{0}")]
     Script(LiveFault),
-    /// The stream failed as it was asked for bytes. No socket was opened, and nothing was written.
+    /// The stream failed when it was asked for bytes. No socket was opened, and nothing was written.
     #[error("read fault")]
     Read,
-    /// The stream failed as it was offered bytes, or took none.
+    /// The stream failed while it wrote, or took no bytes.
     #[error("write fault")]
     Write,
-    /// A socket can't be opened or waited for, or its port can't be told.
+    /// A socket can't be opened or waited for, or the system doesn't say its port.
     #[error("socket fault\n{0}")]
     Socket(SocketFault),
-    /// The turns of an `until` are over, and a bot is still below the version.
+    /// The turns of an `until` are used up, and a bot is still below the version.
     #[error("stalled")]
     Stalled,
-    /// A growth was refused.
+    /// Memory could not be allocated.
     #[error("out of memory")]
     NoMemory,
 }

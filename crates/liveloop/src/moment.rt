@@ -2,7 +2,7 @@
 use bytetext::MOMENTS_END;
 use std::marker::Model;
 
-/// A moment: seconds from 1970-01-01 UTC on, before the year 3000.
+/// A moment: seconds since 1970-01-01 UTC, before the year 3000.
 #[derive(Drop)]
 pub struct Moment {
     seconds: u64,
@@ -23,14 +23,14 @@ impl Moment {
     ghost use Rattle.std.specs.Prelude.{◌≡◌, ◌<◌, ◌≤◌, IfSome, IfNone};
     ghost use Rattle.bytetext.specs.declared.moment.TheConstants.{MOMENTS_END};
 
-    /// The first moment of all.
+    /// Returns the first moment of all, at 0 seconds.
     pub fn first() -> Moment
         ensures { result ≡ 0 }
     {
         Moment { seconds: 0 }
     }
 
-    /// The moment of so many seconds; none from the year 3000 on.
+    /// Returns the moment at `seconds`, or `None` from the year 3000 on.
     pub fn new(seconds: u64) -> Option<Moment>
         ensures some { IfSome result (λ moment. moment ≡ seconds) }
         ensures none { IfNone result (MOMENTS_END ≤ seconds) }
@@ -42,7 +42,7 @@ impl Moment {
         }
     }
 
-    /// How many seconds it is from the first moment.
+    /// Returns the number of seconds since the first moment.
     pub fn seconds(&self) -> u64
         ensures value { result ≡ self.now }
         ensures bound { result < MOMENTS_END }

@@ -1,4 +1,4 @@
-// The bots with all sockets.
+// The bots and all sockets.
 use crate::error::LiveError;
 use crate::moment::Moment;
 use crate::seat::Seat;
@@ -12,13 +12,13 @@ use std::alloc::Global;
 use std::io;
 use std::net::{Net, SocketAddr};
 
-// Each so many turns the bots are pumped.
+// The number of turns from one pump of the bots to the next.
 const PUMP_TURNS: u32 = 64;
 
-// How long a wait for what is under way is at most, in milliseconds.
+// The maximum length of a wait for what is on its way, in milliseconds.
 const REST: u64 = 100;
 
-/// The server, the hub's listener, and the bots and their sockets by their numbers.
+/// The server, the hub's listener, and the bots and their sockets by number.
 pub struct Network {
     pub house: House,
     pub link: LinkHouse,
@@ -26,7 +26,7 @@ pub struct Network {
     pub seats: Vec<Seat>,
     /// What each bot's clock shows.
     pub now: Moment,
-    // How many turns there are until the next that pumps.
+    // How many turns remain before the next one that pumps.
     until_pump: u32,
     server: SocketAddr,
     hub: SocketAddr,
@@ -54,7 +54,7 @@ impl Network {
     ghost use Rattle.linkcalls.specs.Shapes.{AreGood, HasGoodRecords};
     ghost use Rattle.turns.specs.Turns.{AllGood};
 
-    /// The server and the hub's listener, and no bot yet.
+    /// Opens the server and the hub's listener for a net of `leaves` leaves. It has no bots yet.
     ///
     /// # Errors
     /// Those of the system.
@@ -64,7 +64,7 @@ impl Network {
         Network::over(rt.alloc(), house, link)
     }
 
-    // One of this server and this listener, without bots.
+    // The network of this server and this listener, without bots.
     fn over(alloc: Global, house: House, link: LinkHouse) -> io::Result<Network> {
         let (server, hub) = addresses(&house, &link)?;
         Ok(Network {
@@ -79,10 +79,10 @@ impl Network {
         })
     }
 
-    /// Gives each bot that has no sockets yet its connections, which are being made.
+    /// Begins to make the connections of each bot that has no sockets yet.
     ///
     /// # Errors
-    /// `Socket` where the system makes none, and `NoMemory` where a growth was refused.
+    /// `Socket` if the system makes none, and `NoMemory` if memory cannot be allocated.
     pub fn connect_all<R: Net + AllocGlobal>(&mut self, rt: &R) -> Result<(), LiveError> {
         for _place in self.seats.len()..self.bots.len() {
             self.add_seat(rt)?;
@@ -101,7 +101,7 @@ impl Network {
         Ok(())
     }
 
-    // The next bot's connection to the hub; none where it is the hub itself.
+    // The next bot's connection to the hub; `None` if that bot is the hub.
     fn next_uplink<R: Net + AllocGlobal>(&self, rt: &R) -> io::Result<Option<Uplink>> {
         if self.seats.is_empty() {
             return Ok(None);
@@ -113,11 +113,11 @@ impl Network {
         Uplink::connect(rt, self.house.waiting(), self.hub)
     }
 
-    /// Gives the bot at a place a new connection to the server, of which it hears in its next turn. Nothing where there
-    /// is none.
+    /// Gives the bot at `place` a new connection to the server, of which it hears in its next turn. If no bot is at
+    /// `place`, the connection is dropped.
     ///
     /// # Errors
-    /// Those of the system, where it makes none.
+    /// Those of the system, if it makes none.
     pub fn connect<R: Net + AllocGlobal>(&mut self, rt: &R, place: usize) -> io::Result<()> {
         let irc = Peer::connect(rt, self.house.waiting(), self.server)?;
         if let Some(seat) = self.seats.get_mut(place) {
@@ -126,10 +126,10 @@ impl Network {
         Ok(())
     }
 
-    /// Makes those connections anew that are lost. Whether there were any.
+    /// Makes new connections for those that are lost. Returns whether any was lost.
     ///
     /// # Errors
-    /// Those of the system, where it makes none.
+    /// Those of the system, if it makes none.
     pub fn mend<R: Net + AllocGlobal>(&mut self, rt: &R) -> io::Result<bool> {
         let mut mended = false;
         for place in 0..self.seats.len() {
@@ -151,7 +151,7 @@ impl Network {
         }
     }
 
-    // Makes a leaf's connection to the hub anew where it is lost. Whether it was.
+    // Makes a new connection to the hub for a leaf that has lost its own. Returns whether it had.
     fn mend_uplink<R: Net + AllocGlobal>(&mut self, rt: &R, place: usize) -> io::Result<bool> {
         match self.seats.get(place) {
             Some(seat) => {
@@ -168,12 +168,12 @@ impl Network {
         Ok(true)
     }
 
-    /// Whether each bot is at a version or above.
+    /// Returns whether each bot is at `version` or above.
     pub fn has_reached(&self, version: u32) -> bool {
         self.bots.iter().all(|bot| bot.version() >= version)
     }
 
-    /// Whether a version is wanted, and each bot is at it or above.
+    /// Returns whether a version is `wanted` and each bot is at it or above.
     pub fn is_at(&self, wanted: Option<u32>) -> bool {
         match wanted {
             Some(version) => self.has_reached(version),
@@ -181,19 +181,19 @@ impl Network {
         }
     }
 
-    /// Lets in who waits at the server and at the hub. Whether anyone came.
+    /// Accepts the connections that wait at the server and at the hub. Returns whether any came.
     ///
     /// # Errors
-    /// `NoMemory` where a growth was refused.
+    /// `NoMemory` if memory cannot be allocated.
     pub fn let_in(&mut self, alloc: Global) -> Result<bool, NoMemory> {
         let came = self.house.let_in(alloc)?;
         Ok(self.link.let_in(alloc, self.house.waiting())? || came)
     }
 
-    /// Reads each socket. Whether anything came.
+    /// Reads each socket. Returns whether anything arrived.
     ///
     /// # Errors
-    /// `NoMemory` where a growth was refused.
+    /// `NoMemory` if memory cannot be allocated.
     pub fn read(&mut self) -> Result<bool, NoMemory> {
         let heard = self.house.read()?;
         let mut came = self.link.read()? || heard;
@@ -205,10 +205,10 @@ impl Network {
         Ok(came)
     }
 
-    /// Writes what waits, as far as it is taken. Whether anything moved, or a connection is lost.
+    /// Writes what waits, as far as the system takes it. Returns whether anything moved or a connection is lost.
     ///
     /// # Errors
-    /// `NoMemory` where a growth was refused.
+    /// `NoMemory` if memory cannot be allocated.
     pub fn send(&mut self, alloc: Global) -> Result<bool, NoMemory> {
         let told = self.house.send(alloc)?;
         let mut moved = self.link.send() || told;
@@ -220,9 +220,9 @@ impl Network {
         Ok(moved)
     }
 
-    /// Makes way for the next turn after one in which nothing moved. Where something is still under way, waits until a
-    /// socket may have something to do, at most 100 milliseconds. Of the turns that are left, so many are as good as made:
-    /// none where a socket has something to do; or else those before the next that pumps, in which nothing would move.
+    /// Prepares the next turn after one that moved nothing. If something is still on its way, it waits until a socket
+    /// may have something to do, at most 100 milliseconds. Returns how many of the `left` turns count as made: 0 if a
+    /// socket has something to do, else those before the next that pumps, in which nothing would move.
     ///
     /// # Errors
     /// Those of the system.
@@ -241,8 +241,8 @@ impl Network {
         Ok(count)
     }
 
-    // Whether nothing is under way: each connection has both its sides, and each side has read all that the other was
-    // told.
+    // Whether nothing is on its way: each connection has both its sides, and each side has read all that the other has
+    // sent or queued.
     fn is_settled(&self) -> bool {
         self.house.count() == self.seats.len()
             && self.link.count() == self.seats.len().saturating_sub(1)
@@ -257,7 +257,7 @@ impl Network {
             }
     }
 
-    /// Counts a turn. Whether it pumps: the first does, and then every 64th.
+    /// Counts a turn. Returns whether it pumps: the first turn does, and then every 64th.
     pub fn count_pump(&mut self) -> bool {
         let is_due = self.until_pump == 0;
         if is_due {
@@ -267,11 +267,11 @@ impl Network {
         is_due
     }
 
-    /// The packets that have come to the bot at a place: to the hub those of each connection, one after another, and to
-    /// a leaf those of the hub.
+    /// Returns the packets that have arrived at the bot at `place`: for the hub those of each connection, one
+    /// connection after another, and for a leaf those of the hub.
     ///
     /// # Errors
-    /// `NoMemory` where a growth was refused.
+    /// `NoMemory` if memory cannot be allocated.
     pub fn take_packets(&mut self, alloc: Global, place: usize) -> Result<Vec<Packet>, NoMemory>
         ensures good { IfOk result (λ packets. AllByRecursion HasGoodRecords packets.items) }
     {
@@ -294,10 +294,10 @@ impl Network {
         Ok(packets)
     }
 
-    /// Leaves what steps of the bot at a place report for those to whom it goes, in order.
+    /// Queues what the `reports` of the bot at `place` send, in order.
     ///
     /// # Errors
-    /// `NoMemory` where a growth was refused.
+    /// `NoMemory` if memory cannot be allocated.
     pub fn pass_all(
         &mut self,
         alloc: Global,
@@ -312,11 +312,11 @@ impl Network {
         Ok(())
     }
 
-    /// Leaves what a step of the bot at a place reports for those to whom it goes: its lines for the server, the packets
-    /// of the hub for leaves, and those of a leaf for the hub.
+    /// Queues what the `report` of the bot at `place` sends: its lines for the server, and its packets for the leaves
+    /// or, from a leaf, for the hub.
     ///
     /// # Errors
-    /// `NoMemory` where a growth was refused.
+    /// `NoMemory` if memory cannot be allocated.
     pub fn pass(&mut self, alloc: Global, place: usize, report: &Report) -> Result<(), NoMemory>
         requires good { AreGood report.now.packets }
     {
@@ -345,7 +345,7 @@ impl Network {
     }
 }
 
-// Where the server and the hub are found.
+// The addresses of the server and the hub.
 fn addresses(house: &House, link: &LinkHouse) -> io::Result<(SocketAddr, SocketAddr)> {
     Ok((local(house.port()?), local(link.port()?)))
 }

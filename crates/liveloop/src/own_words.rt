@@ -9,10 +9,10 @@ use bytetext::{NoMemory, Text};
 use script::{number, rest_of};
 use std::alloc::Global;
 
-/// The command of a live script alone that these words spell; none where they are none.
+/// Returns the command that `words` spell, if only a live script has it, and `None` otherwise.
 ///
 /// # Errors
-/// `NoMemory` where room is refused.
+/// `NoMemory` if memory cannot be allocated.
 pub fn own_command(alloc: Global, words: &[&[u8]]) -> Result<Option<Command>, NoMemory>
     ensures { IfOk result (λ command. command ≡ own_command (map (λ word. word.now) words.now)) }
 {

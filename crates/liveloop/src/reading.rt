@@ -12,7 +12,7 @@ use script::{MAX_SCRIPT, Reason, pieces_of};
 use std::alloc::Global;
 use std::marker::Model;
 
-/// A live script: how many leaves the botnet has, in which zone, and what is done with it.
+/// A live script: how many leaves the botnet has, in which zone, and which commands are done.
 #[derive(Drop)]
 pub struct LiveScript {
     leaves: u16,
@@ -41,11 +41,12 @@ impl LiveScript {
     ghost use Rattle.liveloop.specs.Grammar.{IsGoodCommand};
     ghost use Rattle.liveloop.specs.declared.TheConstants.{MAX_LEAVES};
 
-    /// The script that these bytes spell.
+    /// Reads the script that `bytes` spell.
     ///
     /// # Errors
-    /// `Refused` with line 0 above 1,048,576 bytes, else with the first line that breaks a rule, else with line 0 where
-    /// there is no command; each with its reason. `NoMemory` where room is refused before a broken rule is told.
+    /// - `Refused` with line 0 if there are more than 1,048,576 bytes; else with the first line that breaks a rule;
+    ///   else with line 0 if there is no command. Each has its reason.
+    /// - `NoMemory` if memory runs out before a broken rule is found.
     pub fn read(alloc: Global, bytes: &[u8]) -> Result<LiveScript, LiveScriptError> {
         if bytes.len() > MAX_SCRIPT {
             return Err(whole_fault(Reason::TooLong));
@@ -54,7 +55,7 @@ impl LiveScript {
         script_of(alloc, lines.as_slice())
     }
 
-    /// The number of leaves, at most [`MAX_LEAVES`](crate::MAX_LEAVES).
+    /// Returns the number of leaves, at most [`MAX_LEAVES`](crate::MAX_LEAVES).
     pub fn leaves(&self) -> u16
         ensures value { result ≡ self.now.leaves }
         ensures few { result ≤ MAX_LEAVES }
@@ -62,7 +63,7 @@ impl LiveScript {
         self.leaves
     }
 
-    /// Takes the zone of all bots' clocks out, where the script says it. Takes no memory.
+    /// Takes out the zone of all bots' clocks, if the script gives one. Never allocates.
     pub fn take_zone(&mut self) -> Option<Zone>
         ensures value { result ≡ self.old.zone }
         ensures kept { self.new ≡ record self.old { zone = None } }
@@ -70,10 +71,10 @@ impl LiveScript {
         self.zone.take()
     }
 
-    /// The commands, in order. Takes no memory.
+    /// Returns the commands, in order. Never allocates.
     pub fn into_commands(self) -> Commands
         ensures value { result ≡ self.commands }
-        // None of them tells a bot a packet.
+        // None of them gives a bot a packet.
         ensures good { AllByRecursion IsGoodCommand result }
     {
         self.commands
@@ -102,7 +103,7 @@ fn script_of(alloc: Global, lines: &[&[u8]]) -> Result<LiveScript, LiveScriptErr
     }
 }
 
-// A line that breaks a rule.
+// The fault of a line that breaks a rule.
 fn fault_at(alloc: Global, line: u64, is_begun: bool, bytes: &[u8]) -> LiveScriptError {
     match reason_of(alloc, is_begun, bytes) {
         Ok(reason) => Failure::Refused(LiveFault { line, reason }),
@@ -110,7 +111,7 @@ fn fault_at(alloc: Global, line: u64, is_begun: bool, bytes: &[u8]) -> LiveScrip
     }
 }
 
-// Adds what the next line says. False where it breaks a rule after the lines so far.
+// Adds what the next line says. Returns false if that breaks a rule after the lines so far.
 fn go_on(alloc: Global, script: &mut Option<LiveScript>, saying: Saying) -> Result<bool, NoMemory>
     requires good { IsGoodSaying saying }
 {
@@ -123,7 +124,7 @@ fn go_on(alloc: Global, script: &mut Option<LiveScript>, saying: Saying) -> Resu
     }
 }
 
-// Begins the script with the number of leaves, which is said once, and not above 8.
+// Begins the script with the number of leaves. Returns false if it has been given before or is above 8.
 fn set_leaves(alloc: Global, script: &mut Option<LiveScript>, leaves: u16) -> bool {
     if script.is_some() || leaves > MAX_LEAVES {
         return false;
@@ -137,7 +138,7 @@ fn set_leaves(alloc: Global, script: &mut Option<LiveScript>, leaves: u16) -> bo
     true
 }
 
-// Sets the zone, which is said once, after the number of leaves and before any command.
+// Sets the zone. Returns false if it has been given before, before the number of leaves, or after a command.
 fn set_zone(script: &mut Option<LiveScript>, zone: Zone) -> bool {
     match script {
         Some(begun) => {
@@ -151,7 +152,7 @@ fn set_zone(script: &mut Option<LiveScript>, zone: Zone) -> bool {
     }
 }
 
-// Adds a command, after the number of leaves.
+// Adds a command. Returns false before the number of leaves.
 fn add_command(script: &mut Option<LiveScript>, command: Command) -> Result<bool, NoMemory>
     requires good { IsGoodCommand command }
 {

@@ -7,48 +7,48 @@ use std::alloc::Global;
 use std::fmt;
 use std::fmt::Display;
 
-/// Why a line of a live script breaks a rule. Words of a line are counted from 1.
+/// Why a line of a live script breaks a rule. The words of a line are counted from 1.
 #[derive(Clone, Copy, Debug, PartialEq, Eq)]
 pub enum LiveReason {
-    /// It would in a replay's script.
+    /// The line would break a rule in a replay's script too.
     Script(Reason),
-    /// The first word is none that there is.
+    /// The first word is not a command.
     Unknown,
-    /// There are more than 8 leaves.
+    /// The script has more than 8 leaves.
     Leaves,
-    /// A bot hears what its server sends, and no line of a script.
+    /// A bot reads what its server sends, and no line of a script.
     NoLine,
-    /// Packets come by themselves.
+    /// Packets are delivered by the network, and not by a script.
     NoDeliver,
-    /// The line has too few or too many words for this verb, or an empty one.
+    /// The line has too few or too many words for this verb, or an empty word.
     Form(LiveVerb),
-    /// The second word is no version.
+    /// The second word is not a version.
     Version,
-    /// The second word is no number of turns, or one above 100,000.
+    /// The second word is not a number of turns, or it is above 100,000.
     Turns,
-    /// The second word is no moment.
+    /// The second word is not a moment.
     Moment,
 }
 
-/// The first words that only lines of a live script have, and `clock`, which takes other words there.
+/// The first words that only lines of a live script have, and `clock`, which has other words in a live script.
 #[derive(Clone, Copy, Debug, PartialEq, Eq)]
 pub enum LiveVerb {
-    /// Turns until each bot is at a version.
+    /// Makes turns until each bot is at a version.
     Until,
-    /// So many turns.
+    /// Makes a number of turns.
     Turns,
-    /// A client in memory.
+    /// Connects a client in memory.
     Guest,
-    /// A guest says something.
+    /// Makes a guest say something.
     Say,
-    /// What a guest got.
+    /// Prints what a guest received.
     Heard,
-    /// What all clocks show.
+    /// Sets what all clocks show.
     Clock,
 }
 
 impl LiveReason {
-    /// What is wrong, and what to say instead.
+    /// Returns what is wrong, and what to write instead.
     pub fn sentence(self) -> &'static str {
         match self {
             LiveReason::Script(reason) => reason.sentence(),
@@ -75,7 +75,7 @@ impl Display for LiveReason {
     }
 }
 
-// How a line of this verb is formed.
+// The words of a line of this verb.
 fn form_of(verb: LiveVerb) -> &'static str {
     match verb {
         LiveVerb::Until => "say until V, as in until 2",
@@ -87,7 +87,7 @@ fn form_of(verb: LiveVerb) -> &'static str {
     }
 }
 
-// The verb that is spelled so.
+// The verb that is spelled like this.
 fn verb_named(spelling: &[u8]) -> Option<LiveVerb> {
     if spelling == b"until".as_slice() {
         Some(LiveVerb::Until)
@@ -106,10 +106,11 @@ fn verb_named(spelling: &[u8]) -> Option<LiveVerb> {
     }
 }
 
-/// Why a line breaks a rule that does; `is_begun` is whether a line before it says the number of leaves.
+/// Returns why `line`, which breaks a rule, does so; `is_begun` says whether a line before it gives the number of
+/// leaves.
 ///
 /// # Errors
-/// `NoMemory` where room is refused.
+/// `NoMemory` if memory cannot be allocated.
 pub fn reason_of(alloc: Global, is_begun: bool, line: &[u8]) -> Result<LiveReason, NoMemory> {
     match saying_of(alloc, line)? {
         Saying::Wrong => wrong_reason(alloc, line),
@@ -146,7 +147,7 @@ fn wrong_reason(alloc: Global, line: &[u8]) -> Result<LiveReason, NoMemory> {
     }
 }
 
-// Why a line of these words breaks a rule that isn't a replay's; none where it is one.
+// Why a line of these words breaks a rule that only a live script has; `None` if it doesn't.
 fn own_reason(words: &[&[u8]]) -> Option<LiveReason> {
     match words {
         [] => None,
@@ -159,7 +160,7 @@ fn own_reason(words: &[&[u8]]) -> Option<LiveReason> {
     }
 }
 
-// Why a line of this verb and so many words after it breaks a rule.
+// Why a line with this verb and this number of words after it breaks a rule.
 fn verb_reason(verb: LiveVerb, count: usize) -> LiveReason {
     if count != 1 {
         return LiveReason::Form(verb);

@@ -1,4 +1,4 @@
-// From a live script to what it prints.
+// Runs a live script and writes what it prints.
 ghost use Rattle.std.specs.Prelude.{◌≡◌, ◌++◌, IfOk, OnOk, ◌≤◌};
 ghost use Rattle.std.specs.List.{AllByRecursion};
 ghost use Rattle.liveloop.specs.declared.TheConstants.{MAX_LEAVES as most_leaves};
@@ -20,16 +20,24 @@ use std::alloc::Global;
 use std::net::Net;
 use streams::Stream;
 
-/// Reads a live script whole, and does its commands with a botnet over sockets, whose binds call the procs of this
-/// store. What a `show` or `heard` prints is written when that command is done.
+/// Reads a whole live script from `stream` and does its commands with a botnet over sockets. Its binds call the procs
+/// of `store`. What a `show` or `heard` prints is written to `stream` when that command is done.
 ///
-/// The stream is read to its end, or to the first byte above 1,048,576.
+/// It reads the stream to its end, or to the first byte above 1,048,576.
 ///
 /// # Errors
-/// `Read` where the stream fails or would have to wait for bytes; then `Script` with the first line that breaks a rule; each before a socket
-/// is opened. Then the first that a command meets: `Socket` where the system opens no socket or waits for none, `Stalled` where a bot is
-/// below its version after the turns of an `until`, `Write` where the stream fails as it is offered bytes or takes none.
-/// `NoMemory` where a growth is refused.
+/// Before it opens a socket:
+///
+/// - `Read` if the stream fails or would block.
+/// - `Script` with the first line that breaks a rule, if the script was read.
+///
+/// Then the first that occurs:
+///
+/// - `Socket` if the system opens no socket or can't wait for one.
+/// - `Stalled` if a bot is below its version after the turns of an `until`.
+/// - `Write` if the stream fails while it writes, or takes no bytes.
+///
+/// `NoMemory`, at any time, if memory cannot be allocated.
 pub fn live<R: Net + AllocGlobal, P: Promise, B: Run, S: Stream>(
     rt: &R,
     store: ProcStore<P, B>,
@@ -39,7 +47,7 @@ pub fn live<R: Net + AllocGlobal, P: Promise, B: Run, S: Stream>(
     play(rt, &store, script, stream)
 }
 
-// The script that a stream gives.
+// Reads the script from a stream.
 fn read_script<S: Stream>(alloc: Global, stream: &mut S) -> Result<LiveScript, LiveError> {
     let bytes = script_bytes(alloc, stream)?;
     Ok(LiveScript::read(alloc, bytes.as_slice())?)
@@ -102,7 +110,7 @@ fn do_all<R: Net + AllocGlobal, P: Promise, B: Run, S: Stream>(
     Ok(())
 }
 
-// Does a command. What it prints.
+// Does a command. Returns what it prints.
 fn done<R: Net + AllocGlobal, P: Promise, B: Run>(
     rt: &R,
     net: &mut Network,
@@ -159,7 +167,7 @@ fn shown(alloc: Global, net: &Network, bot: u16) -> Result<Vec<u8>, NoMemory> {
     Ok(text)
 }
 
-// The lines that a guest got, each after its nick.
+// The lines that a guest received, each after its nick.
 fn heard(alloc: Global, net: &mut Network, nick: &Text) -> Result<Vec<u8>, NoMemory> {
     let lines = net.house.take_heard(alloc, nick);
     heard_text(alloc, nick.as_bytes(), lines.as_slice())

@@ -11,10 +11,10 @@ use bytetext::NoMemory;
 use script::{Command as ReplayCommand, Saying as ReplaySaying, Steps, pieces_of};
 use std::alloc::Global;
 
-/// What a line says by itself, whatever stands before it.
+/// What a line says by itself, whatever lines come before it.
 #[derive(Drop)]
 pub enum Saying {
-    /// Nothing: it is empty or begins with `#`.
+    /// Nothing: the line is empty or begins with `#`.
     Nothing,
     /// The number of leaves, at most 1,000.
     Leaves(u16),
@@ -22,14 +22,14 @@ pub enum Saying {
     Zone(Zone),
     /// A command.
     Told(Command),
-    /// It breaks a rule.
+    /// The line breaks a rule.
     Wrong,
 }
 
-/// What a line says.
+/// Returns what `line` says.
 ///
 /// # Errors
-/// `NoMemory` where room is refused.
+/// `NoMemory` if memory cannot be allocated.
 pub fn saying_of(alloc: Global, line: &[u8]) -> Result<Saying, NoMemory>
     ensures says { IfOk result (λ saying. saying ≡ saying_of line.now) }
     ensures good { IfOk result IsGoodSaying }
@@ -41,7 +41,7 @@ pub fn saying_of(alloc: Global, line: &[u8]) -> Result<Saying, NoMemory>
     Ok(shared_saying(script::saying_of(alloc, line)?))
 }
 
-// What a line says that a replay's script may have too.
+// What a line says that may also stand in a replay's script.
 fn shared_saying(saying: ReplaySaying) -> Saying
     ensures { result ≡ shared_saying saying }
 {
@@ -63,7 +63,8 @@ fn shared_command(command: ReplayCommand) -> Saying
     }
 }
 
-// A line or a delivery is the network's own here, and its steps are none of a live script.
+// The command of these steps. In a live script, lines and deliveries are up to the network, so their steps are no
+// command.
 fn shared_step(steps: Steps) -> Saying
     ensures { result ≡ shared_step (last_step steps) }
 {
@@ -73,7 +74,7 @@ fn shared_step(steps: Steps) -> Saying
     }
 }
 
-// The last of these steps. Takes no memory.
+// The last of these steps. Never allocates.
 fn last_of(steps: Steps) -> Option<Step>
     ensures { result ≡ last_step steps }
 {

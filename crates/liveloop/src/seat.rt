@@ -10,10 +10,10 @@ use turns::Heard;
 
 /// A bot's connection to the server, and a leaf's to the hub.
 pub struct Seat {
-    /// What its connection to the server has begun to say.
+    /// The line of the server that has begun but not ended.
     pub lines: LineReader,
     pub irc: Peer,
-    /// Whether the bot has still to hear that its connection to the server began.
+    /// Whether the bot has not heard yet that its connection to the server began.
     pub is_new: bool,
     /// None for the hub.
     pub uplink: Option<Uplink>,
@@ -36,7 +36,8 @@ impl Seat {
     ghost use Rattle.std.specs.List.{AllByRecursion};
     ghost use Rattle.linkcalls.specs.Shapes.{HasGoodRecords};
 
-    /// Connections that are being made. Takes no memory.
+    /// Creates the sockets of a bot: `irc` to the server and, for a leaf, `uplink` to the hub, both of which are being
+    /// made. Never allocates.
     pub fn new(alloc: Global, irc: Peer, uplink: Option<Uplink>) -> Seat {
         Seat {
             lines: LineReader::new(alloc),
@@ -46,16 +47,16 @@ impl Seat {
         }
     }
 
-    /// The bot has a new connection to the server, which is being made, and the one before is let go.
+    /// Replaces the connection to the server with `irc`, which is being made, and drops the old one.
     pub fn connect(&mut self, irc: Peer) {
         self.irc = irc;
         self.is_new = true;
     }
 
-    /// Reads what has come over its connections. Whether anything came.
+    /// Reads what has arrived over both connections. Returns whether anything arrived.
     ///
     /// # Errors
-    /// `NoMemory` where a growth was refused.
+    /// `NoMemory` if memory cannot be allocated.
     pub fn read(&mut self) -> Result<bool, NoMemory> {
         let came = self.irc.read()?;
         match &mut self.uplink {
@@ -64,7 +65,7 @@ impl Seat {
         }
     }
 
-    /// Writes what waits, as far as it is taken. Whether any of it was taken, or a connection is lost.
+    /// Writes what waits, as far as the system takes it. Returns whether it took any of it or a connection is lost.
     pub fn send(&mut self) -> bool {
         let moved = self.irc.send() || self.irc.is_over();
         match &mut self.uplink {
@@ -73,8 +74,9 @@ impl Seat {
         }
     }
 
-    /// What the bot hears in a turn in which these packets have come: that its connection to the server began, where it
-    /// has still to hear that, what the server has sent, and the clock. Takes no memory.
+    /// Returns what the bot hears in a turn in which `packets` have arrived: that its connection to the server began,
+    /// if it has not heard that yet; what the server has sent; the clock, which shows `now`; and `pump`, whether the
+    /// turn pumps. Never allocates.
     pub fn take_heard(
         &mut self,
         alloc: Global,
@@ -102,10 +104,10 @@ impl Seat {
         }
     }
 
-    /// The packets that have come from the hub.
+    /// Returns the packets that have arrived from the hub.
     ///
     /// # Errors
-    /// `NoMemory` where a growth was refused.
+    /// `NoMemory` if memory cannot be allocated.
     pub fn take_packets(&mut self, alloc: Global) -> Result<Vec<Packet>, NoMemory>
         ensures good { IfOk result (λ packets. AllByRecursion HasGoodRecords packets.items) }
     {
@@ -115,10 +117,10 @@ impl Seat {
         }
     }
 
-    /// Leaves lines for the server, in order, each with CR and LF.
+    /// Queues `lines` for the server, in order, each with CR and LF.
     ///
     /// # Errors
-    /// `NoMemory` where a growth was refused.
+    /// `NoMemory` if memory cannot be allocated.
     pub fn tell_server(&mut self, lines: &[Text]) -> Result<(), NoMemory> {
         for line in lines {
             self.irc.tell(line.as_bytes())?;
@@ -127,10 +129,10 @@ impl Seat {
         Ok(())
     }
 
-    /// Leaves a packet for the hub.
+    /// Queues `packet` for the hub.
     ///
     /// # Errors
-    /// `NoMemory` where a growth was refused.
+    /// `NoMemory` if memory cannot be allocated.
     pub fn tell_hub(&mut self, alloc: Global, packet: &Packet) -> Result<(), NoMemory>
         requires good { HasGoodRecords packet.now }
     {
@@ -140,7 +142,7 @@ impl Seat {
         }
     }
 
-    /// Whether its connection to the hub is lost.
+    /// Returns whether the connection to the hub is lost.
     pub fn has_lost_hub(&self) -> bool {
         match &self.uplink {
             Some(uplink) => uplink.wire.peer.is_over(),

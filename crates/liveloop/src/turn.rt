@@ -19,12 +19,13 @@ use std::alloc::Global;
 use std::net::Net;
 use turns::{Told, TurnEnd, take_turn};
 
-/// Makes so many turns, or fewer where a version is wanted and each bot is at it or above. After a turn in which nothing
-/// moved it waits for what is under way, or counts those turns as made in which nothing would move ([`Network::rest`]).
+/// Makes `most` turns of `net`, whose binds call the procs of `store`, or fewer if a version is `wanted` and each bot
+/// is at it or above. After a turn that moved nothing it waits for what is on its way, or counts the turns in which
+/// nothing would move as made ([`Network::rest`]).
 ///
 /// # Errors
-/// `Socket` where a lost connection can't be made anew or sockets can't be waited for, and `NoMemory` where a growth was
-/// refused.
+/// `Socket` if it can't make a new connection for a lost one or can't wait for sockets, and `NoMemory` if memory cannot
+/// be allocated.
 pub fn make_turns<R: Net + AllocGlobal, P: Promise, B: Run>(
     rt: &R,
     net: &mut Network,
@@ -45,7 +46,7 @@ pub fn make_turns<R: Net + AllocGlobal, P: Promise, B: Run>(
     Ok(())
 }
 
-// Makes a turn: lets in who waits, reads every socket, steps, and writes. Whether anything moved.
+// Makes a turn: accepts new connections, reads every socket, steps, and writes. Returns whether anything moved.
 fn turn<R: Net + AllocGlobal, P: Promise, B: Run>(
     rt: &R,
     net: &mut Network,
@@ -60,7 +61,7 @@ fn turn<R: Net + AllocGlobal, P: Promise, B: Run>(
     Ok(mended || came || heard || sent)
 }
 
-// Has each bot take its turn.
+// Makes each bot take its turn.
 fn step_all<P: Promise, B: Run>(
     alloc: Global,
     net: &mut Network,
@@ -73,7 +74,7 @@ fn step_all<P: Promise, B: Run>(
     Ok(())
 }
 
-// Has the bot at a place take its turn, and leaves what it tells for those to whom it goes.
+// Makes the bot at a place take its turn, and queues what it sends.
 fn step<P: Promise, B: Run>(
     alloc: Global,
     net: &mut Network,
@@ -92,7 +93,7 @@ fn step<P: Promise, B: Run>(
     }
 }
 
-// What the turn of the bot at a place tells; none where there is no such bot.
+// What the turn of the bot at a place reports; `None` if no bot is at the place.
 fn told_at<P: Promise, B: Run>(
     alloc: Global,
     net: &mut Network,
@@ -109,7 +110,7 @@ fn told_at<P: Promise, B: Run>(
     Some(bot_turn(alloc, bot, store, seat, packets, &net.now, pump))
 }
 
-// The turn of a bot that sits here. What it tells.
+// The turn of the bot with these sockets. Returns what it reports.
 fn bot_turn<P: Promise, B: Run>(
     alloc: Global,
     bot: &mut Bot<SteadyDisk>,
@@ -128,10 +129,11 @@ fn bot_turn<P: Promise, B: Run>(
     take_turn(alloc, bot, store, &mut seat.lines, heard)
 }
 
-/// Does one step of the bot at a place, and leaves what it reports for those to whom it goes. Nothing where there is none.
+/// Makes the bot at `place` in `net` take one step for `event`, whose binds call the procs of `store`, and queues what
+/// it sends. Does nothing if no bot is at `place`.
 ///
 /// # Errors
-/// `NoMemory` where a growth was refused.
+/// `NoMemory` if memory cannot be allocated.
 pub fn tell<P: Promise, B: Run>(
     alloc: Global,
     net: &mut Network,

@@ -1,4 +1,4 @@
--- Who is there for a call: where nobody is, it takes no memory.
+-- The guest or leaf that a call is for: a call for nobody never allocates.
 use Rattle.std.specs.Prelude.{◌==◌, ℕ, Bool, true, false, Option, None, Some, List}
 use Rattle.std.specs.Str.{bytes_eq}
 use Rattle.sharewire.specs.declared.packet.Packet.{Packet}
@@ -6,11 +6,11 @@ use Rattle.sharewire.specs.declared.packet.Packet.TheVariants.{Hello, Change, Pa
 use Rattle.loopback.specs.declared.guest.Guest.{Guest}
 use Rattle.loopback.specs.declared.link.End.{End}
 
--- a guest came under this nick
+-- whether the guest was invited as this nick
 abbrev pub is_named : List ℕ → Guest → Bool
 is_named nick guest = bytes_eq guest.nick nick
 
--- a connection is that of this leaf, if of any
+-- whether a connection is that of this leaf
 abbrev pub is_leaf : ℕ → Option ℕ → Bool
 is_leaf number None = false
 is_leaf number (Some leaf) = leaf == number
@@ -18,7 +18,7 @@ is_leaf number (Some leaf) = leaf == number
 abbrev pub is_of : ℕ → End → Bool
 is_of number end = is_leaf number end.leaf
 
--- a packet that others may follow
+-- a hello, after which other packets may follow
 abbrev pub is_hello : Packet → Bool
 is_hello (Hello layout leaf version) = true
 is_hello (Change n origin request change) = false

@@ -1,7 +1,7 @@
 // Where the sockets are.
 use std::net::{Ipv4Addr, SocketAddr};
 
-/// A port of this machine.
+/// Returns the address of `port` on this machine.
 pub fn local(port: u16) -> SocketAddr {
     SocketAddr::from((Ipv4Addr::LOCALHOST, port))
 }

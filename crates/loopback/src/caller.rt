@@ -5,22 +5,23 @@ use miniircd::{Client, Pulse};
 use std::alloc::Global;
 use std::mem;
 
-// How much of a line is kept, in bytes: the server takes none of more than 510.
+// The maximum length of a line that is kept, in bytes. The server takes no line longer than 510 bytes.
 const MAX_LINE: usize = 512;
 
-/// A connection to the server, and the client that it is to it.
+/// A connection to the server, and the client that the server knows it by.
 #[derive(Drop)]
 pub struct Caller {
     pub client: Client,
     pub peer: Peer,
-    /// How long the server waits for it.
+    /// How long the server waits for the client.
     pub pulse: Pulse,
-    // What was read of a line whose end is still to come.
+    // The part of a line that was read before the line's end arrived.
     line: Vec<u8>,
 }
 
 impl Caller {
-    /// A connection that comes at this second. Takes no memory.
+    /// Creates the caller that is `client` to the server, over the connection `peer`, which was accepted at the second
+    /// `now`. Never allocates.
     pub fn new(alloc: Global, client: Client, peer: Peer, now: u64) -> Caller {
         Caller {
             client,
@@ -30,28 +31,28 @@ impl Caller {
         }
     }
 
-    /// The lines that have come whole since the last time, in order.
+    /// Returns the lines that have arrived whole since the last call, in order.
     ///
     /// # Errors
-    /// `NoMemory` where a growth was refused.
+    /// `NoMemory` if memory cannot be allocated.
     pub fn take_lines(&mut self, alloc: Global) -> Result<Vec<Text>, NoMemory> {
         let heard = self.peer.take_heard(alloc);
         cut(alloc, &mut self.line, heard.as_slice())
     }
 
-    /// Leaves a line for it, to be sent with CR and LF.
+    /// Queues `line`, with CR and LF after it.
     ///
     /// # Errors
-    /// `NoMemory` where a growth was refused.
+    /// `NoMemory` if memory cannot be allocated.
     pub fn tell(&mut self, line: &[u8]) -> Result<(), NoMemory> {
         self.peer.tell(line)?;
         self.peer.tell(b"\r\n")
     }
 
-    /// Leaves a last line for it, after which it is to be let go.
+    /// Queues a last `line`, and marks the connection to be closed.
     ///
     /// # Errors
-    /// `NoMemory` where a growth was refused.
+    /// `NoMemory` if memory cannot be allocated.
     pub fn dismiss(&mut self, line: &[u8]) -> Result<(), NoMemory> {
         self.tell(line)?;
         self.peer.end();
@@ -59,7 +60,7 @@ impl Caller {
     }
 }
 
-// The lines that end in these bytes, the first of them after what was read of it before.
+// The lines that end in these bytes. The first of them begins with what was read of it before.
 fn cut(alloc: Global, begun: &mut Vec<u8>, bytes: &[u8]) -> Result<Vec<Text>, NoMemory> {
     let mut lines = Vec::new(alloc);
     for byte in bytes {

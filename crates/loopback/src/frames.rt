@@ -5,7 +5,7 @@ use linkframes::{FrameReader, frame_of};
 use sharewire::Packet;
 use std::alloc::Global;
 
-/// A connection over which packets go as frames.
+/// A connection that carries packets as frames.
 #[derive(Drop)]
 pub struct FramePeer {
     pub peer: Peer,
@@ -18,7 +18,7 @@ impl FramePeer {
     ghost use Rattle.sharewire.specs.Frames.{CanBeWritten};
     ghost use Rattle.linkcalls.specs.Shapes.{HasGoodRecords};
 
-    /// Over a side of a connection that nothing was read from. Takes no memory.
+    /// Creates a connection that carries packets over `peer`, from which nothing has been read. Never allocates.
     pub fn new(alloc: Global, peer: Peer) -> FramePeer {
         FramePeer {
             peer,
@@ -26,11 +26,11 @@ impl FramePeer {
         }
     }
 
-    /// The packets whose frames have come whole since the last time, in order. After bytes that are no frame it is to
-    /// be let go.
+    /// Returns the packets whose frames have arrived whole since the last call, in order. Bytes that are no frame mark
+    /// the connection to be closed.
     ///
     /// # Errors
-    /// `NoMemory` where a growth was refused: never where nothing was read.
+    /// `NoMemory` if memory cannot be allocated; never if nothing was read.
     pub fn take_packets(&mut self, alloc: Global) -> Result<Vec<Packet>, NoMemory>
         ensures good { IfOk result (λ packets. AllByRecursion HasGoodRecords packets.items) }
         ensures memory { IfErr result (λ _. 0 < vec_len self.old.peer.heard) }
@@ -46,10 +46,10 @@ impl FramePeer {
         Ok(feed.packets.into_vec())
     }
 
-    /// Leaves a packet to be written. One that has no frame is lost.
+    /// Queues `packet`. A packet that has no frame is dropped.
     ///
     /// # Errors
-    /// `NoMemory` where a growth was refused: never where it has no frame.
+    /// `NoMemory` if memory cannot be allocated; never if the packet has no frame.
     pub fn tell(&mut self, alloc: Global, packet: &Packet) -> Result<(), NoMemory>
         requires good { HasGoodRecords packet.now }
         ensures memory { OnErr result (CanBeWritten packet.now) }

@@ -1,4 +1,4 @@
-// A client of the small server that is held in memory.
+// A client of the small server that lives in memory.
 ghost use Rattle.std.specs.Prelude.{◌≡◌, IsSome, OnSome, position};
 ghost use Rattle.loopback.specs.Present.{is_named};
 
@@ -7,17 +7,17 @@ use miniircd::Client;
 use std::alloc::Global;
 use std::mem;
 
-/// A client in memory, and the lines that it got since they were taken last.
+/// A client in memory, with the lines that it has received since they were last taken.
 #[derive(Drop)]
 pub struct Guest {
     pub client: Client,
-    /// The nick under which it came.
+    /// The nick as which it was invited.
     pub nick: Text,
     lines: Vec<Text>,
 }
 
 impl Guest {
-    /// A client that has just come. Takes no memory.
+    /// Creates the guest that is `client` to the server and is invited as `nick`. Never allocates.
     pub fn new(alloc: Global, client: Client, nick: Text) -> Guest {
         Guest {
             client,
@@ -26,29 +26,29 @@ impl Guest {
         }
     }
 
-    /// Whether it came under this nick.
+    /// Returns whether the guest was invited as `nick`, even if it has changed its nick since.
     pub fn is_named(&self, nick: &[u8]) -> bool
         ensures { result ≡ is_named nick.now self.now }
     {
         self.nick.as_bytes() == nick
     }
 
-    /// It gets a line.
+    /// Gives the guest `line` to read.
     ///
     /// # Errors
-    /// `NoMemory` where a growth was refused.
+    /// `NoMemory` if memory cannot be allocated.
     pub fn tell(&mut self, alloc: Global, line: &[u8]) -> Result<(), NoMemory> {
         self.lines.push(Text::from_slice(alloc, line)?)?;
         Ok(())
     }
 
-    /// The lines that it got since the last time, in order. Takes no memory.
+    /// Returns the lines that the guest has received since the last call, in order. Never allocates.
     pub fn take_lines(&mut self, alloc: Global) -> Vec<Text> {
         mem::replace(&mut self.lines, Vec::new(alloc))
     }
 }
 
-/// The client of the first of these guests who came under a nick.
+/// Returns the client of the first of `guests` that was invited as `nick`.
 pub fn client_of(guests: &[Guest], nick: &[u8]) -> Option<Client>
     ensures { OnSome result (IsSome (position (is_named nick.now) guests.now)) }
 {
@@ -57,7 +57,7 @@ pub fn client_of(guests: &[Guest], nick: &[u8]) -> Option<Client>
     Some(guest.client)
 }
 
-/// The place of that guest.
+/// Returns the place of the first of `guests` that was invited as `nick`.
 pub fn place_of(guests: &[Guest], nick: &[u8]) -> Option<usize>
     ensures { result ≡ position (is_named nick.now) guests.now }
 {

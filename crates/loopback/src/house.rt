@@ -11,16 +11,16 @@ use std::alloc::Global;
 use std::io;
 use std::net::Net;
 
-/// The small server on a port of this machine, those who are connected to it, and its guests in memory.
+/// The small server on a port of this machine, with its connections and its guests in memory.
 ///
 /// ```text
 /// let mut house = House::open(&rt, 6667)?;
 /// house.wait(1_000)?;        // until a socket has something, or a second has gone
-/// house.tick(now)?;          // who is asked whether it is there, and who has been silent for too long
-/// house.let_in(alloc)?;      // who waits
-/// house.read()?;             // what they sent
-/// house.step(alloc)?;        // what they said
-/// house.send(alloc)?;        // what they are told; who is gone is let go
+/// house.tick(now)?;          // pings silent clients, and disconnects those that are silent for too long
+/// house.let_in(alloc)?;      // accepts those that wait
+/// house.read()?;             // reads what they sent
+/// house.step(alloc)?;        // the server takes their lines
+/// house.send(alloc)?;        // writes the answers, and drops connections that are over
 /// ```
 pub struct House {
     listener: TcpListener,
@@ -28,7 +28,7 @@ pub struct House {
     server: Ircd,
     callers: Vec<Caller>,
     guests: Vec<Guest>,
-    // The second of the last tick, from which on those who come are counted.
+    // The second of the last tick. The time of a new connection counts from it.
     now: u64,
 }
 
@@ -50,10 +50,10 @@ impl House {
     ghost use Rattle.std.specs.Prelude.{◌≡◌, ◌<◌, IsSome, OnErr, position, vec_len};
     ghost use Rattle.loopback.specs.Present.{is_named};
 
-    /// A server without clients on this port of 127.0.0.1, or where it is 0 on one that the system chooses.
+    /// Opens a server without clients on `port` of 127.0.0.1. If the port is 0, the system chooses one.
     ///
     /// # Errors
-    /// Those of the system, where the port can't be listened on.
+    /// Those of the system, if it cannot listen on the port.
     pub fn open<R: Net + AllocGlobal>(rt: &R, port: u16) -> io::Result<House> {
         let mut listener = TcpListener::bind(rt, local(port))?;
         let waiting = Waiting::new(rt)?;
@@ -68,14 +68,14 @@ impl House {
         })
     }
 
-    /// What it waits for, to which a program adds sockets of its own: then [`House::wait`] waits for those too.
+    /// Returns what [`House::wait`] waits for. A program can add sockets of its own to it.
     pub fn waiting(&self) -> &Waiting {
         &self.waiting
     }
 
-    /// Waits until the listener, a connection or a socket that was added may have something to do, at most so many
-    /// milliseconds. Whether one of them may. After a turn in which something moved there may be more to do at once: wait
-    /// for none then.
+    /// Waits at most `millis` milliseconds until the listener, a connection or an added socket may have something to
+    /// do. Returns whether one of them may. After a turn that moved something, more work may be ready at once, so wait
+    /// 0 milliseconds then.
     ///
     /// # Errors
     /// Those of the system.
@@ -86,11 +86,12 @@ impl House {
         self.waiting.wait(millis)
     }
 
-    /// It is this second of a clock that never goes back: asks those who are silent whether they are there, and has those
-    /// let go who haven't registered or answered in time. Without a tick nobody is; a guest never is.
+    /// Sets the time to the second `now` of a clock that never goes back. Sends a PING to clients that are silent, and
+    /// disconnects those that have not registered or answered in time. Only a tick disconnects them. A guest never
+    /// times out.
     ///
     /// # Errors
-    /// `NoMemory` where a growth was refused: never where nobody is connected.
+    /// `NoMemory` if memory cannot be allocated; never if nobody is connected.
     pub fn tick(&mut self, now: u64) -> Result<(), NoMemory>
         ensures memory { OnErr result (0 < vec_len self.old.callers) }
     {
@@ -107,7 +108,7 @@ impl House {
         Ok(())
     }
 
-    /// The port that it listens on.
+    /// Returns the port on which the server listens.
     ///
     /// # Errors
     /// Those of the system.
@@ -115,10 +116,11 @@ impl House {
         Ok(self.listener.local_addr()?.port())
     }
 
-    /// Lets in who waits; one that finds the server full is told so and let go. Whether anyone came.
+    /// Accepts the connections that wait. If the server is full, it sends an ERROR to the connection and closes it.
+    /// Returns whether any connection came.
     ///
     /// # Errors
-    /// `NoMemory` where a growth was refused.
+    /// `NoMemory` if memory cannot be allocated.
     pub fn let_in(&mut self, alloc: Global) -> Result<bool, NoMemory> {
         for count in 0..MAX_CLIENTS {
             let Some(peer) = self.next(alloc) else {
@@ -129,7 +131,7 @@ impl House {
         Ok(true)
     }
 
-    // The next who waits.
+    // The next connection that waits.
     fn next(&self, alloc: Global) -> Option<Peer> {
         match self.listener.accept() {
             Ok((stream, from)) => Some(Peer::accepted(alloc, &self.waiting, stream, from)),
@@ -149,22 +151,23 @@ impl House {
         }
     }
 
-    /// How many are connected.
+    /// Returns the number of connections.
     pub fn count(&self) -> usize {
         self.callers.len()
     }
 
-    /// Whether this connection is one of its own, and each of its two sides has read all that the other was told.
+    /// Returns whether `peer` is the other side of one of the server's connections, and each side has read all that the
+    /// other has sent or queued.
     pub fn is_even_with(&self, peer: &Peer) -> bool {
         self.callers
             .iter()
             .any(|caller| caller.peer.is_even_with(peer))
     }
 
-    /// Reads from each what has come. Whether anything came.
+    /// Reads what has arrived from each connection. Returns whether anything arrived.
     ///
     /// # Errors
-    /// `NoMemory` where a growth was refused: never where nobody is connected.
+    /// `NoMemory` if memory cannot be allocated; never if nobody is connected.
     pub fn read(&mut self) -> Result<bool, NoMemory>
         ensures memory { OnErr result (0 < vec_len self.old.callers) }
     {
@@ -177,10 +180,10 @@ impl House {
         Ok(came)
     }
 
-    /// Has the server take each line that has come.
+    /// Makes the server take each line that has arrived.
     ///
     /// # Errors
-    /// `NoMemory` where a growth was refused: never where nobody is connected.
+    /// `NoMemory` if memory cannot be allocated; never if nobody is connected.
     pub fn step(&mut self, alloc: Global) -> Result<(), NoMemory>
         ensures memory { OnErr result (0 < vec_len self.old.callers) }
     {
@@ -190,7 +193,7 @@ impl House {
         Ok(())
     }
 
-    // Has the server take the lines of the one at a place.
+    // Makes the server take the lines of the connection at a place.
     fn hear(&mut self, alloc: Global, place: usize) -> Result<(), NoMemory> {
         let Some(caller) = self.callers.get_mut(place) else {
             return Ok(());
@@ -202,7 +205,7 @@ impl House {
         }
         caller.pulse.hear(self.now);
         self.say_all(alloc, client, lines.as_slice())?;
-        // An empty line does nothing, and tells of a client that has quit.
+        // An empty line does nothing, and shows whether the client has quit.
         if !self.say(alloc, client, b"")? {
             self.end(place);
         }
@@ -216,20 +219,20 @@ impl House {
         Ok(())
     }
 
-    // The one at a place is to be let go.
+    // Marks the connection at a place to be closed.
     fn end(&mut self, place: usize) {
         if let Some(caller) = self.callers.get_mut(place) {
             caller.peer.end();
         }
     }
 
-    // A client says a line. Whether the server holds the client.
+    // Makes the server take a line of a client. Returns whether the server has the client.
     fn say(&mut self, alloc: Global, client: Client, line: &[u8]) -> Result<bool, NoMemory> {
         let sent = self.server.line(alloc, client, line);
         self.deliver(alloc, sent)
     }
 
-    // Leaves the lines of a call for those to whom they go. Whether the server holds the client.
+    // Queues the lines of a call for their addressees. Returns whether the server has the client.
     fn deliver(
         &mut self,
         alloc: Global,
@@ -260,11 +263,11 @@ impl House {
         }
     }
 
-    /// Writes to each what waits for it, as far as it is taken, and lets go those who are gone or have quit. Whether
-    /// anything moved.
+    /// Writes to each connection what waits for it, as far as the system takes it. Drops the connections that are over
+    /// and those whose client has quit. Returns whether anything moved.
     ///
     /// # Errors
-    /// `NoMemory` where a growth was refused: never where nobody is connected.
+    /// `NoMemory` if memory cannot be allocated; never if nobody is connected.
     pub fn send(&mut self, alloc: Global) -> Result<bool, NoMemory>
         ensures memory { OnErr result (0 < vec_len self.old.callers) }
     {
@@ -280,7 +283,7 @@ impl House {
         Ok(self.let_go(alloc)? || moved)
     }
 
-    // Lets go those who are gone or have quit.
+    // Drops the connections that are over and those whose client has quit.
     fn let_go(&mut self, alloc: Global) -> Result<bool, NoMemory> {
         let mut went = false;
         for _ in 0..MAX_CLIENTS {
@@ -295,10 +298,10 @@ impl House {
         Ok(went)
     }
 
-    /// A client in memory comes, registers under a nick and joins a channel. Nothing where the server is full.
+    /// Connects a guest in memory, which registers as `nick` and joins `channel`. Does nothing if the server is full.
     ///
     /// # Errors
-    /// `NoMemory` where a growth was refused.
+    /// `NoMemory` if memory cannot be allocated.
     pub fn invite(&mut self, alloc: Global, nick: &Text, channel: &Text) -> Result<(), NoMemory> {
         let client = match self.server.connect(alloc) {
             Ok(client) => client,
@@ -321,10 +324,11 @@ impl House {
         Ok(())
     }
 
-    /// A guest says a text to a channel or a nick. Nothing where there is no guest of this nick.
+    /// Makes the guest that was invited as `nick` say `text` to `target`, a channel or a nick. Does nothing if there is
+    /// no such guest.
     ///
     /// # Errors
-    /// `NoMemory` where a growth was refused: never where there is no guest of this nick.
+    /// `NoMemory` if memory cannot be allocated; never if there is no such guest.
     pub fn speak(
         &mut self,
         alloc: Global,
@@ -348,8 +352,8 @@ impl House {
         Ok(())
     }
 
-    /// The lines that a guest got since the last time, in order; none where there is no guest of this nick. Takes no
-    /// memory.
+    /// Returns the lines that the guest that was invited as `nick` has received since the last call, in order, or none
+    /// if there is no such guest. Never allocates.
     pub fn take_heard(&mut self, alloc: Global, nick: &Text) -> Vec<Text> {
         let Some(place) = place_of(self.guests.as_slice(), nick.as_bytes()) else {
             return Vec::new(alloc);
@@ -361,7 +365,7 @@ impl House {
     }
 }
 
-// One that finds the server full is told so, as far as that is taken at once.
+// Sends an ERROR to a connection that finds the server full, as far as the system takes it at once.
 fn turn_away(peer: Peer) -> Result<(), NoMemory> {
     let mut peer = peer;
     peer.tell(b"ERROR :full\r\n")?;
@@ -369,7 +373,7 @@ fn turn_away(peer: Peer) -> Result<(), NoMemory> {
     Ok(())
 }
 
-// Words as a line.
+// Joins words into a line.
 fn line_of(alloc: Global, words: &[&[u8]]) -> Result<Vec<u8>, NoMemory> {
     let mut line = Vec::new(alloc);
     for word in words {

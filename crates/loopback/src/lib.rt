@@ -1,17 +1,17 @@
 //! Sockets of this machine that never block: the small IRC server with its clients, and the sharing link.
 //!
-//! A [`Peer`] is a connection with the bytes that were read and those that are still to be written. [`House`] is the
-//! server of [`miniircd`] on a port, with those who are connected to it and guests that are held in memory. Over a
-//! [`FramePeer`] packets go as frames ([`linkframes`]); a [`LinkHouse`] is the hub's side of the link, with its listener,
-//! and an [`Uplink`] a leaf's.
+//! A [`Peer`] is a connection with the bytes that were read and the bytes that are still to be written. [`House`] is
+//! the server of [`miniircd`] on a port, with its connections and with guests that are held in memory. A [`FramePeer`]
+//! is a connection that carries packets as frames ([`linkframes`]). A [`LinkHouse`] is the hub's side of the link, with
+//! its listener, and an [`Uplink`] is a leaf's side.
 //!
-//! Each of them is driven by turns: let in who waits, read what has come, take it, and send what waits. No call waits for
-//! a socket but [`House::wait`], which a program makes between two turns, and which waits for all sockets of its
-//! [`Waiting`] at once. Who is slow, gone or sends rubbish is let go, and the others go on. Where both sides of a
-//! connection are in one program, [`Peer::is_even_with`] tells whether something is still under way between them.
+//! A program drives each of them in turns: accept new connections, read what has arrived, process it, and send what
+//! waits. Only [`House::wait`] waits for sockets. A program calls it between two turns, and it waits for all sockets of
+//! its [`Waiting`] at once. A peer that is slow, gone or sends garbage is disconnected, and the others go on. If both
+//! sides of a connection are in one program, [`Peer::is_even_with`] returns whether nothing is on its way between them.
 //!
-//! What sockets give and take is the system's, so no contract speaks of it. But each packet that comes was read from a
-//! frame, so its records are of good shape. Each call returns, and nothing is read or written out of bounds.
+//! No contract says what sockets give and take, since the system decides that. But each packet that arrives was read
+//! from a frame, so its records have a good shape. Each call returns, and nothing is read or written out of bounds.
 #![tactic(auto)]
 
 mod addresses;

@@ -13,18 +13,19 @@ use std::alloc::Global;
 use std::io;
 use std::net::Net;
 
-// How many connections the hub holds at most. Where one more comes, the oldest that said no hello yet gives way.
+// How many connections the hub holds before it drops some. If one more comes, it drops the oldest that has not said
+// hello.
 const MAX_ENDS: usize = 64;
 
 // One connection to the hub.
 #[derive(Drop)]
 struct End {
     wire: FramePeer,
-    // The leaf whose hello was its first packet.
+    // The leaf whose hello was the first packet.
     leaf: Option<u16>,
 }
 
-/// The hub's listener, and those who are connected to it.
+/// The hub's listener and its connections.
 pub struct LinkHouse {
     listener: TcpListener,
     ends: Vec<End>,
@@ -49,10 +50,11 @@ impl LinkHouse {
     ghost use Rattle.sharewire.specs.Frames.{CanBeWritten};
     ghost use Rattle.linkcalls.specs.Shapes.{HasGoodRecords};
 
-    /// A listener on a port of 127.0.0.1 that the system chooses, for so many leaves. It is waited for.
+    /// Opens a listener on a port of 127.0.0.1 that the system chooses, for a net of `leaves` leaves. Adds the listener
+    /// to `waiting`.
     ///
     /// # Errors
-    /// Those of the system, where no port can be listened on or waited for.
+    /// Those of the system, if it cannot listen on a port or cannot wait for it.
     pub fn open<R: Net + AllocGlobal>(
         rt: &R,
         waiting: &Waiting,
@@ -67,7 +69,7 @@ impl LinkHouse {
         })
     }
 
-    /// The port that it listens on.
+    /// Returns the port on which the hub listens.
     ///
     /// # Errors
     /// Those of the system.
@@ -75,10 +77,10 @@ impl LinkHouse {
         Ok(self.listener.local_addr()?.port())
     }
 
-    /// Lets in who waits. They are waited for. Whether anyone came.
+    /// Accepts the connections that wait, and adds them to `waiting`. Returns whether any connection came.
     ///
     /// # Errors
-    /// `NoMemory` where a growth was refused.
+    /// `NoMemory` if memory cannot be allocated.
     pub fn let_in(&mut self, alloc: Global, waiting: &Waiting) -> Result<bool, NoMemory> {
         for count in 0..MAX_ENDS {
             let Ok((stream, from)) = self.listener.accept() else {
@@ -94,7 +96,7 @@ impl LinkHouse {
         Ok(true)
     }
 
-    // Where there are many already, lets the oldest go that said no hello yet.
+    // If the hub holds many connections already, drops the oldest that has not said hello.
     fn make_place(&mut self) {
         if self.ends.len() < MAX_ENDS {
             return;
@@ -104,10 +106,10 @@ impl LinkHouse {
         }
     }
 
-    /// Reads from each what has come. Whether anything came.
+    /// Reads what has arrived from each connection. Returns whether anything arrived.
     ///
     /// # Errors
-    /// `NoMemory` where a growth was refused: never where nobody is connected.
+    /// `NoMemory` if memory cannot be allocated; never if nobody is connected.
     pub fn read(&mut self) -> Result<bool, NoMemory>
         ensures memory { OnErr result (0 < vec_len self.old.ends) }
     {
@@ -120,21 +122,22 @@ impl LinkHouse {
         Ok(came)
     }
 
-    /// How many are connected.
+    /// Returns the number of connections.
     pub fn count(&self) -> usize {
         self.ends.len()
     }
 
-    /// Whether this connection is one of its own, and each of its two sides has read all that the other was told.
+    /// Returns whether `peer` is the other side of one of the hub's connections, and each side has read all that the
+    /// other has sent or queued.
     pub fn is_even_with(&self, peer: &Peer) -> bool {
         self.ends.iter().any(|end| end.wire.peer.is_even_with(peer))
     }
 
-    /// The packets that have come from the one at a place. Where its first packet is no hello of a leaf, they are none
-    /// and it is to be let go.
+    /// Returns the packets that have arrived from the connection at `place`. If its first packet is not the hello of a
+    /// leaf, returns none and marks the connection to be closed.
     ///
     /// # Errors
-    /// `NoMemory` where a growth was refused: never where nobody is at the place.
+    /// `NoMemory` if memory cannot be allocated; never if no connection is at `place`.
     pub fn take_packets(&mut self, alloc: Global, place: usize) -> Result<Vec<Packet>, NoMemory>
         ensures good { IfOk result (λ packets. AllByRecursion HasGoodRecords packets.items) }
         ensures memory { IfErr result (λ _. place < vec_len self.old.ends) }
@@ -157,7 +160,8 @@ impl LinkHouse {
         Ok(packets)
     }
 
-    // The one at a place is this leaf. Where another was, that one is to be let go.
+    // Notes that the connection at a place is this leaf. If another connection was this leaf, marks that one to be
+    // closed.
     fn seat_leaf(&mut self, place: usize, leaf: u16) {
         if let Some(former) = self.end_of(leaf) {
             former.wire.peer.end();
@@ -175,17 +179,17 @@ impl LinkHouse {
         self.ends.get_mut(place)
     }
 
-    // The place of the one that is this leaf.
+    // The place of the connection that is this leaf.
     fn place_of(&self, leaf: u16) -> Option<usize>
         ensures { result ≡ position (is_of leaf) self.now.ends.items }
     {
         self.ends.iter().position(|end| is_leaf(end.leaf, leaf))
     }
 
-    /// Leaves a packet for a leaf. It is lost where the leaf has not said hello.
+    /// Queues `packet` for the leaf of number `leaf`. Drops it if that leaf has not said hello.
     ///
     /// # Errors
-    /// `NoMemory` where a growth was refused: never where the packet has no frame, or is lost.
+    /// `NoMemory` if memory cannot be allocated; never if the packet has no frame or is dropped.
     pub fn tell(&mut self, alloc: Global, leaf: u16, packet: &Packet) -> Result<(), NoMemory>
         requires good { HasGoodRecords packet.now }
         ensures memory { OnErr result (CanBeWritten packet.now) }
@@ -197,7 +201,8 @@ impl LinkHouse {
         }
     }
 
-    /// Writes to each what waits for it, as far as it is taken, and lets go those who are gone. Whether anything moved.
+    /// Writes to each connection what waits for it, as far as the system takes it. Drops the connections that are over.
+    /// Returns whether anything moved.
     pub fn send(&mut self) -> bool {
         let mut moved = false;
         for end in self.ends.iter_mut() {
@@ -221,7 +226,7 @@ fn is_leaf(leaf: Option<u16>, number: u16) -> bool
     }
 }
 
-// The leaf that a packet greets for; none where it is no hello, or of no leaf.
+// The leaf whose hello this packet is; `None` if it is no hello, or that of no leaf.
 fn greeting_of(packet: &Packet, leaves: u16) -> Option<u16> {
     match packet {
         Packet::Hello { leaf, .. } => {

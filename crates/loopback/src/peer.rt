@@ -9,20 +9,22 @@ use std::io::{ErrorKind, Read, Write};
 use std::net::{Net, SocketAddr};
 use std::{io, mem};
 
-// How much is read at a time, in bytes.
+// The maximum number of bytes in one read.
 const PIECE: usize = 4_096;
 
-// How often one turn reads at most. Who sends more is heard on in the next turn, so that nobody waits for them.
+// The maximum number of reads in one turn. If a peer sends more, the rest is read in the next turn, so that the others
+// don't wait.
 const MAX_READS: usize = 64;
 
-// How much may wait to be written, in bytes. Whoever reads so slowly that more would wait is let go.
+// If more bytes than this wait to be written when more are queued, the peer reads too slowly and is disconnected.
 const MAX_UNSENT: usize = 262_144;
 
-/// A side of a connection, with the bytes that were read and not taken yet, and those that are still to be written.
+/// One side of a connection, with the bytes that were read but not taken yet, and the bytes that are still to be
+/// written.
 pub struct Peer {
     stream: TcpStream,
-    // The port of the side that connects, by which both sides know that they are of one connection; 0 where the system
-    // doesn't tell it.
+    // The port of the side that connects, which tells both sides that they belong to one connection; 0 if the system
+    // doesn't say it.
     port: u16,
     heard: Vec<u8>,
     unsent: Vec<u8>,
@@ -51,11 +53,11 @@ impl Peer {
     ghost use Rattle.std.specs.Prelude.{◌≡◌, ◌↔◌, ◌≤◌, [], false, IsTrue, OnErr, vec_len};
     ghost use Rattle.loopback.specs.declared.peer.TheConstants.{MAX_UNSENT};
 
-    /// Begins to connect to an address, and returns at once. The connection is waited for, and small writes go at once
-    /// where the system can do that. Takes no memory.
+    /// Begins to connect to `address`, and returns at once. Adds the connection to `waiting`. Small writes go out at
+    /// once if the system can do that. Never allocates.
     ///
     /// # Errors
-    /// Those of the system, where it can't begin to connect, or the connection can't be waited for.
+    /// Those of the system, if it can't begin to connect, or can't wait for the connection.
     pub fn connect<R: Net + AllocGlobal>(
         rt: &R,
         waiting: &Waiting,
@@ -70,8 +72,8 @@ impl Peer {
         Ok(Peer::of_port(rt.alloc(), stream, port))
     }
 
-    /// The other side of a connection that was made from an address. It is waited for, or else to be let go; small writes
-    /// go at once where the system can do that. Takes no memory.
+    /// Creates the accepting side of the connection `stream`, which was made `from` an address. Adds it to `waiting`;
+    /// if that fails, marks it to be closed. Small writes go out at once if the system can do that. Never allocates.
     pub fn accepted(alloc: Global, waiting: &Waiting, stream: TcpStream, from: SocketAddr) -> Peer {
         let mut stream = stream;
         let is_waited_for = waiting.add(&mut stream).is_ok();
@@ -95,7 +97,8 @@ impl Peer {
         }
     }
 
-    /// Whether the other is the other side of this connection, and each has read all that the other was told.
+    /// Returns whether `other` is the other side of this connection, and each side has read all that the other has sent
+    /// or queued.
     pub fn is_even_with(&self, other: &Peer) -> bool
         ensures both { IsTrue result → self.now.port ≡ other.now.port }
         ensures heard { IsTrue result → (other.now.unsent.items ≡ []) × (self.now.read ≡ other.now.written) }
@@ -107,28 +110,28 @@ impl Peer {
             && other.has_heard_all(self)
     }
 
-    // Whether this side has read all that the other was told.
+    // Whether this side has read all that the other has sent or queued.
     fn has_heard_all(&self, other: &Peer) -> bool
         ensures { IsTrue result ↔ ((other.now.unsent.items ≡ []) × (self.now.read ≡ other.now.written)) }
     {
         other.unsent.is_empty() && self.read == other.written
     }
 
-    /// Whether it is to be let go: the other side has closed it, its socket failed, too much waits to be written, or
-    /// [`Peer::end`] was called.
+    /// Returns whether the connection is to be closed: the other side has closed it, its socket failed, too much waits
+    /// to be written, or [`Peer::end`] was called.
     pub fn is_over(&self) -> bool {
         self.is_over
     }
 
-    /// It is to be let go.
+    /// Marks the connection to be closed.
     pub fn end(&mut self) {
         self.is_over = true;
     }
 
-    /// Reads what has come, at most 64 pieces of 4,096 bytes. Whether any byte came.
+    /// Reads what has arrived, at most 64 pieces of 4,096 bytes. Returns whether any byte waits to be taken.
     ///
     /// # Errors
-    /// `NoMemory` where room is refused: never where it is to be let go.
+    /// `NoMemory` if memory cannot be allocated; never if the connection is to be closed.
     pub fn read(&mut self) -> Result<bool, NoMemory>
         ensures memory { OnErr result (self.old.is_over ≡ false) }
     {
@@ -143,7 +146,7 @@ impl Peer {
         Ok(true)
     }
 
-    // Reads once. Whether a byte came.
+    // Reads once. Returns whether a byte arrived.
     fn read_piece(&mut self) -> Result<bool, NoMemory> {
         let mut piece = [0; PIECE];
         match self.stream.read(&mut piece) {
@@ -163,7 +166,7 @@ impl Peer {
         }
     }
 
-    /// The bytes that were read since the last time. Takes no memory.
+    /// Returns the bytes that were read since the last call. Never allocates.
     pub fn take_heard(&mut self, alloc: Global) -> Vec<u8>
         ensures taken { result ≡ self.old.heard }
         ensures none_left { self.new.heard.items ≡ [] }
@@ -171,10 +174,10 @@ impl Peer {
         mem::replace(&mut self.heard, Vec::new(alloc))
     }
 
-    /// Leaves bytes to be written. Where too many wait already, it is to be let go.
+    /// Queues `bytes` to be written. If too many wait already, queues nothing and marks the connection to be closed.
     ///
     /// # Errors
-    /// `NoMemory` where room is refused: never where too many wait.
+    /// `NoMemory` if memory cannot be allocated; never if too many wait.
     pub fn tell(&mut self, bytes: &[u8]) -> Result<(), NoMemory>
         ensures memory { OnErr result (vec_len self.old.unsent ≤ MAX_UNSENT) }
     {
@@ -186,12 +189,12 @@ impl Peer {
         Ok(())
     }
 
-    /// What is to be written, for whoever puts bytes after it.
+    /// Returns what is to be written, so that a caller can append bytes to it.
     pub fn unsent(&mut self) -> &mut Vec<u8> {
         &mut self.unsent
     }
 
-    /// Writes what waits, as far as it is taken now. Whether any of it was taken.
+    /// Writes what waits, as far as the system takes it now. Returns whether it took any of it.
     pub fn send(&mut self) -> bool {
         match write_front(&mut self.stream, self.unsent.as_slice()) {
             Ok(count) => {
@@ -206,7 +209,8 @@ impl Peer {
         }
     }
 
-    // It is to be let go after an error of its socket, but for one that only says that nothing can be done now.
+    // Marks the connection to be closed after an error of its socket, unless the error only says that nothing can be
+    // done now.
     fn note(&mut self, error: &io::Error) {
         if !may_go_on(error) {
             self.is_over = true;
@@ -214,7 +218,7 @@ impl Peer {
     }
 }
 
-// Writes bytes until all are written or no more are taken now. How many were taken.
+// Writes bytes until all are written or the system takes no more now. Returns how many it took.
 fn write_front(stream: &mut TcpStream, bytes: &[u8]) -> io::Result<usize> {
     let mut taken = 0;
     for _write in 0..bytes.len() {
@@ -230,7 +234,7 @@ fn write_front(stream: &mut TcpStream, bytes: &[u8]) -> io::Result<usize> {
     Ok(taken)
 }
 
-// Writes once. How many bytes were taken: none where none can be now.
+// Writes once. Returns how many bytes the system took, 0 if it can take none now.
 fn write_once(stream: &mut TcpStream, bytes: &[u8]) -> io::Result<usize>
     ensures bound { IfOk result (λ n. n ≤ length bytes.now) }
 {
@@ -240,7 +244,7 @@ fn write_once(stream: &mut TcpStream, bytes: &[u8]) -> io::Result<usize>
     }
 }
 
-// The front of what waits has been written.
+// Removes the front of what waits, which has been written.
 fn forget(unsent: &mut Vec<u8>, count: usize) {
     if count >= unsent.len() {
         unsent.clear();
@@ -249,8 +253,8 @@ fn forget(unsent: &mut Vec<u8>, count: usize) {
     }
 }
 
-// Whether a socket's error only says that nothing can be done now. One that still connects may answer that it is not
-// connected.
+// Whether a socket's error only says that nothing can be done now. A socket that is still connecting may say that it is
+// not connected.
 fn may_go_on(error: &io::Error) -> bool {
     matches!(
         error.kind(),

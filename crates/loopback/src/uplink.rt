@@ -11,7 +11,7 @@ use std::alloc::Global;
 use std::io;
 use std::net::{Net, SocketAddr};
 
-/// A leaf's connection to the hub, over which its first packet is a hello.
+/// A leaf's connection to the hub. The first packet that it sends is a hello.
 pub struct Uplink {
     pub wire: FramePeer,
     greeted: bool,
@@ -33,7 +33,8 @@ impl Uplink {
     ghost use Rattle.sharewire.specs.Frames.{CanBeWritten};
     ghost use Rattle.linkcalls.specs.Shapes.{HasGoodRecords};
 
-    /// Begins to connect to the hub at an address, and returns at once. The connection is waited for. Takes no memory.
+    /// Begins to connect to the hub at `address`, and returns at once. Adds the connection to `waiting`. Never
+    /// allocates.
     ///
     /// # Errors
     /// Those of [`Peer::connect`].
@@ -49,10 +50,10 @@ impl Uplink {
         })
     }
 
-    /// Leaves a packet for the hub. Before a hello every other packet is lost.
+    /// Queues `packet` for the hub. Drops every packet before the first hello.
     ///
     /// # Errors
-    /// `NoMemory` where a growth was refused: never where the packet has no frame, or is lost.
+    /// `NoMemory` if memory cannot be allocated; never if the packet has no frame or is dropped.
     pub fn tell(&mut self, alloc: Global, packet: &Packet) -> Result<(), NoMemory>
         requires good { HasGoodRecords packet.now }
         ensures memory { OnErr result (CanBeWritten packet.now) }

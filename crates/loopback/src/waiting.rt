@@ -1,4 +1,4 @@
-// What is waited for.
+// The sockets that a program waits for.
 use mio::net::{TcpListener, TcpStream};
 use mio::{Events, Interest, Poll, Token};
 use std::alloc::Global;
@@ -7,15 +7,14 @@ use std::io::ErrorKind;
 use std::net::Net;
 use std::time::Duration;
 
-// How many events one wait takes at most.
+// The maximum number of events that one wait returns.
 const MAX_EVENTS: usize = 256;
 
-// Which socket it was isn't looked at: a turn goes over all of them.
+// All sockets have one token: a turn goes over all of them, whichever has something to do.
 const ANY: Token = Token(0);
 
-/// The sockets that are waited for, all in one wait. The system tells of a socket once, when it comes to have something to
-/// do: so whoever waits has gone over all of them before, until nothing moved. A socket that is closed is waited for no
-/// longer.
+/// The sockets that one wait waits for. The system reports a socket once, when it gets something to do. So before it
+/// waits, a program must go over all of them until nothing moves. A closed socket is no longer waited for.
 pub struct Waiting {
     poll: Poll,
     events: Events<Global>,
@@ -29,10 +28,10 @@ impl Drop for Waiting {
 }
 
 impl Waiting {
-    /// Waits for no socket yet.
+    /// Creates a `Waiting` that waits for no socket yet.
     ///
     /// # Errors
-    /// Those of the system, and `OutOfMemory` where room is refused.
+    /// Those of the system, and `OutOfMemory` if memory cannot be allocated.
     pub(crate) fn new<R: Net + AllocGlobal>(rt: &R) -> io::Result<Waiting> {
         Ok(Waiting {
             poll: Poll::new(rt)?,
@@ -40,7 +39,7 @@ impl Waiting {
         })
     }
 
-    /// Waits for a listener too.
+    /// Adds `listener` to the sockets that are waited for.
     ///
     /// # Errors
     /// Those of the system.
@@ -50,7 +49,7 @@ impl Waiting {
             .register(listener, ANY, Interest::READABLE)
     }
 
-    /// Waits for a connection too, which has just been made or is being made.
+    /// Adds the connection `stream`, which has just been made or is being made, to the sockets that are waited for.
     ///
     /// # Errors
     /// Those of the system.
@@ -59,7 +58,8 @@ impl Waiting {
         self.poll.registry().register(stream, ANY, interest)
     }
 
-    /// Waits until one of them may have something to do, at most so many milliseconds. Whether one of them may.
+    /// Waits at most `millis` milliseconds until one of the sockets may have something to do. Returns whether one of
+    /// them may.
     ///
     /// # Errors
     /// Those of the system.

@@ -26,7 +26,7 @@ use Rattle.miniircd.specs.Modes.{singles}
 abbrev pub is_command : List ℕ → List ℕ → Bool
 is_command word name = pointwise nat_eq word name
 
--- a command that changes nothing here
+-- a command that changes nothing on this server
 abbrev pub inquiry_of : List ℕ → Command
 inquiry_of c =
     if is_command c (codes "INVITE") then command.Ask inquiry.Invite
@@ -128,7 +128,7 @@ nick_change client p clients new =
     if is_other client (holder new clients) then change.Same
     else (if is_nick new then change.Person (record p { nick = new }) else change.Same)
 
--- ! and @ have no place in a user name
+-- ! and @ can't stand in a user name
 abbrev pub user_byte : ℕ → ℕ
 user_byte b = if b == 33 || b == 64 then 95 else b
 
@@ -178,7 +178,7 @@ kick_change standing.Outside clients name nick channels = change.Same
 kick_change standing.Plain clients name nick channels = change.Same
 kick_change standing.Op clients name nick channels = kicked (target_on clients channels name nick) name channels
 
--- ---- MODE: o and v with a member's nick set and clear marks, and b with a text sets and clears bans, one after another
+-- ---- MODE: o and v with a member's nick set and clear marks, b with a text sets and clears bans, one after another
 
 abbrev pub is_mark : ℕ → Bool
 is_mark letter = letter == 111 || letter == 118
@@ -191,11 +191,11 @@ marked_on (Some client) name one channels = rooms_after (Some name) (Mark client
 abbrev pub is_ban_of : Single → Bool
 is_ban_of one = one.letter == 98 && filled one.argument
 
--- whether a mode would change something, if only there is such a member
+-- whether a mode would change something, provided that there is such a member
 abbrev pub counts : Single → Bool
 counts one = (is_mark one.letter || one.letter == 98) && filled one.argument
 
--- a ban is set or cleared; one too many is refused
+-- a ban is set or cleared; a ban for which there is no room is refused
 abbrev pub banned_on : List ℕ → Single → List Channel → List Channel
 banned_on name one channels =
     if one.on && is_full one.argument (room name channels) then channels
@@ -219,7 +219,7 @@ mode_change standing.Op clients name modes arguments channels =
     then change.Channels (moded_each clients name (singles true modes arguments) channels)
     else change.Same
 
--- ---- a whole message: a QUIT is told apart before
+-- ---- a whole message other than QUIT
 
 abbrev pub is_quit : Command → Bool
 is_quit command.Quit = true
@@ -260,7 +260,7 @@ change_by command.Ping client p clients channels ps = change.Same
 change_by (command.Ask asked) client p clients channels ps = change.Same
 change_by command.Unknown client p clients channels ps = change.Same
 
--- a command counts where the client may send it and gives the parameters that it needs
+-- a command counts if the client may send it and gives the parameters that it needs
 abbrev pub is_admitted : Person → Command → ℕ → Bool
 is_admitted p c count = (is_registered p || is_open c) && nat_le (needed c) count
 

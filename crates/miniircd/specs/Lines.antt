@@ -16,7 +16,7 @@ use Rattle.miniircd.specs.Mail.{Letter}
 
 -- ---- one line
 
--- a client without a nick is told '*' in its place
+-- replies to a client without a nick have '*' where the nick belongs
 abbrev pub shown : List ℕ → List ℕ
 shown nick = if filled nick then nick else 42 ∷ []
 
@@ -24,19 +24,19 @@ shown nick = if filled nick then nick else 42 ∷ []
 abbrev pub repeated : List ℕ → List ℕ
 repeated word = 32 ∷ take 100 word
 
--- a numbered reply (RFC 2812 section 5) as far as its last parameter: the words have a space before each
+-- a numbered reply (RFC 2812 section 5) up to its last parameter: the words have a space before each
 abbrev pub numbered_head : List ℕ → List ℕ → List ℕ → List ℕ
 numbered_head nick code words = codes ":irc.test " ++ code ++ codes " " ++ shown nick ++ words ++ codes " :"
 
--- a numbered reply of at most 510 bytes: its last parameter is cut
+-- a numbered reply of at most 510 bytes, with its last parameter cut
 abbrev pub numbered : List ℕ → List ℕ → List ℕ → List ℕ → List ℕ
 numbered nick code words last = numbered_head nick code words ++ take (510 - length (numbered_head nick code words)) last
 
--- a last parameter: its longest front that has room, with the colon that it may need
+-- a last parameter cut to its longest front that fits, with the colon that it may need
 abbrev pub cut : ℕ → List ℕ → List ℕ
 cut room last = if wants_colon (take room last) && nat_le room (length last) then take (room - 1) last else take room last
 
--- of the fronts of a last parameter that have room after a space, with the colon that they may need, it is the longest
+-- it is the longest of the fronts of a last parameter that fit after a space, with the colon that they may need
 abbrev pub IsLongest : ℕ → List ℕ → List ℕ → Type 0
 IsLongest room last front =
     (length (last_text front) ≤ room + 1)
@@ -45,12 +45,12 @@ IsLongest room last front =
 abbrev pub head : List ℕ → List ℕ → List ℕ → List ℕ
 head source command words = codes ":" ++ source ++ codes " " ++ command ++ words
 
--- a message that is passed on (RFC 2812 section 2.3.1), of at most 510 bytes
+-- a message that the server passes on (RFC 2812 section 2.3.1), of at most 510 bytes
 abbrev pub relayed : List ℕ → List ℕ → List ℕ → List ℕ → List ℕ
 relayed source command words last =
     head source command words ++ last_text (cut (509 - length (head source command words)) last)
 
--- the parts of a message that is passed on: a source and words such as the protocol allows, with room for a last parameter
+-- the parts of a message that is passed on: a source and words that the protocol allows, with room for a last parameter
 pub record Relays (source command last : List ℕ) (middles : List (List ℕ)) : Type 0 where
   pub named : names source ≡ true
   pub there : filled source ≡ true
@@ -69,7 +69,7 @@ relay_message source command last middles =
     let words = flat_map (λ word. 32 ∷ word) middles in
     record { prefix = source; command = command; params = middles ++ cut (509 - length (head source command words)) last ∷ []; rest = [] }
 
--- who a client's messages come from
+-- the source of a client's messages
 abbrev pub source_of : Person → List ℕ
 source_of p = p.nick ++ codes "!" ++ p.user ++ codes "@local"
 
@@ -102,18 +102,18 @@ name_of (Some p) m = (marks m ++ p.nick) ∷ []
 abbrev pub names_of : List (Option Person) → List Member → List (List ℕ)
 names_of clients members = flat_map (λ m. name_of (held_at clients m.client) m) members
 
--- names with a space between
+-- names separated by spaces
 abbrev pub side_by_side : List (List ℕ) → List ℕ
 side_by_side names = drop 1 (flat_map (λ name. 32 ∷ name) names)
 
--- the names of a line, by its place from 0: ten in a line
+-- the names of line `i`, from 0: ten in a line
 abbrev pub row : List (List ℕ) → ℕ → List ℕ
 row names i = side_by_side (take 10 (drop (10 * i) names))
 
 abbrev pub listed : ℕ → Person → List ℕ → List (List ℕ) → ℕ → Letter
 listed to p name names i = told to p (codes "353") (codes " =" ++ repeated name) (row names i)
 
--- the lines before one
+-- the lines before line `i`
 unfoldable pub listed_before : ℕ → Person → List ℕ → List (List ℕ) → ℕ → List Letter
 listed_before to p name names zero = []
 listed_before to p name names (suc i) = listed_before to p name names i ++ listed to p name names i ∷ []
@@ -124,11 +124,11 @@ listing to p name names =
 
 -- ---- JOIN (RFC 2812 section 3.2.1)
 
--- a topic, where there is one
+-- a topic, if there is one
 abbrev pub titling : ℕ → Person → List ℕ → List ℕ → List Letter
 titling to p name topic = if filled topic then told to p (codes "332") (repeated name) topic ∷ [] else []
 
--- the JOIN goes to all members, the new one last, who is then told the topic and the names
+-- the JOIN is sent to all members, the new one last, who then gets the topic and the names
 abbrev pub arrival : ℕ → Person → List ℕ → List (Option Person) → Option Channel → List Letter
 arrival client p name clients None = []
 arrival client p name clients (Some channel) =
@@ -136,7 +136,7 @@ arrival client p name clients (Some channel) =
     ++ titling client p name channel.topic
     ++ listing client p name (names_of clients channel.members)
 
--- what is told of a name in a JOIN, by what stands between, with the channels after it
+-- the lines for one name of a JOIN, by what keeps the client out, with the channels after it
 abbrev pub join_letters_by : Entrance → ℕ → Person → List (Option Person) → List ℕ → List Channel → List Letter
 join_letters_by entrance.Nameless client p clients name after = told client p (codes "403") (repeated name) (codes "No such channel") ∷ []
 join_letters_by entrance.Inside client p clients name after = []

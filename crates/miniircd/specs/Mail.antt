@@ -1,4 +1,4 @@
--- What goes out: to clients that are held, and in lines that the protocol allows.
+-- What the server sends: lines that the protocol allows, to connected clients.
 use Rattle.std.specs.Prelude.{◌≡◌, ℕ, map, Bool, true, false, not, ◌==◌, ◌&&◌, List, [], ◌∷◌, ◌++◌, Option, Some, None, is_some, filter, take, length, nat_le, if◌then◌else◌}
 use Rattle.std.specs.List.{list_all}
 use Rattle.ircline.specs.Classes.{filled, octet}
@@ -9,7 +9,7 @@ use Rattle.miniircd.specs.declared.person.Person.{Person}
 use Rattle.miniircd.specs.declared.client.Sent.{Sent}
 use Rattle.miniircd.specs.People.{held_at}
 
--- the clients, which of them is about to leave, and the lines that go out
+-- the clients, which of them is about to leave, and the lines that the server sends
 pub record Mail : Type 0 where
   pub clients : List (Option Person)
   pub leaver : Option ℕ
@@ -27,7 +27,7 @@ abbrev pub is_leaver : Option ℕ → ℕ → Bool
 is_leaver None client = false
 is_leaver (Some leaver) client = client == leaver
 
--- a client gets lines where it is held and not about to leave
+-- a client gets lines if it is connected and not about to leave
 abbrev pub serves : List (Option Person) → Option ℕ → ℕ → Bool
 serves clients leaver client = is_some (held_at clients client) && not (is_leaver leaver client)
 
@@ -40,7 +40,7 @@ pub record Letter : Type 0 where
 abbrev pub sent : Letter → Sent
 sent letter = record { to = record { 0 = letter.to }; line = letter.text }
 
--- what goes out of a letter
+-- the lines that are sent for a letter
 abbrev pub delivery : List (Option Person) → Option ℕ → Letter → List Sent
 delivery clients leaver letter =
     if filled (sealed letter.text) && serves clients leaver letter.to
@@ -74,7 +74,7 @@ is_sound clients leaver sent = serves clients leaver sent.to.0 && is_line sent.l
 abbrev pub are_sound : List (Option Person) → Option ℕ → List Sent → Bool
 are_sound clients leaver lines = list_all (is_sound clients leaver) lines
 
--- what goes out is these letters, none left out and none changed, and each reads as a message
+-- the lines are these letters, none left out and none changed, and each reads as a message
 pub record IsTold (letters : List Letter) (lines : List Sent) : Type 0 where
   pub as_they_are : lines ≡ map sent letters
   pub readable : list_all (λ s. is_readable s.line) lines ≡ true

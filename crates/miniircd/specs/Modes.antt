@@ -3,7 +3,7 @@ use Rattle.std.specs.Prelude.{ℕ, Bool, true, false, ◌||◌, ◌&&◌, not, �
 use Rattle.miniircd.specs.declared.modes.Single.{Single}
 use Rattle.miniircd.specs.People.{word_at}
 
--- o v b e I k h have an argument under both signs, l under plus alone, and no other letter has one
+-- o v b e I k h have an argument with both signs, l with plus alone, and no other letter has one
 abbrev pub has_argument : Bool → ℕ → Bool
 has_argument on b = b == 111 || (b == 118 || (b == 98 || (b == 101 || (b == 73 || (b == 107 || (b == 104 || (on && b == 108)))))))
 
@@ -17,14 +17,14 @@ is_letter b = not (b == 43 || b == 45)
 abbrev pub takes_argument : Bool → ℕ → Bool
 takes_argument on b = is_letter b && has_argument on b
 
--- the argument of a letter; a missing one is the empty text
+-- the argument of a letter, or the empty text if it is missing
 abbrev pub argument_of : Bool → ℕ → List (List ℕ) → List ℕ
 argument_of on b arguments = if takes_argument on b then word_at 0 arguments else []
 
 abbrev pub arguments_after : Bool → ℕ → List (List ℕ) → List (List ℕ)
 arguments_after on b arguments = if takes_argument on b then drop 1 arguments else arguments
 
--- the single mode of a byte, which is none for a sign
+-- the single mode of a byte; a sign has none
 abbrev pub single_at : Bool → ℕ → List (List ℕ) → List Single
 single_at on b arguments = if is_letter b then record { on = on; letter = b; argument = argument_of on b arguments } ∷ [] else []
 

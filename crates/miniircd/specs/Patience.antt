@@ -1,16 +1,16 @@
--- How long the server waits for a client (our own choice). A clock of whole seconds may show 30 where a little more than 29
--- have passed: so what is due after 30 seconds is due where it shows more.
+-- How long the server waits for a client (our own choice). A clock of whole seconds may show 30 when a little more than
+-- 29 have passed. So what is due after 30 seconds is due when the clock shows more.
 use Rattle.std.specs.Prelude.{ℕ, Bool, ◌-◌, nat_lt, Option, Some, None, if◌then◌else◌}
 use Rattle.miniircd.specs.declared.pulse.Pulse.{Pulse}
 use Rattle.miniircd.specs.declared.pulse.Due.{Due}
 use Rattle.miniircd.specs.declared.pulse.Due.TheVariants as due
 
--- one who is silent for two minutes is asked whether it is there, and let go four minutes later if it stays silent
+-- a client that is silent for two minutes gets a PING, and is disconnected four minutes later if it stays silent
 abbrev pub due_to_silent : Option ℕ → ℕ → ℕ → Due
 due_to_silent None heard now = if nat_lt 120 (now - heard) then due.Ask else due.Nothing
 due_to_silent (Some asked) heard now = if nat_lt 240 (now - asked) then due.Silent else due.Nothing
 
--- one who has not registered within 30 seconds is let go, whatever it sends
+-- a client that has not registered within 30 seconds is disconnected, whatever it sends
 abbrev pub due_of : Bool → Pulse → ℕ → Due
 due_of is_registered pulse now =
     if is_registered then due_to_silent pulse.asked pulse.heard now

@@ -5,11 +5,11 @@ use Rattle.ircline.specs.Classes.{filled}
 use Rattle.slab.specs.Slab.{entries_from}
 use Rattle.miniircd.specs.declared.person.Person.{Person}
 
--- the client of a number, if it is held
+-- the client with this number, if it is connected
 abbrev pub held_at : List (Option Person) → ℕ → Option Person
 held_at clients client = slice_index_or clients client None
 
--- one who has said nothing yet
+-- a client that has said nothing yet
 abbrev pub blank : Person
 blank = record { nick = []; user = [] }
 
@@ -30,7 +30,7 @@ first_called nick (e ∷ es) = if is_called nick e.1 then Some e.0 else first_ca
 abbrev pub holder : List ℕ → List (Option Person) → Option ℕ
 holder nick clients = first_called nick (entries_from 0 clients)
 
--- a parameter, empty where there is none
+-- a parameter, or the empty text if there is none
 abbrev pub or_empty : Option (List ℕ) → List ℕ
 or_empty None = []
 or_empty (Some text) = text

@@ -1,4 +1,4 @@
--- The channels of the server, and how each command leaves them.
+-- The channels of the server, and how each command changes them.
 use Rattle.std.specs.Prelude.{ℕ, Bool, true, false, not, ◌==◌, ◌-◌, ◌&&◌, List, [], ◌∷◌, ◌++◌, Option, Some, None, map, filter, find, take, nat_lt, nat_le, length, count_by, position, slice_set, slice_index_or, if◌then◌else◌}
 use Rattle.std.specs.List.{list_any}
 use Rattle.rfccase.specs.Casemapping.{is_same}
@@ -14,11 +14,11 @@ use Rattle.miniircd.specs.declared.entrance.Entrance.TheVariants as entrance
 use Rattle.miniircd.specs.declared.entry.Entry.{Entry}
 use Rattle.miniircd.specs.declared.entry.Entry.TheVariants as entry
 
--- one who makes a channel by joining it is its operator
+-- a client that creates a channel by joining it is its operator
 abbrev pub founder : ℕ → Member
 founder client = record { client = client; op = true; voice = false }
 
--- any other who joins it has no mark
+-- any other client that joins it has no mark
 abbrev pub plain : ℕ → Member
 plain client = record { client = client; op = false; voice = false }
 
@@ -28,7 +28,7 @@ opened name client = record { name = name; topic = []; members = founder client 
 abbrev pub is_named : List ℕ → Channel → Bool
 is_named name channel = is_same name channel.name
 
--- the channel of a name
+-- the channel of this name
 abbrev pub room : List ℕ → List Channel → Option Channel
 room name channels = find (is_named name) channels
 
@@ -48,9 +48,9 @@ pub data Edition : Type 0 where
   Enter : ℕ → Edition
   -- a client leaves
   Leave : ℕ → Edition
-  -- the topic is another one
+  -- the topic becomes this one
   Title : List ℕ → Edition
-  -- a mark of a client is set or cleared: the voice, or else that of an operator
+  -- a mark of a client is set or cleared: the voice, or else the mark of an operator
   Mark : ℕ → Bool → Bool → Edition
   -- a ban is set or cleared
   Ban : List ℕ → Bool → Edition
@@ -91,12 +91,12 @@ is_ban text mask = is_same text mask.text
 abbrev pub other_bans : List ℕ → List GivenMask → List GivenMask
 other_bans text bans = filter (λ mask. not (is_ban text mask)) bans
 
--- the ban of a text: none where it is no hostmask
+-- the ban of a text: none if the text is not a hostmask
 abbrev pub ban_unless : Option MaskFault → List ℕ → List GivenMask
 ban_unless None text = host_mask text ∷ []
 ban_unless (Some fault) text = []
 
--- a ban that is set stands last, and once
+-- a ban that is set stands last, and only once
 abbrev pub bans_after : Edition → List GivenMask → List GivenMask
 bans_after (Ban text on) bans = other_bans text bans ++ (if on then ban_unless (host_fault text) text else [])
 bans_after (Enter client) bans = bans
@@ -104,7 +104,7 @@ bans_after (Leave client) bans = bans
 bans_after (Title topic) bans = bans
 bans_after (Mark client is_voice on) bans = bans
 
--- a channel has at most 60 bans: with as many others there is no room for this one
+-- a channel has at most 60 bans: if it has as many others, there is no room for this one
 abbrev pub is_full : List ℕ → Option Channel → Bool
 is_full text None = false
 is_full text (Some channel) = nat_le 60 (count_by (λ mask. not (is_ban text mask)) channel.bans)
@@ -118,11 +118,11 @@ edited edit channel = record {
   bans = bans_after edit channel.bans;
 }
 
--- a channel that nobody is on is forgotten
+-- a channel that nobody is on is removed
 abbrev pub is_used : Channel → Bool
 is_used channel = nat_lt 0 (length channel.members)
 
--- the channel of one name after an edit, or without a name all of them
+-- the channel of one name after an edit, or all channels if there is no name
 abbrev pub concerns : Option (List ℕ) → Channel → Bool
 concerns None channel = true
 concerns (Some name) channel = is_named name channel
@@ -133,14 +133,14 @@ edited_if name edit channel = if concerns name channel then edited edit channel 
 abbrev pub rooms_after : Option (List ℕ) → Edition → List Channel → List Channel
 rooms_after name edit channels = filter is_used (map (edited_if name edit) channels)
 
--- whether a client is on the channel of a name
+-- whether a client is on the channel of this name
 abbrev pub is_on_some : ℕ → Option Channel → Bool
 is_on_some client None = false
 is_on_some client (Some channel) = has_member client channel.members
 
 -- ---- who may join (RFC 2812 section 3.2.1)
 
--- a ban keeps out whose nick!user@host its mask matches
+-- a ban keeps out each client whose nick!user@host its mask matches
 abbrev pub is_banned : List ℕ → Option Channel → Bool
 is_banned source None = false
 is_banned source (Some channel) = list_any (λ mask. is_match mask source) channel.bans
@@ -149,7 +149,7 @@ is_banned source (Some channel) = list_any (λ mask. is_match mask source) chann
 abbrev pub count_of : ℕ → List Channel → ℕ
 count_of client channels = count_by (λ channel. has_member client channel.members) channels
 
--- what stands between a client, by its number and its nick!user@host, and a channel
+-- what keeps a client, given by its number and its nick!user@host, out of a channel
 abbrev pub entrance_of : ℕ → List ℕ → List ℕ → List Channel → Entrance
 entrance_of client source name channels =
     if not (is_channel_name name) then entrance.Nameless
@@ -158,7 +158,7 @@ entrance_of client source name channels =
     else (if is_banned source (room name channels) then entrance.Banned
     else entrance.Open)))
 
--- a client comes into the first channel of a name, or makes one that isn't there
+-- a client enters the first channel of this name, or creates one that doesn't exist
 abbrev pub entered_at : Option ℕ → List ℕ → ℕ → List Channel → List Channel
 entered_at None name client channels = channels ++ opened name client ∷ []
 entered_at (Some place) name client channels =
@@ -177,7 +177,7 @@ joined_by entrance.Banned name client channels = channels
 abbrev pub joined : ℕ → List ℕ → List ℕ → List Channel → List Channel
 joined client source name channels = joined_by (entrance_of client source name channels) name client channels
 
--- a list of names, one after another
+-- the channels of a list of names, one after another
 abbrev pub joined_each : ℕ → List ℕ → List (List ℕ) → List Channel → List Channel
 joined_each client source [] channels = channels
 joined_each client source (name ∷ names) channels = joined_each client source names (joined client source name channels)

@@ -1,4 +1,4 @@
--- The server, and how the calls leave it.
+-- The server, and how the calls change it.
 use Rattle.std.specs.Prelude.{◌≡◌, ◌≢◌, ℕ, true, List, [], Option, Some, None, is_some, count_by, codes, slice_set, if◌then◌else◌}
 use Rattle.ircline.specs.declared.message.Message.{Message}
 use Rattle.ircline.specs.declared.line.Line.{Line}
@@ -30,11 +30,11 @@ abbrev pub code_of : Fault → List ℕ
 code_of fault.Full = codes "I1"
 code_of fault.NoSuchClient = codes "I2"
 
--- how many clients are held
+-- how many clients are connected
 abbrev pub count : Server → ℕ
 count s = count_by is_some s.clients
 
--- a client comes under a number that was free, has said nothing yet, and is on no channel; all else stays
+-- a client connects under a free number, has said nothing yet, and is on no channel; all else stays
 pub record Comes (client : ℕ) (old new : Server) : Type 0 where
   pub free : held_at old.clients client ≡ None
   pub came : held_at new.clients client ≡ Some blank
@@ -47,7 +47,7 @@ changed client change.Same s = s
 changed client (change.Person p) s = record s { clients = slice_set s.clients client (Some p) }
 changed client (change.Channels channels) s = record s { channels = channels }
 
--- a change leaves the same with these channels as another with those before
+-- two changes leave the same server, each with the channels that go with it
 abbrev pub LeavesAs : ℕ → List (Option Person) → Change → List Channel → Change → List Channel → Type 0
 LeavesAs client clients one channels other before =
     changed client one (record { clients = clients; channels = channels })
@@ -57,12 +57,12 @@ abbrev pub effected : ℕ → Effect → Server → Server
 effected client (effect.Changed one) s = changed client one s
 effected client (effect.Left channels) s = record { clients = slice_set s.clients client None; channels = channels }
 
--- the lines are sound, also for one who leaves
+-- the lines are sound, also when a client leaves
 abbrev pub IsSoundAfter : ℕ → List (Option Person) → Effect → List Sent → Type 0
 IsSoundAfter client clients (effect.Changed one) lines = are_sound clients None lines ≡ true
 IsSoundAfter client clients (effect.Left channels) lines = are_sound clients (Some client) lines ≡ true
 
--- the client is held no longer, and on no channel
+-- the client is disconnected, and on no channel
 abbrev pub left : ℕ → Server → Server
 left client s = record { clients = slice_set s.clients client None; channels = rooms_after None (Leave client) s.channels }
 
@@ -83,7 +83,7 @@ after_held client (Some p) text s = after_line client p (line_of (up_to is_end t
 abbrev pub after : ℕ → List ℕ → Server → Server
 after client text s = after_held client (held_at s.clients client) text s
 
--- the letters of a PING, JOIN, PRIVMSG or NOTICE of a registered client; of any other line nothing is said
+-- the letters of a PING, JOIN, PRIVMSG or NOTICE of a registered client; this says nothing of any other line
 abbrev pub letters_of : ℕ → Person → Line → Server → Option (List Letter)
 letters_of client p (line.Message m) s = if is_quit (command_of m.command) then None else exact_letters client p s.clients s.channels m
 letters_of client p (line.Bad fault) s = Some []

@@ -1,4 +1,4 @@
--- PRIVMSG, NOTICE and PING (RFC 2812 sections 3.3 and 3.7.2), and all that is told of the commands whose lines are exact.
+-- PRIVMSG, NOTICE and PING (RFC 2812 sections 3.3 and 3.7.2), and all lines of the commands whose lines are exact.
 use Rattle.std.specs.Prelude.{ℕ, Bool, true, false, ◌==◌, List, [], ◌∷◌, Option, Some, None, length, nat_lt, codes, if◌then◌else◌}
 use Rattle.std.specs.List.{slice_split}
 use Rattle.rfccase.specs.Channels.{is_channel_name}
@@ -13,7 +13,7 @@ use Rattle.miniircd.specs.Mail.{Letter}
 use Rattle.miniircd.specs.Lines.{letter, told, repeated, relayed, source_of, spread, others, join_letters_each}
 use Rattle.miniircd.specs.Commands.{command_of, needed}
 
--- a NOTICE does nothing where a PRIVMSG is refused
+-- a NOTICE does nothing when a PRIVMSG would be refused
 abbrev pub loudly : Bool → Letter → List Letter
 loudly loud one = if loud then one ∷ [] else []
 
@@ -23,7 +23,7 @@ talk_command loud = if loud then codes "PRIVMSG" else codes "NOTICE"
 abbrev pub speech : Bool → Person → List ℕ → List ℕ → List ℕ
 speech loud p target text = relayed (source_of p) (talk_command loud) (32 ∷ target) text
 
--- to a channel: to all who are on it but the client
+-- to a channel: to all who are on it except the client
 abbrev pub talk_to_room : Bool → ℕ → Person → List ℕ → List ℕ → Option Channel → List Letter
 talk_to_room loud client p target text None = loudly loud (told client p (codes "403") (repeated target) (codes "No such channel"))
 talk_to_room loud client p target text (Some channel) =
@@ -31,7 +31,7 @@ talk_to_room loud client p target text (Some channel) =
     then spread (speech loud p target text) (others client channel.members)
     else loudly loud (told client p (codes "442") (repeated target) (codes "Not on channel"))
 
--- the registered client of a nick
+-- the registered client that holds a nick
 abbrev pub is_there : Option Person → Bool
 is_there None = false
 is_there (Some p) = is_registered p
@@ -75,7 +75,7 @@ exact_by command.Quit client p clients channels ps = None
 exact_by (command.Ask asked) client p clients channels ps = None
 exact_by command.Unknown client p clients channels ps = None
 
--- the same with too few parameters
+-- the same if there are too few parameters
 abbrev pub exact_of_few : Command → ℕ → Person → List ℕ → Option (List Letter)
 exact_of_few command.Notice client p word = Some []
 exact_of_few command.Ping client p word = Some (too_few client p word ∷ [])

@@ -1,4 +1,4 @@
--- What is true of the server between any two calls: who is on a channel is held, and its texts can stand in lines.
+-- What is true of the server between any two calls: members of channels are connected, and texts may stand in lines.
 use Rattle.std.specs.Prelude.{◌≡◌, ℕ, Bool, true, not, ◌&&◌, ◌||◌, List, Option, Some, None, is_some, length, nat_le}
 use Rattle.std.specs.List.{list_all}
 use Rattle.ircline.specs.Classes.{filled, nospcrlf, trailing}
@@ -8,7 +8,7 @@ use Rattle.miniircd.specs.declared.member.Channel.{Channel}
 use Rattle.miniircd.specs.People.{held_at}
 use Rattle.miniircd.specs.Commands.{is_nick}
 
--- whether a client is held
+-- whether a client is connected
 abbrev pub is_held : List (Option Person) → ℕ → Bool
 is_held clients client = is_some (held_at clients client)
 
@@ -23,7 +23,7 @@ is_sound_channel test channel = are_clients test channel.members && trailing cha
 abbrev pub are_sound_channels : (ℕ → Bool) → List Channel → Bool
 are_sound_channels test channels = list_all (is_sound_channel test) channels
 
--- a nick, if it is given, is one, and a user name has at most 30 bytes, of which none is NUL, CR, LF or a space
+-- a nick, if given, is valid; a user name has at most 30 bytes, none of which is NUL, CR, LF or a space
 abbrev pub is_sound_person : Person → Bool
 is_sound_person p = (not (filled p.nick) || is_nick p.nick) && (nat_le (length p.user) 30 && list_all nospcrlf p.user)
 
@@ -31,7 +31,7 @@ abbrev pub is_sound_slot : Option Person → Bool
 is_sound_slot None = true
 is_sound_slot (Some p) = is_sound_person p
 
--- what is kept of each client is sound, and each member of a channel is a client that is held
+-- what the server keeps of each client is sound, and each member of a channel is a connected client
 pub record IsWhole (clients : List (Option Person)) (channels : List Channel) : Type 0 where
   pub people : (client : ℕ) → is_sound_slot (held_at clients client) ≡ true
   pub rooms : are_sound_channels (is_held clients) channels ≡ true

@@ -1,4 +1,4 @@
-// What the server answers to one line of a client that is held, before anything is changed.
+// What the server answers to one line of a connected client, before anything is changed.
 ghost use Rattle.std.specs.Prelude.{◌≡◌, [], Some, None, IfOk, IfSome, OnErr};
 ghost use Rattle.ircline.specs.declared.line.Line.TheVariants.{Message as message_line};
 ghost use Rattle.ircline.specs.Words.{up_to};
@@ -28,16 +28,16 @@ use ircline::{Line, Message, read_line};
 use slab::Slab;
 use std::alloc::Global;
 
-/// What a line of a client does to the server, and the lines that go out of it.
+/// What a line of a client does to the server, and the lines that the server sends because of it.
 #[derive(Drop)]
 pub struct Reply {
-    /// What it does.
+    /// What the line does.
     pub effect: Effect,
     /// The lines, in order.
     pub lines: Seq<Sent>,
 }
 
-// The reply to a message that is no QUIT.
+// Returns the reply to a message other than QUIT.
 fn reply_to_message(
     alloc: Global,
     clients: &Slab<Person>,
@@ -63,17 +63,17 @@ fn reply_to_message(
     })
 }
 
-// No line yet of those for the clients that stay when one leaves.
+// Starts the lines for the clients that stay when `leaver` leaves.
 fn post_of_leaver(alloc: Global, clients: &Slab<Person>, leaver: usize) -> Post<'_>
     ensures { result ≡ record { clients = clients.now.slots; leaver = Some leaver; lines = [] } }
 {
     Post::new(alloc, clients, Some(leaver))
 }
 
-/// What a client leaves, with the reason that it may give.
+/// Returns what happens when the client `me` leaves, with the `reason` that it may give.
 ///
 /// # Errors
-/// `NoMemory` where room is refused.
+/// Returns `NoMemory` if an allocation fails.
 pub fn farewell_of(
     alloc: Global,
     clients: &Slab<Person>,
@@ -95,7 +95,7 @@ pub fn farewell_of(
     })
 }
 
-// The reply to a message: a QUIT, or another.
+// Returns the reply to a message, be it a QUIT or another.
 fn reply_to_any(
     alloc: Global,
     clients: &Slab<Person>,
@@ -122,10 +122,10 @@ fn reply_to_any(
     }
 }
 
-/// The reply to a line of a client.
+/// Returns the reply to `text`, a line of the client `me`.
 ///
 /// # Errors
-/// `NoMemory` where room is refused.
+/// Returns `NoMemory` if an allocation fails; the channels are then unchanged.
 pub fn reply_to(
     alloc: Global,
     clients: &Slab<Person>,

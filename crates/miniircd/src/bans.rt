@@ -13,27 +13,27 @@ use bytetext::{Failure, NoMemory, TryCopy};
 use std::alloc::Global;
 use wildmask::Mask;
 
-// The most bans of a channel.
+// The most bans that a channel has.
 const MAX_BANS: usize = 60;
 
-// Whether a ban has this text, by casemapping.
+// Returns whether `ban` has the text `text`, by casemapping.
 fn is_ban(text: &[u8], ban: &Mask) -> bool
     ensures { result ≡ is_ban text.now ban.now }
 {
     is_same(text, ban.text())
 }
 
-// How many bans have another text.
+// Returns how many of `bans` have another text than `text`.
 fn count_other_bans(bans: &[Mask], text: &[u8]) -> usize
     ensures { result ≡ count_by (λ mask. not (is_ban text.now mask)) bans.now }
 {
     bans.iter().filter(|ban| !is_ban(text, *ban)).count()
 }
 
-/// The bans that have another text.
+/// Returns those of `bans` that have another text than `text`.
 ///
 /// # Errors
-/// `NoMemory` where room for them is refused.
+/// Returns `NoMemory` if an allocation fails.
 pub fn other_bans(alloc: Global, bans: &[Mask], text: &[u8]) -> Result<Vec<Mask>, NoMemory>
     ensures { IfOk result (λ after. after.items ≡ other_bans text.now bans.now) }
 {
@@ -46,10 +46,10 @@ pub fn other_bans(alloc: Global, bans: &[Mask], text: &[u8]) -> Result<Vec<Mask>
     Ok(after)
 }
 
-/// The ban of a text goes to others. A text that is no hostmask of at most 120 bytes is no ban.
+/// Appends the ban of `text` to `bans`. A text that is not a hostmask of at most 120 bytes is no ban.
 ///
 /// # Errors
-/// `NoMemory` where room for it is refused.
+/// Returns `NoMemory` if an allocation fails.
 pub fn push_ban(alloc: Global, bans: &mut Vec<Mask>, text: &[u8]) -> Result<(), NoMemory>
     ensures { OnOk result (bans.new.items ≡ bans.old.items ++ ban_unless (host_fault text.now) text.now) }
 {
@@ -61,7 +61,7 @@ pub fn push_ban(alloc: Global, bans: &mut Vec<Mask>, text: &[u8]) -> Result<(), 
     Ok(())
 }
 
-/// Whether the channel, if there is one, has no room for the ban of a text.
+/// Returns whether `channel`, if there is one, has no room for the ban of `text`.
 pub fn is_full(channel: Option<&Channel>, text: &[u8]) -> bool
     ensures { result ≡ is_full text.now (option_copied channel.entry) }
 {
@@ -71,7 +71,7 @@ pub fn is_full(channel: Option<&Channel>, text: &[u8]) -> bool
     }
 }
 
-// Each of these bans goes to one who asks.
+// Sends each of `bans` to the client that asked.
 fn tell_each(
     alloc: Global,
     post: &mut Post<'_>,
@@ -87,10 +87,10 @@ fn tell_each(
     Ok(())
 }
 
-/// The bans of a channel, if there is one, go to one who asks.
+/// Sends the bans of the channel `name`, if it exists, to the client `me`.
 ///
 /// # Errors
-/// `NoMemory` where room is refused.
+/// Returns `NoMemory` if an allocation fails.
 pub fn tell_bans(
     alloc: Global,
     post: &mut Post<'_>,

@@ -19,6 +19,6 @@ pub enum Change {
 pub enum Effect {
     // It changes this.
     Changed(Change),
-    // The client is held no longer, and these are the channels then.
+    // The client has left the server, and these are the remaining channels.
     Left(Seq<Channel>),
 }

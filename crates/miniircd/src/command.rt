@@ -22,10 +22,10 @@ pub enum Command {
     Unknown,
 }
 
-/// A command that changes nothing here: it asks, passes something on, or answers.
+/// A command that changes nothing on this server: it asks, passes something on, or answers.
 #[derive(Clone, Copy)]
 pub enum Inquiry {
-    // CAP, of which RFC 2812 says nothing: what the server can do besides (IRCv3, capability negotiation).
+    // CAP, which is not in RFC 2812: what else the server can do (IRCv3, capability negotiation).
     Cap,
     Invite,
     Ison,
@@ -35,14 +35,14 @@ pub enum Inquiry {
     Whois,
 }
 
-// Whether a word is this one.
+// Returns whether `word` is the command called `name`.
 fn is(word: &[u8], name: &[u8]) -> bool
     ensures { result ≡ is_command word.now name.now }
 {
     word == name
 }
 
-/// The command of a message.
+/// Returns the command of a message, whose name is `word`.
 pub fn read_command(word: &[u8]) -> Command
     ensures { result ≡ command_of word.now }
 {
@@ -77,7 +77,7 @@ pub fn read_command(word: &[u8]) -> Command
     }
 }
 
-// The same of a word that is none of those above.
+// Returns the command called `word` if it is none of those above.
 fn inquiry_of(word: &[u8]) -> Command
     ensures { result ≡ inquiry_of word.now }
 {
@@ -101,7 +101,7 @@ fn inquiry_of(word: &[u8]) -> Command
 }
 
 impl Inquiry {
-    // How many parameters it needs.
+    // Returns how many parameters it needs.
     fn needed(self) -> usize
         ensures { result ≡ needed_of self }
     {
@@ -112,7 +112,7 @@ impl Inquiry {
         }
     }
 
-    // Whether a client may send it before it is registered.
+    // Returns whether a client may send it before it is registered.
     fn is_open(self) -> bool
         ensures { result ≡ is_open_to_all self }
     {
@@ -125,7 +125,7 @@ impl Inquiry {
 }
 
 impl Command {
-    /// How many parameters it needs.
+    /// Returns how many parameters it needs.
     pub fn needed(self) -> usize
         ensures { result ≡ needed self }
     {
@@ -145,7 +145,7 @@ impl Command {
         }
     }
 
-    /// Whether a client may send it before it is registered.
+    /// Returns whether a client may send it before it is registered.
     pub fn is_open(self) -> bool
         ensures { result ≡ is_open self }
     {
@@ -165,7 +165,7 @@ impl Command {
         }
     }
 
-    /// Whether it is a QUIT.
+    /// Returns whether it is a QUIT.
     pub fn is_quit(self) -> bool
         ensures { result ≡ is_quit self }
     {

@@ -1,4 +1,4 @@
-// How commands leave channels.
+// How commands change channels.
 ghost use Rattle.std.specs.Prelude.{◌≡◌, ◌++◌, ◌∷◌, [], IfOk, OnOk, map, filter, not};
 ghost use Rattle.std.specs.Option.{option_copied};
 ghost use Rattle.miniircd.specs.Rooms.{seen, is_client, plain, marked, members_after, topic_after, edited, edited_if, is_used, concerns, rooms_after, bans_after};
@@ -17,9 +17,9 @@ pub enum Edit<'a> {
     Enter(usize),
     // A client leaves.
     Leave(usize),
-    // The topic is another one.
+    // The topic becomes this one.
     Title(&'a [u8]),
-    // A mark of a client is set or cleared: the voice, or else that of an operator.
+    // A mark of a client is set or cleared: the voice if `is_voice`, or else the mark of an operator.
     Mark {
         client: usize,
         is_voice: bool,
@@ -48,7 +48,7 @@ fn marked(member: Member, client: usize, is_voice: bool, on: bool) -> Member
     }
 }
 
-// The members with the marks of a client changed.
+// Returns the members, with the marks of a client changed.
 fn marked_each(
     alloc: Global,
     members: &[Member],
@@ -65,7 +65,7 @@ fn marked_each(
     Ok(after)
 }
 
-/// The members without a client.
+/// Returns `members` without `client`.
 pub fn without(alloc: Global, members: &[Member], client: usize) -> Result<Vec<Member>, NoMemory>
     ensures { IfOk result (λ after. after.items ≡ filter (λ m. not (is_client client m)) members.now) }
 {
@@ -78,7 +78,7 @@ pub fn without(alloc: Global, members: &[Member], client: usize) -> Result<Vec<M
     Ok(after)
 }
 
-// The members and one more, who has no mark.
+// Returns `members` and `client`, who has no mark.
 fn with(alloc: Global, members: &[Member], client: usize) -> Result<Vec<Member>, NoMemory>
     ensures { IfOk result (λ after. after.items ≡ members.now ++ plain client ∷ []) }
 {
@@ -127,7 +127,7 @@ fn bans_after(alloc: Global, bans: &[Mask], edit: Edit<'_>) -> Result<Vec<Mask>,
     }
 }
 
-// A channel after an edit.
+// Returns a channel after `edit`.
 pub(crate) fn edited(alloc: Global, channel: &Channel, edit: Edit<'_>) -> Result<Channel, NoMemory>
     ensures { IfOk result (λ after. after ≡ edited (seen edit.entry) channel.now) }
 {
@@ -141,7 +141,7 @@ pub(crate) fn edited(alloc: Global, channel: &Channel, edit: Edit<'_>) -> Result
     })
 }
 
-// Whether the channel has this name, or any, where there is none.
+// Returns whether the channel is called `name`. Without a name it is true of every channel.
 fn concerns(name: Option<&[u8]>, channel: &Channel) -> bool
     ensures { result ≡ concerns (option_copied name.entry) channel.now }
 {
@@ -172,7 +172,7 @@ fn is_used(channel: &Channel) -> bool
     channel.members.len() > 0
 }
 
-// A channel after an edit goes to others, unless nobody is on it.
+// Appends `channel` after `edit` to `after`, unless nobody is on it.
 fn push_edited(
     alloc: Global,
     after: &mut Vec<Channel>,
@@ -190,10 +190,11 @@ fn push_edited(
     Ok(())
 }
 
-/// The channels after an edit of the one of a name, or without a name of each. One that nobody is on is forgotten.
+/// Returns `channels` after `edit` of the channel called `name`, or of every channel if there is no name. A channel
+/// that nobody is on is removed.
 ///
 /// # Errors
-/// `NoMemory` where room for them is refused.
+/// Returns `NoMemory` if an allocation fails.
 pub fn rooms_after(
     alloc: Global,
     channels: &[Channel],

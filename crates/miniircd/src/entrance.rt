@@ -9,25 +9,25 @@ use crate::member::{Channel, channel_of, is_member};
 use rfccase::is_channel_name;
 use wildmask::Mask;
 
-// The most channels that a client is on.
+// The most channels that a client may be on.
 const MAX_CHANNELS: usize = 20;
 
-/// What stands between a client and a channel, in the order in which it is looked at.
+/// What keeps a client out of a channel, in the order in which it is tested.
 #[derive(Clone, Copy)]
 pub enum Entrance {
-    // The name is no channel's.
+    // The name is not a channel's.
     Nameless,
-    // The client is on it.
+    // The client is on it already.
     Inside,
     // The client is on as many channels as it may be.
     TooMany,
-    // A ban of the channel matches it.
+    // A ban of the channel matches the client.
     Banned,
-    // Nothing.
+    // Nothing: the client may join.
     Open,
 }
 
-// How many channels a client is on.
+// Returns how many channels a client is on.
 fn count_of(channels: &[Channel], client: usize) -> usize
     ensures { result ≡ count_of client channels.now }
 {
@@ -37,14 +37,14 @@ fn count_of(channels: &[Channel], client: usize) -> usize
         .count()
 }
 
-// Whether one of these bans matches this `nick!user@host`.
+// Returns whether one of `bans` matches `source`, a `nick!user@host`.
 fn one_matches(bans: &[Mask], source: &[u8]) -> bool
     ensures { result ≡ list_any (λ mask. is_match mask source.now) bans.now }
 {
     bans.iter().any(|ban| ban.matches(source))
 }
 
-// Whether a ban of the channel, if there is one, matches this `nick!user@host`.
+// Returns whether a ban of the channel, if there is one, matches `source`, a `nick!user@host`.
 fn is_banned(channel: Option<&Channel>, source: &[u8]) -> bool
     ensures { result ≡ is_banned source.now (option_copied channel.entry) }
 {
@@ -54,7 +54,7 @@ fn is_banned(channel: Option<&Channel>, source: &[u8]) -> bool
     }
 }
 
-// Whether a client is on the channel, if there is one.
+// Returns whether a client is on the channel, if there is one.
 fn is_inside(channel: Option<&Channel>, client: usize) -> bool
     ensures { result ≡ is_on_some client (option_copied channel.entry) }
 {
@@ -64,7 +64,7 @@ fn is_inside(channel: Option<&Channel>, client: usize) -> bool
     }
 }
 
-/// What stands between a client, which is a `nick!user@host`, and the channel of a name.
+/// Returns what keeps `client`, whose `nick!user@host` is `source`, out of the channel called `name`.
 pub fn find_entrance(channels: &[Channel], name: &[u8], client: usize, source: &[u8]) -> Entrance
     ensures { result ≡ entrance_of client source.now name.now channels.now }
 {

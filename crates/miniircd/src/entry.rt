@@ -1,4 +1,4 @@
-// How a client comes into a channel, in place, and how that is undone.
+// How a client enters a channel, in place, and how that is undone.
 ghost use Rattle.std.specs.Prelude.{◌≡◌, ◌<◌, IfOk, IfSome, OnErr, OnOk, length, position};
 ghost use Rattle.miniircd.specs.Rooms.{is_named, entered, undone};
 
@@ -9,18 +9,18 @@ use bytetext::NoMemory;
 use std::alloc::Global;
 use std::mem;
 
-/// What is to be undone where memory runs out later.
+/// What must be undone if memory runs out later.
 #[derive(Drop)]
 pub enum Entry {
     // Nothing.
     Nowhere,
-    // The last channel has been made.
+    // The last channel was created.
     Made,
-    // The channel at a place was this one before.
+    // The channel at `place` was `old` before.
     Came { place: usize, old: Channel },
 }
 
-// Where the channel of this name is, by casemapping.
+// Returns the place of the channel called `name`, by casemapping.
 fn place_of(channels: &[Channel], name: &[u8]) -> Option<usize>
     ensures value { result ≡ position (is_named name.now) channels.now }
     ensures within { IfSome result (λ place. place < length channels.now) }
@@ -30,10 +30,10 @@ fn place_of(channels: &[Channel], name: &[u8]) -> Option<usize>
         .position(|channel| is_same(name, channel.name.as_bytes()))
 }
 
-/// A client comes into the channel of a name, which it isn't on, or makes it.
+/// Adds `client` to the channel called `name`, which it isn't on, or creates the channel.
 ///
 /// # Errors
-/// `NoMemory` where room is refused; then the channels are as before.
+/// Returns `NoMemory` if an allocation fails; the channels are then unchanged.
 #[tactic(auto, using(crate::proofs::ListLemmas::set_back, crate::proofs::ListLemmas::take_pushed))]
 pub fn enter(
     alloc: Global,
@@ -59,7 +59,7 @@ pub fn enter(
     }
 }
 
-/// The channels are as before an entry. Takes no memory.
+/// Undoes `entry`: the channels are as they were before it. Allocates nothing.
 #[tactic(auto, using(std::proofs::lemmas::List::set_past))]
 pub fn undo(channels: &mut Vec<Channel>, entry: Entry)
     ensures { channels.new.items ≡ undone entry channels.old.items }

@@ -8,16 +8,16 @@ use thiserror::Error;
 /// Why the server refuses a call.
 #[derive(Clone, Copy, Debug, PartialEq, Eq, Error)]
 pub enum Fault {
-    /// The server holds 64 clients.
+    /// The server has 64 clients.
     #[error("the server is full: let a client go first")]
     Full,
-    /// No client of this number is held.
+    /// No client has this number.
     #[error("no such client: use the number of one that is held")]
     NoSuchClient,
 }
 
 impl Fault {
-    /// The letters of this fault: `I1` and `I2`.
+    /// Returns the letters of this fault: `I1` and `I2`.
     pub fn code(self) -> &'static str
         ensures { result.now ≡ code_of self }
     {
@@ -28,5 +28,5 @@ impl Fault {
     }
 }
 
-/// Why a call changed nothing: a [`Fault`], or a growth was refused.
+/// Why a call changed nothing: a [`Fault`], or an allocation failed.
 pub type IrcdError = Failure<Fault>;

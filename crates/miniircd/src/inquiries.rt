@@ -18,13 +18,14 @@ use itoa::Buffer;
 use slab::Slab;
 use std::alloc::Global;
 
-// The most nicks of a USERHOST (RFC 2812 section 4.8).
+// The most nicks that the server answers a USERHOST for (RFC 2812 section 4.8).
 const MAX_ASKED: usize = 5;
 
-/// What is told of a command that changes nothing here. A PONG needs no answer.
+/// Answers the command `inquiry` of the client `me`, which has the parameters `params` and changes nothing on this
+/// server. A PONG needs no answer.
 ///
 /// # Errors
-/// `NoMemory` where room is refused.
+/// Returns `NoMemory` if an allocation fails.
 pub fn inquire(
     alloc: Global,
     post: &mut Post<'_>,
@@ -51,7 +52,7 @@ pub fn inquire(
     }
 }
 
-// CAP: the server can do nothing besides.
+// CAP: the server has no other capabilities.
 fn cap(
     alloc: Global,
     post: &mut Post<'_>,
@@ -74,12 +75,12 @@ fn cap(
     }
 }
 
-// The registered client of a nick.
+// Returns the registered client called `nick`.
 fn person_of<'a>(clients: &'a Slab<Person>, nick: &[u8]) -> Option<&'a Person> {
     clients.get(if_there(clients, holder(clients, nick))?)
 }
 
-// The nicks of a text, with spaces between, that registered clients hold go to others, with a space before each.
+// Appends to `present` those of `nicks`, separated by spaces, that registered clients hold, each after a space.
 fn push_present(
     clients: &Slab<Person>,
     present: &mut Vec<u8>,
@@ -94,7 +95,7 @@ fn push_present(
     Ok(())
 }
 
-// ISON: those of the nicks that registered clients hold.
+// ISON: replies with those of the nicks that registered clients hold.
 fn ison(
     alloc: Global,
     post: &mut Post<'_>,
@@ -118,7 +119,7 @@ fn ison(
     )
 }
 
-// A text without the space that it begins with.
+// Returns a text without the space that it begins with.
 fn after_space(text: &[u8]) -> &[u8] {
     match text {
         [] => b"",
@@ -126,14 +127,15 @@ fn after_space(text: &[u8]) -> &[u8] {
     }
 }
 
-// What USERHOST tells of a client, with a space before it.
+// Returns what USERHOST says of a client, with a space before it.
 fn userhost_of(alloc: Global, person: &Person) -> Result<Vec<u8>, NoMemory> {
     let (nick, user) = (person.nick.as_bytes(), person.user.as_bytes());
     let words: [&[u8]; 5] = [b" ", nick, b"=+", user, b"@local"];
     Ok(words.concat(alloc)?)
 }
 
-// USERHOST: who registered clients of at most five nicks are. Nobody is away, and nobody an operator of the server.
+// USERHOST: replies with who the registered clients of at most five nicks are. Nobody is away, and nobody is an
+// operator of the server.
 fn userhost(
     alloc: Global,
     post: &mut Post<'_>,
@@ -152,13 +154,13 @@ fn userhost(
     tell(alloc, post, me, b"302", b"", after_space(told.as_slice()))
 }
 
-// Whether a list of names, with commas between, has that of a channel; one without names has all.
+// Returns whether `names`, a list separated by commas, names the channel. An empty list names every channel.
 fn is_asked(names: &[u8], channel: &Channel) -> bool {
     let mut each = names.split(|byte| *byte == b',');
     names.is_empty() || each.any(|name| is_same(name, channel.name.as_bytes()))
 }
 
-// The reply about one channel: how many are on it, and its topic.
+// Sends the reply about one channel: how many are on it, and its topic.
 fn tell_channel(
     alloc: Global,
     post: &mut Post<'_>,
@@ -175,7 +177,7 @@ fn tell_channel(
     tell(alloc, post, me, b"322", words.as_slice(), topic)
 }
 
-// LIST: of the channels of these names, or without names of all.
+// LIST: replies about the channels of these names, or about all if there are no names.
 fn list(
     alloc: Global,
     post: &mut Post<'_>,

@@ -13,10 +13,11 @@ use bytetext::NoMemory;
 use slab::Slab;
 use std::alloc::Global;
 
-/// INVITE of a nick to a channel, which need not be there. It opens no channel to one whom a ban keeps out.
+/// Answers an INVITE by `me` of `nick` to the channel `name`, which need not exist. An INVITE doesn't let in a client
+/// that a ban keeps out.
 ///
 /// # Errors
-/// `NoMemory` where room is refused.
+/// Returns `NoMemory` if an allocation fails.
 pub fn invite(
     alloc: Global,
     post: &mut Post<'_>,
@@ -52,14 +53,14 @@ pub fn invite(
     pass_on(alloc, post, me, client, nick, name)
 }
 
-// Two words that a reply repeats, with a space before each.
+// Returns the two words that a reply repeats, with a space before each.
 fn both(alloc: Global, first: &[u8], second: &[u8]) -> Result<Vec<u8>, NoMemory> {
     let mut words = repeated(alloc, first)?;
     words.extend_from_slice(repeated(alloc, second)?.as_slice())?;
     Ok(words)
 }
 
-// The INVITE goes to whom it invites.
+// Sends the INVITE to the invited client.
 fn pass_on(
     alloc: Global,
     post: &mut Post<'_>,

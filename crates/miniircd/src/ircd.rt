@@ -24,10 +24,10 @@ use slab::Slab;
 use std::alloc::Global;
 use std::marker::Model;
 
-/// The most clients that the server holds.
+/// The most clients that the server has.
 pub const MAX_CLIENTS: usize = 64;
 
-/// A small IRC server in memory: it reads the lines of its clients, and answers with the lines that go out.
+/// A small IRC server in memory: it reads the lines of its clients, and answers with the lines that it sends to them.
 ///
 /// ```text
 /// let mut server = Ircd::new(alloc);
@@ -55,7 +55,7 @@ impl Model for Ircd {
 }
 
 impl Ircd {
-    /// A server without clients and channels. Takes no memory.
+    /// Creates a server without clients and channels. Allocates nothing.
     pub fn new(alloc: Global) -> Ircd
         ensures { result ≡ record { clients = []; channels = [] } }
     {
@@ -65,10 +65,11 @@ impl Ircd {
         }
     }
 
-    /// A client comes.
+    /// Adds a client and returns its number.
     ///
     /// # Errors
-    /// [`Fault::Full`] where 64 clients are held, and `NoMemory` where they aren't and room for one is refused.
+    /// Returns [`Fault::Full`] if the server has 64 clients, and `NoMemory` if it has fewer and the client can't be
+    /// allocated.
     pub fn connect(&mut self, alloc: Global) -> Result<Client, IrcdError>
         ensures full { (result ≡ Err (Refused Full)) ↔ (64 ≤ count self.old) }
         ensures came { IfOk result (λ client. Comes client.0 self.old self.new) }
@@ -81,10 +82,11 @@ impl Ircd {
         Ok(Client(key))
     }
 
-    /// A line of a client, without or with its CR and LF: the lines that go out of it, in order. A bad line is ignored.
+    /// Takes in `text`, a line of `client` with or without its CR and LF, and returns the lines that the server sends
+    /// because of it, in order. A bad line is ignored.
     ///
     /// # Errors
-    /// [`Fault::NoSuchClient`] where the client isn't held, and `NoMemory` where it is and room is refused.
+    /// Returns [`Fault::NoSuchClient`] if `client` is not connected, and `NoMemory` if it is and an allocation fails.
     pub fn line(
         &mut self,
         alloc: Global,
@@ -97,7 +99,7 @@ impl Ircd {
             (λ letters. IsTold letters lines)) }
         ensures sound { IfOk result (λ lines. are_sound self.new.clients None lines ≡ true) }
         ensures err { OnErr result (self.new ≡ self.old) }
-        // A bad line takes no memory.
+        // A bad line allocates nothing.
         ensures memory { (result ≡ Err NoMemory) → TakesMemory (line_of (up_to is_end text.now)) }
     {
         let Some(person) = self.clients.get(client.0) else {
@@ -113,10 +115,11 @@ impl Ircd {
         Ok(lines)
     }
 
-    /// A client is gone: who shared a channel with it gets its QUIT.
+    /// Removes `client`, whose connection has ended, and returns its QUIT for each client that shared a channel with
+    /// it.
     ///
     /// # Errors
-    /// [`Fault::NoSuchClient`] where the client isn't held, and `NoMemory` where it is and room is refused.
+    /// Returns [`Fault::NoSuchClient`] if `client` is not connected, and `NoMemory` if it is and an allocation fails.
     pub fn gone(&mut self, alloc: Global, client: Client) -> Result<Seq<Sent>, IrcdError>
         ensures unknown { (result ≡ Err (Refused NoSuchClient)) ↔ (held_at self.old.clients client.0 ≡ None) }
         ensures left { OnOk result (self.new ≡ left client.0 self.old) }
@@ -136,7 +139,7 @@ impl Ircd {
         Ok(lines)
     }
 
-    /// Whether the client is held, and has given a nick and a user name.
+    /// Returns whether `client` is connected, and has given a nick and a user name.
     pub fn is_registered(&self, client: Client) -> bool
         ensures { result ≡ is_there (held_at self.now.clients client.0) }
     {
@@ -146,8 +149,8 @@ impl Ircd {
         }
     }
 
-    /// Whatever was called before, each member of a channel is a client that is held, and nicks, user names and topics
-    /// are such as can stand in lines. This call says so, and does nothing.
+    /// Does nothing, and states that, whatever was called before, each member of a channel is a connected client, and
+    /// nicks, user names and topics are allowed in lines.
     pub fn is_whole(&self)
         ensures { IsWhole self.now.clients self.now.channels }
     {
@@ -155,7 +158,7 @@ impl Ircd {
     }
 }
 
-// What a client that is held has said of itself is now this.
+// Sets what a connected client has said of itself.
 fn place(clients: &mut Slab<Person>, client: usize, person: Person)
     requires { ContainsKey clients.old client }
     ensures { clients.new.slots ≡ slice_set clients.old.slots client (Some person) }
@@ -163,7 +166,7 @@ fn place(clients: &mut Slab<Person>, client: usize, person: Person)
     clients[client] = person;
 }
 
-// A client that is held is gone.
+// Removes a connected client.
 fn remove(clients: &mut Slab<Person>, client: usize)
     requires { ContainsKey clients.old client }
     ensures { clients.new.slots ≡ slice_set clients.old.slots client None }
@@ -171,7 +174,7 @@ fn remove(clients: &mut Slab<Person>, client: usize)
     clients.remove(client);
 }
 
-// What a line of a client that is held does is done. Takes no memory.
+// Does what a line of a connected client does. Allocates nothing.
 fn commit(clients: &mut Slab<Person>, channels: &mut Vec<Channel>, client: usize, effect: Effect)
     requires { ContainsKey clients.old client }
     ensures clients { clients.new.slots ≡ (effected client effect (record { clients = clients.old.slots; channels = channels.old.items })).clients }

@@ -18,7 +18,7 @@ use bytetext::{NoMemory, Text};
 use slab::Slab;
 use std::alloc::Global;
 
-// The topic goes to one who joins, where there is one.
+// Sends the topic, if there is one, to the client that joins.
 fn tell_topic(
     alloc: Global,
     post: &mut Post<'_>,
@@ -34,7 +34,7 @@ fn tell_topic(
     Ok(())
 }
 
-// The JOIN goes to the members.
+// Sends the JOIN to the members.
 fn announce(
     alloc: Global,
     post: &mut Post<'_>,
@@ -50,7 +50,7 @@ fn announce(
     spread(alloc, post, members, line.as_slice())
 }
 
-// The JOIN goes to the members, and the topic and the names to the new one.
+// Sends the JOIN to the members, and the topic and the names to the new one.
 fn arrive(
     alloc: Global,
     post: &mut Post<'_>,
@@ -73,7 +73,7 @@ fn arrive(
     Ok(())
 }
 
-// A client joins a channel that is open to it.
+// Lets a client join a channel that is open to it.
 fn come_in(
     alloc: Global,
     post: &mut Post<'_>,
@@ -100,7 +100,7 @@ fn come_in(
     }
 }
 
-// One that doesn't come in is told why.
+// Tells a client why it can't join.
 fn keep_out(
     alloc: Global,
     post: &mut Post<'_>,
@@ -117,7 +117,7 @@ fn keep_out(
     Ok(Entry::Nowhere)
 }
 
-// A client joins the channel of one name.
+// Lets a client join the channel of one name, if it may.
 #[tactic(auto, using(crate::proofs::MailLemmas::posted_none))]
 fn join(
     alloc: Global,
@@ -146,10 +146,10 @@ fn join(
     }
 }
 
-/// A client joins the channels of these names, one after another.
+/// Answers a JOIN of the client `me` to the channels called `names`, one after another.
 ///
 /// # Errors
-/// `NoMemory` where room is refused; then the channels are as before.
+/// Returns `NoMemory` if an allocation fails; the channels are then unchanged.
 #[tactic(auto, using(crate::proofs::MailLemmas::posted_append, crate::proofs::MailLemmas::posted_none))]
 pub fn join_each(
     alloc: Global,

@@ -1,20 +1,25 @@
-//! A small IRC server, for programs and tests: clients, channels and what goes between them (RFC 2812).
+//! A small IRC server for programs and tests: its clients, its channels and the lines between them (RFC 2812).
 //!
-//! An [`Ircd`] holds no sockets. [`Ircd::connect`] gives the number of a client, [`Ircd::line`] takes a line of one and
-//! answers the lines that go out, each with the client that gets it, and [`Ircd::gone`] says that a connection is no more.
-//! It knows NICK, USER, JOIN, PART, TOPIC, KICK, MODE, PRIVMSG, NOTICE, NAMES, WHO, PING and QUIT, and answers CAP, INVITE,
-//! ISON, LIST, PONG, USERHOST and WHOIS, which change nothing. The server is called `irc.test`, and each client's host is
-//! `local`. One who is on 20 channels joins no other. A channel with 60 bans takes no other, and a ban keeps out of a JOIN
-//! whom its mask matches (`entrance_of` and `is_full` in `specs/Rooms.antt`). An `Ircd` has no clock: a [`Pulse`] says of
-//! one client when it is to be asked whether it is there, and when it is to be let go (`specs/Patience.antt`).
+//! An [`Ircd`] has no sockets. [`Ircd::connect`] returns the number of a new client. [`Ircd::line`] takes a line of a
+//! client and returns the lines that the server sends, each with the client that gets it. [`Ircd::gone`] is called when
+//! a connection has ended.
 //!
-//! Contracts see a server as its clients by their numbers and its channels in the order in which they were made
-//! (`specs/Server.antt`). `after` in that file is what a line leaves, a definition for each command in
-//! `specs/Commands.antt`; for PING, JOIN, PRIVMSG and NOTICE of a registered client `letters` says which lines go out:
-//! none is left out or changed, and each reads as a message. Every line that goes out goes to a client that is held then,
-//! has 1 to 510 bytes, and no NUL, CR or LF. Each member of a channel is a client that is held ([`Ircd::is_whole`]).
-//! Where memory is refused, a call leaves the server as it was; a bad line takes none. A JOIN copies the channels that it
-//! names, and no others.
+//! The server knows NICK, USER, JOIN, PART, TOPIC, KICK, MODE, PRIVMSG, NOTICE, NAMES, WHO, PING and QUIT, and answers
+//! CAP, INVITE, ISON, LIST, PONG, USERHOST and WHOIS, which change nothing. Its name is `irc.test`, and the host of
+//! each client is `local`. A client that is on 20 channels can't join another. A channel with 60 bans accepts no other
+//! ban. A client that a ban's mask matches can't join (`entrance_of` and `is_full` in `specs/Rooms.antt`).
+//!
+//! An `Ircd` has no clock. A [`Pulse`] says when the server sends a PING to a silent client, and when it disconnects
+//! the client (`specs/Patience.antt`).
+//!
+//! Contracts see a server as its clients by their numbers and its channels in the order in which they were created
+//! (`specs/Server.antt`). `after` in that file is the server after a line; `specs/Commands.antt` has a definition for
+//! each command. For PING, JOIN, PRIVMSG and NOTICE of a registered client `letters` says which lines the server sends:
+//! none is left out or changed, and each reads as a message. Every line goes to a client that is connected then, has 1
+//! to 510 bytes, and no NUL, CR or LF. Each member of a channel is a connected client ([`Ircd::is_whole`]).
+//!
+//! If memory runs out, a call leaves the server as it was. A bad line allocates nothing. A JOIN copies the channels
+//! that it names, and no others.
 #![tactic(auto)]
 
 mod answers;

@@ -8,10 +8,10 @@ use crate::texts::front;
 use bytetext::NoMemory;
 use std::alloc::Global;
 
-// The most bytes that a line has before CR and LF (RFC 2812 section 2.3).
+// The most bytes of a line before CR and LF (RFC 2812 section 2.3).
 const MAX_LINE: usize = 510;
 
-// The most bytes that a line has before its last parameter and the space that goes before that.
+// The most bytes of a line before its last parameter and the space before that.
 const ROOM: usize = 509;
 
 // The most bytes of a word that a reply repeats.
@@ -23,7 +23,7 @@ fn shown(nick: &[u8]) -> &[u8]
     if nick.len() > 0 { nick } else { b"*" }
 }
 
-// A numbered reply as far as its last parameter, with the colon of that.
+// Returns a numbered reply up to its last parameter, with the colon of that parameter.
 fn numbered_head(alloc: Global, nick: &[u8], code: &[u8], words: &[u8]) -> Result<Vec<u8>, NoMemory>
     ensures { IfOk result (λ line. line.items ≡ numbered_head nick.now code.now words.now) }
 {
@@ -36,7 +36,8 @@ fn numbered_head(alloc: Global, nick: &[u8], code: &[u8], words: &[u8]) -> Resul
     Ok(line)
 }
 
-/// A numbered reply, of at most 510 bytes: its words have a space before each, and its last parameter a colon.
+/// Returns the reply to `nick` with the number `code`, of at most 510 bytes. `words` have a space before each, and
+/// `last`, the last parameter, gets a colon.
 pub fn numbered(
     alloc: Global,
     nick: &[u8],
@@ -52,7 +53,7 @@ pub fn numbered(
     Ok(line)
 }
 
-/// A word that a reply repeats, with a space before it.
+/// Returns `word`, which a reply repeats, with a space before it.
 pub fn repeated(alloc: Global, word: &[u8]) -> Result<Vec<u8>, NoMemory>
     ensures { IfOk result (λ words. words.items ≡ repeated word.now) }
 {
@@ -62,7 +63,7 @@ pub fn repeated(alloc: Global, word: &[u8]) -> Result<Vec<u8>, NoMemory>
     Ok(words)
 }
 
-// Whether a last parameter can't stand without a colon.
+// Returns whether a last parameter needs a colon.
 fn wants_colon(param: &[u8]) -> bool
     ensures { result ≡ wants_colon param.now }
 {
@@ -72,7 +73,7 @@ fn wants_colon(param: &[u8]) -> bool
     }
 }
 
-// The longest front of a last parameter that has this room, with the colon that it may need.
+// Returns the longest front of `last` that fits in `room` bytes, with the colon that it may need.
 fn cut(room: usize, last: &[u8]) -> &[u8]
     ensures { result.now ≡ cut room last.now }
 {
@@ -84,7 +85,7 @@ fn cut(room: usize, last: &[u8]) -> &[u8]
     }
 }
 
-// A line as far as its last parameter.
+// Returns a line up to its last parameter.
 fn head(alloc: Global, source: &[u8], command: &[u8], words: &[u8]) -> Result<Vec<u8>, NoMemory>
     ensures { IfOk result (λ line. line.items ≡ head source.now command.now words.now) }
 {
@@ -96,7 +97,8 @@ fn head(alloc: Global, source: &[u8], command: &[u8], words: &[u8]) -> Result<Ve
     Ok(line)
 }
 
-/// A message that is passed on, of at most 510 bytes: the words before its last parameter have a space before each.
+/// Returns a message that the server passes on from `source`, of at most 510 bytes. `words` stand after `command`, with
+/// a space before each; `last` is the last parameter.
 pub fn relayed(
     alloc: Global,
     source: &[u8],
@@ -116,7 +118,7 @@ pub fn relayed(
     Ok(line)
 }
 
-/// Who a client's messages come from.
+/// Returns the source of the messages of `person`.
 pub fn source_of(alloc: Global, person: &Person) -> Result<Vec<u8>, NoMemory>
     ensures { IfOk result (λ source. source.items ≡ source_of person.now) }
 {
@@ -127,7 +129,7 @@ pub fn source_of(alloc: Global, person: &Person) -> Result<Vec<u8>, NoMemory>
     Ok(source)
 }
 
-/// The QUIT of a client, with the reason that it may give.
+/// Returns the QUIT from `source`, with the `reason` that the client may give.
 pub fn farewell(alloc: Global, source: &[u8], reason: Option<&[u8]>) -> Result<Vec<u8>, NoMemory> {
     match reason {
         Some(reason) => relayed(alloc, source, b"QUIT", b"", reason),

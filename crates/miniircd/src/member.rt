@@ -1,4 +1,4 @@
-// Channels and those who are on them.
+// Channels and their members.
 ghost use Rattle.std.specs.Prelude.{◌≡◌, IfOk};
 ghost use Rattle.std.specs.Option.{option_copied};
 ghost use Rattle.miniircd.specs.Rooms.{plain, room, member_of, opened, has_member, is_on_some};
@@ -15,7 +15,7 @@ pub struct Member {
     pub client: usize,
     /// Whether it is a channel operator.
     pub op: bool,
-    /// Whether it has a voice.
+    /// Whether it has voice.
     pub voice: bool,
 }
 
@@ -30,15 +30,15 @@ impl TryCopy for Member {
 pub struct Channel {
     /// The name, as the first member spelled it.
     pub name: Text,
-    /// The topic, empty where there is none.
+    /// The topic, empty if there is none.
     pub topic: Text,
     /// The members in the order in which they joined.
     pub members: Seq<Member>,
-    /// The bans, hostmasks of those who may not join, in the order in which they were set.
+    /// The bans, hostmasks of people who can't join, in the order in which they were set.
     pub bans: Seq<Mask>,
 }
 
-// By hand, so that this is proved once, and not in each function in which one ends.
+// Written by hand, so that it is proved once and not in each function that drops a `Channel`.
 impl Drop for Channel {
     fn drop(self) {
         let Channel {
@@ -61,7 +61,7 @@ impl TryCopy for Channel {
     }
 }
 
-// One who joins a channel that has members.
+// Creates a member who joins a channel that has members.
 pub(crate) fn plain(client: usize) -> Member
     ensures { result ≡ plain client }
 {
@@ -72,10 +72,10 @@ pub(crate) fn plain(client: usize) -> Member
     }
 }
 
-/// A channel that a client has just made by joining it, as its operator.
+/// Creates the channel called `name` that `client` makes by joining it. The client is its operator.
 ///
 /// # Errors
-/// `NoMemory` where room is refused.
+/// Returns `NoMemory` if an allocation fails.
 pub fn opened(alloc: Global, name: &[u8], client: usize) -> Result<Channel, NoMemory>
     ensures { IfOk result (λ channel. channel ≡ opened name.now client) }
 {
@@ -93,7 +93,7 @@ pub fn opened(alloc: Global, name: &[u8], client: usize) -> Result<Channel, NoMe
     })
 }
 
-/// The channel of this name, by casemapping.
+/// Returns the channel called `name`, by casemapping.
 pub fn channel_of<'a>(channels: &'a [Channel], name: &[u8]) -> Option<&'a Channel>
     ensures { option_copied result ≡ room name.now channels.now }
 {
@@ -102,21 +102,21 @@ pub fn channel_of<'a>(channels: &'a [Channel], name: &[u8]) -> Option<&'a Channe
         .find(|channel| is_same(name, channel.name.as_bytes()))
 }
 
-/// The client as a member of these.
+/// Returns `client` as one of `members`.
 pub fn member_of(members: &[Member], client: usize) -> Option<&Member>
     ensures { option_copied result ≡ member_of client members.now }
 {
     members.iter().find(|member| member.client == client)
 }
 
-/// Whether the client is one of these.
+/// Returns whether `client` is one of `members`.
 pub fn is_member(members: &[Member], client: usize) -> bool
     ensures { result ≡ has_member client members.now }
 {
     members.iter().any(|member| member.client == client)
 }
 
-/// Whether the client is on the channel of this name.
+/// Returns whether `client` is on the channel called `name`.
 pub fn is_on(channels: &[Channel], name: &[u8], client: usize) -> bool
     ensures { result ≡ is_on_some client (room name.now channels.now) }
 {

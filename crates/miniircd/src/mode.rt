@@ -21,40 +21,40 @@ use rfccase::is_channel_name;
 use slab::Slab;
 use std::alloc::Global;
 
-// Whether the letter is that of a mark.
+// Returns whether the letter is that of a mark.
 fn is_mark(letter: u8) -> bool
     ensures { result ≡ is_mark letter }
 {
     letter == b'o' || letter == b'v'
 }
 
-// Whether it sets or clears a ban.
+// Returns whether the mode sets or clears a ban.
 fn is_ban(single: &Single) -> bool
     ensures { result ≡ is_ban_of single.now }
 {
     single.letter == b'b' && single.argument.len() > 0
 }
 
-// Whether it asks for the bans.
+// Returns whether the mode asks for the bans.
 fn is_question(single: &Single) -> bool {
     single.letter == b'b' && single.argument.is_empty()
 }
 
-// Whether it would change something, if only there is such a member.
+// Returns whether the mode would change something, provided that there is such a member.
 fn counts(single: &Single) -> bool
     ensures { result ≡ counts single.now }
 {
     (is_mark(single.letter) || single.letter == b'b') && single.argument.len() > 0
 }
 
-// Whether any of these would.
+// Returns whether any of these modes would.
 fn any_counts(singles: &[Single]) -> bool
     ensures { result ≡ list_any counts singles.now }
 {
     singles.iter().any(|single| counts(single))
 }
 
-// A single mode goes to all who are on the channel, as a line of its own.
+// Sends a single mode to all who are on the channel, as a line of its own.
 fn pass_mode_on(
     alloc: Global,
     post: &mut Post<'_>,
@@ -81,7 +81,7 @@ fn pass_mode_on(
     )
 }
 
-// A mark of a member, if there is one, is set or cleared.
+// Sets or clears a mark of a member, if there is one.
 fn mark(
     alloc: Global,
     post: &mut Post<'_>,
@@ -106,7 +106,7 @@ fn mark(
     rooms_after(alloc, channels.as_slice(), Some(name), edit)
 }
 
-// One is told that a channel has no room for a ban.
+// Replies that a channel has no room for a ban.
 fn tell_full(
     alloc: Global,
     post: &mut Post<'_>,
@@ -127,7 +127,7 @@ fn tell_full(
     )
 }
 
-// A ban is set or cleared, and goes to all who are on the channel; one too many is refused.
+// Sets or clears a ban and sends the mode to all who are on the channel. A ban for which there is no room is refused.
 fn ban(
     alloc: Global,
     post: &mut Post<'_>,
@@ -152,7 +152,7 @@ fn ban(
     rooms_after(alloc, channels.as_slice(), Some(name), edit)
 }
 
-// One single mode of an operator.
+// Applies one single mode of an operator.
 fn apply(
     alloc: Global,
     post: &mut Post<'_>,
@@ -180,7 +180,7 @@ fn apply(
     Ok(channels)
 }
 
-// The single modes of an operator, one after another.
+// Applies the single modes of an operator, one after another.
 fn apply_each(
     alloc: Global,
     post: &mut Post<'_>,
@@ -201,7 +201,7 @@ fn apply_each(
     Ok(after)
 }
 
-// What one who is no operator is told, if a mode counts.
+// Refuses the modes of a client that is no operator, if one of them counts.
 fn refuse(
     alloc: Global,
     post: &mut Post<'_>,
@@ -217,7 +217,7 @@ fn refuse(
     Ok(())
 }
 
-// The modes of a channel, of which it has none, go to one who asks.
+// Replies with the modes of a channel, which has none.
 fn tell_modes(
     alloc: Global,
     post: &mut Post<'_>,
@@ -235,7 +235,7 @@ fn tell_modes(
     Ok(())
 }
 
-// The bans of a channel go to one who is on it, if it asks.
+// Sends the bans of a channel to a client that is on it, if the modes ask for them.
 fn answer_questions(
     alloc: Global,
     post: &mut Post<'_>,
@@ -252,11 +252,12 @@ fn answer_questions(
     Ok(())
 }
 
-/// MODE of a channel. Without modes it asks for those of the channel, and b without a text asks for its bans. With none
-/// that counts it changes nothing.
+/// Answers a MODE of the client `me` on the channel `name`. `modes` is the mode string, and `arguments` are its
+/// arguments. Without `modes` it asks for the modes of the channel, and b without a text asks for its bans. If no mode
+/// counts, it changes nothing.
 ///
 /// # Errors
-/// `NoMemory` where room is refused.
+/// Returns `NoMemory` if an allocation fails.
 pub fn mode(
     alloc: Global,
     post: &mut Post<'_>,
@@ -299,7 +300,7 @@ pub fn mode(
     }
 }
 
-// Whether there are modes, and the name is a channel's.
+// Returns whether there are modes, and the name is a channel's.
 fn is_about_a_channel(name: &[u8], modes: &[u8]) -> bool {
     modes.len() > 0 && is_channel_name(name)
 }

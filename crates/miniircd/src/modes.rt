@@ -13,7 +13,7 @@ pub struct Single {
     pub on: bool,
     /// Its letter.
     pub letter: u8,
-    /// Its argument, empty where there is none.
+    /// Its argument, empty if it has none.
     pub argument: Text,
 }
 
@@ -64,7 +64,7 @@ fn arguments_after(on: bool, byte: u8, arguments: &[Text]) -> &[Text]
     }
 }
 
-// The single mode of a byte goes to others.
+// Appends the single mode of `byte`, if it is one, to `singles`.
 fn push_single(
     alloc: Global,
     singles: &mut Vec<Single>,
@@ -84,10 +84,10 @@ fn push_single(
     Ok(())
 }
 
-/// The single modes of a mode string and its arguments.
+/// Returns the single modes of the mode string `modes` and its `arguments`.
 ///
 /// # Errors
-/// `NoMemory` where room is refused.
+/// Returns `NoMemory` if an allocation fails.
 pub fn singles(alloc: Global, modes: &[u8], arguments: &[Text]) -> Result<Vec<Single>, NoMemory>
     ensures { IfOk result (λ all. all.items ≡ singles true modes.now arguments.now) }
 {

@@ -1,4 +1,4 @@
-// Who is on a channel (RFC 2812 section 5.1, replies 353 and 366).
+// The replies that list the members of a channel (RFC 2812 section 5.1, replies 353 and 366).
 ghost use Rattle.std.specs.Prelude.{◌≡◌, ◌<◌, ◌+◌, ◌-◌, ◌*◌, ◌/◌, ◌++◌, ◌∷◌, [], length, take, drop, IfOk, OnOk, codes};
 ghost use Rattle.std.specs.List.{flat_map};
 ghost use Rattle.std.specs.Option.{option_copied};
@@ -14,10 +14,10 @@ use bytetext::{NoMemory, Text};
 use slab::Slab;
 use std::alloc::Global;
 
-// How many names stand in a line.
+// How many names a line has.
 const NAMES_IN_A_LINE: usize = 10;
 
-/// The mark that stands before a nick.
+/// Returns the mark before the nick of `member`.
 pub fn marks(member: &Member) -> &'static [u8]
     ensures { result.now ≡ marks member.now }
 {
@@ -30,10 +30,10 @@ pub fn marks(member: &Member) -> &'static [u8]
     }
 }
 
-/// A name, be it a nick or that of a channel, after the marks of a member.
+/// Returns `name`, a nick or the name of a channel, after the marks of `member`.
 ///
 /// # Errors
-/// `NoMemory` where room for it is refused.
+/// Returns `NoMemory` if an allocation fails.
 pub fn marked_name(alloc: Global, member: &Member, name: &[u8]) -> Result<Text, NoMemory>
     ensures { IfOk result (λ marked. marked ≡ marks member.now ++ name.now) }
 {
@@ -42,7 +42,7 @@ pub fn marked_name(alloc: Global, member: &Member, name: &[u8]) -> Result<Text, 
     Ok(Text::new(marked))
 }
 
-// The name of a member goes to others.
+// Appends the name of a member to `names`.
 fn push_name(
     alloc: Global,
     names: &mut Vec<Text>,
@@ -57,7 +57,7 @@ fn push_name(
     Ok(())
 }
 
-// The nicks of these members with their marks.
+// Returns the nicks of these members with their marks.
 fn names_of(
     alloc: Global,
     clients: &Slab<Person>,
@@ -72,7 +72,7 @@ fn names_of(
     Ok(names)
 }
 
-// Names with a space before each.
+// Returns `names` with a space before each.
 fn spaced(alloc: Global, names: &[Text]) -> Result<Vec<u8>, NoMemory>
     ensures { IfOk result (λ text. text.items ≡ flat_map (λ name. 32 ∷ name) names.now) }
 {
@@ -84,7 +84,7 @@ fn spaced(alloc: Global, names: &[Text]) -> Result<Vec<u8>, NoMemory>
     Ok(text)
 }
 
-// The names from a place on, as many as stand in a line.
+// Returns the names from place `i` on, as many as stand in a line.
 fn names_at(names: &[Text], i: usize) -> &[Text]
     requires { i < (length names.now + 10 - 1) / 10 }
     ensures { result.now ≡ take 10 (drop (10 * i) names.now) }
@@ -93,7 +93,7 @@ fn names_at(names: &[Text], i: usize) -> &[Text]
     &rest[..NAMES_IN_A_LINE.min(rest.len())]
 }
 
-// The words of a line of names, with a space before each.
+// Returns the words of a line of names, with a space before each.
 fn words_of(alloc: Global, name: &[u8]) -> Result<Vec<u8>, NoMemory>
     ensures { IfOk result (λ words. words.items ≡ codes " =" ++ repeated name.now) }
 {
@@ -102,7 +102,7 @@ fn words_of(alloc: Global, name: &[u8]) -> Result<Vec<u8>, NoMemory>
     Ok(words)
 }
 
-// One line of names.
+// Sends one line of names.
 fn list_line(
     alloc: Global,
     post: &mut Post<'_>,
@@ -123,7 +123,7 @@ fn list_line(
     tell(alloc, post, me, b"353", words.as_slice(), row)
 }
 
-// Names, ten in a line, and the reply that ends them.
+// Sends names, ten in a line, and the reply that ends them.
 fn list_names(
     alloc: Global,
     post: &mut Post<'_>,
@@ -141,10 +141,10 @@ fn list_names(
     Ok(())
 }
 
-/// The names of these members.
+/// Sends the names of `members`, who are on the channel `name`, to the client `me`.
 ///
 /// # Errors
-/// `NoMemory` where room is refused.
+/// Returns `NoMemory` if an allocation fails.
 pub fn tell_names(
     alloc: Global,
     post: &mut Post<'_>,

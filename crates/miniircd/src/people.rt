@@ -10,7 +10,7 @@ use bytetext::NoMemory;
 use slab::Slab;
 use std::alloc::Global;
 
-/// The client that holds a nick.
+/// Returns the client that holds `nick`.
 pub fn holder(clients: &Slab<Person>, nick: &[u8]) -> Option<usize>
     ensures { result ≡ holder nick.now clients.now.slots }
 {
@@ -22,17 +22,17 @@ pub fn holder(clients: &Slab<Person>, nick: &[u8]) -> Option<usize>
     None
 }
 
-// Whether two clients share a channel.
+// Returns whether the clients `a` and `b` share a channel.
 fn shares(channels: &[Channel], a: usize, b: usize) -> bool {
     channels.iter().any(|channel| {
         is_member(channel.members.as_slice(), a) && is_member(channel.members.as_slice(), b)
     })
 }
 
-/// A line goes once to each other client that shares a channel with this one.
+/// Sends `text` once to each other client that shares a channel with `client`.
 ///
 /// # Errors
-/// `NoMemory` where room is refused.
+/// Returns `NoMemory` if an allocation fails.
 pub fn spread_to_neighbours(
     alloc: Global,
     post: &mut Post<'_>,

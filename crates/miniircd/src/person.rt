@@ -15,7 +15,7 @@ pub struct Person {
     pub user: Text,
 }
 
-// By hand, so that this is proved once, and not in each function in which one ends.
+// Written by hand, so that it is proved once and not in each function that drops a `Person`.
 impl Drop for Person {
     fn drop(self) {
         let Person { nick: _, user: _ } = self;
@@ -23,7 +23,7 @@ impl Drop for Person {
 }
 
 impl Person {
-    // One who has said nothing yet. Takes no memory.
+    // Creates a client that has said nothing yet. Allocates nothing.
     pub(crate) fn blank(alloc: Global) -> Person
         ensures { result ≡ blank }
     {
@@ -33,14 +33,14 @@ impl Person {
         }
     }
 
-    // Whether both are given.
+    // Returns whether both are given.
     pub(crate) fn is_registered(&self) -> bool
         ensures { result ≡ is_registered self.now }
     {
         self.nick.len() > 0 && self.user.len() > 0
     }
 
-    // Whether the client holds this nick.
+    // Returns whether the client holds `nick`.
     pub(crate) fn is_called(&self, nick: &[u8]) -> bool
         ensures { result ≡ is_called nick.now self.now }
     {

@@ -1,4 +1,4 @@
-// The lines that go out of one call.
+// The lines that one call sends.
 ghost use Rattle.std.specs.Prelude.{◌≡◌, ◌&&◌, ◌∷◌, [], true, IfOk, OnOk};
 ghost use Rattle.ircline.specs.Classes.{filled, octet};
 ghost use Rattle.miniircd.specs.Mail.{sealed, posted, readers, serves, are_sound};
@@ -10,11 +10,11 @@ use slab::Slab;
 use std::alloc::Global;
 use std::marker::Model;
 
-// The most bytes that a line has before CR and LF (RFC 2812 section 2.3).
+// The most bytes of a line before CR and LF (RFC 2812 section 2.3).
 const MAX_LINE: usize = 510;
 
-/// The lines of one call. Whatever it is given, what goes out of it is sound: each line goes to a client that is held
-/// and isn't about to leave, has 1 to 510 bytes, and no NUL, CR or LF.
+/// The lines of one call. Whatever is put in, the lines that come out are sound: each goes to a client that is
+/// connected and isn't about to leave, has 1 to 510 bytes, and no NUL, CR or LF.
 #[derive(Drop)]
 pub struct Post<'a> {
     clients: &'a Slab<Person>,
@@ -34,7 +34,7 @@ impl<'a> Model for Post<'a> {
 }
 
 impl<'a> Post<'a> {
-    /// No line yet.
+    /// Creates an empty list of lines for `clients`, of which `leaver` is about to leave.
     pub fn new(alloc: Global, clients: &'a Slab<Person>, leaver: Option<usize>) -> Post<'a>
         ensures { result ≡ record { clients = clients.now.slots; leaver = leaver; lines = [] } }
     {
@@ -45,24 +45,24 @@ impl<'a> Post<'a> {
         }
     }
 
-    // Whether the client is held and isn't about to leave.
+    // Returns whether the client is connected and isn't about to leave.
     fn serves(&self, client: usize) -> bool
         ensures { result ≡ serves self.now.clients self.now.leaver client }
     {
         self.clients.contains(client) && self.leaver != Some(client)
     }
 
-    // Whether there is a line, for a client that gets lines.
+    // Returns whether `line` is not empty, and the client `to` gets lines.
     fn takes(&self, to: usize, line: &[u8]) -> bool
         ensures { result ≡ (filled line.now && serves self.now.clients self.now.leaver to) }
     {
         line.len() > 0 && self.serves(to)
     }
 
-    /// A line goes to a client, if that is held and isn't about to leave.
+    /// Appends `text` as a line for the client `to`, if that client is connected and isn't about to leave.
     ///
     /// # Errors
-    /// `NoMemory` where room for it is refused.
+    /// Returns `NoMemory` if an allocation fails.
     pub fn send(&mut self, alloc: Global, to: usize, text: &[u8]) -> Result<(), NoMemory>
         ensures told { OnOk result (self.new ≡ posted (record { to = to; text = text.now } ∷ []) self.old) }
         ensures readers { OnOk result (readers self.new ≡ readers self.old) }
@@ -77,7 +77,7 @@ impl<'a> Post<'a> {
         Ok(())
     }
 
-    /// The lines, in order.
+    /// Returns the lines, in order.
     pub fn into_lines(self) -> Vec<Sent>
         ensures lines { result.items ≡ self.entry.lines }
         ensures sound { are_sound self.entry.clients self.entry.leaver result.items ≡ true }
@@ -86,7 +86,7 @@ impl<'a> Post<'a> {
     }
 }
 
-// The text as a line.
+// Returns the text as a line.
 fn sealed(alloc: Global, text: &[u8]) -> Result<Text, NoMemory>
     ensures { IfOk result (λ line. line ≡ sealed text.now) }
 {
@@ -96,7 +96,7 @@ fn sealed(alloc: Global, text: &[u8]) -> Result<Text, NoMemory>
     Ok(Text::new(bytes))
 }
 
-// Whether the byte may stand in a line.
+// Returns whether the byte may stand in a line.
 fn is_octet(byte: u8) -> bool
     ensures { result ≡ octet byte }
 {

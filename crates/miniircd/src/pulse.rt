@@ -5,39 +5,40 @@ ghost use Rattle.miniircd.specs.Patience.{due_of, pulse_after};
 // How many seconds a client has to register.
 const MAX_NAMELESS: u64 = 30;
 
-// After how many seconds of silence a client is asked whether it is there.
+// After how many seconds of silence the server sends a client a PING.
 const MAX_SILENCE: u64 = 120;
 
 // How many seconds a client has to answer.
 const MAX_WAIT: u64 = 240;
 
-/// When a client came, when a line of it came last, and when it was asked since whether it is there: moments of a clock
-/// that never goes back, in whole seconds. So what is due after 30 seconds is due when more than 30 have been counted.
+/// When a client connected, when its last line came, and when the server sent it a PING after that line, if it did.
+/// These are moments of a clock that never goes back, in whole seconds. So what is due after 30 seconds is due when the
+/// clock counts more than 30.
 #[derive(Clone, Copy, Debug)]
 pub struct Pulse {
-    /// When it came.
+    /// When the client connected.
     pub came: u64,
-    /// When a line of it came last; before the first when it came.
+    /// When its last line came; before its first line, when it connected.
     pub heard: u64,
-    /// When it was asked; none since its last line.
+    /// When the server sent it a PING; `None` if it hasn't since the client's last line.
     pub asked: Option<u64>,
 }
 
-/// What is due to a client.
+/// What the server must do with a client.
 #[derive(Clone, Copy, Debug, PartialEq, Eq)]
 pub enum Due {
     /// Nothing.
     Nothing,
-    /// It is asked by a PING whether it is there.
+    /// Send the client a PING, to ask whether it is still connected.
     Ask,
-    /// It has not registered in time, and is let go.
+    /// Disconnect the client: it has not registered in time.
     Nameless,
-    /// It has not answered in time, and is let go.
+    /// Disconnect the client: it has not answered in time.
     Silent,
 }
 
 impl Pulse {
-    /// A client comes now.
+    /// Creates the pulse of a client that connects at `now`.
     pub fn new(now: u64) -> Pulse
         ensures { result ≡ record { came = now; heard = now; asked = None } }
     {
@@ -48,7 +49,7 @@ impl Pulse {
         }
     }
 
-    /// A line of the client comes now.
+    /// Notes that a line of the client came at `now`.
     pub fn hear(&mut self, now: u64)
         ensures { self.new ≡ record self.old { heard = now; asked = None } }
     {
@@ -56,7 +57,8 @@ impl Pulse {
         self.asked = None;
     }
 
-    /// What is due to the client now. A client that is asked has been asked now.
+    /// Returns what is due to the client at `now`; `is_registered` says whether it is registered. If that is
+    /// [`Due::Ask`], notes `now` as the moment when the client was asked.
     pub fn tick(&mut self, is_registered: bool, now: u64) -> Due
         ensures due { result ≡ due_of is_registered self.old now }
         ensures after { self.new ≡ pulse_after result now self.old }

@@ -20,7 +20,7 @@ use std::alloc::Global;
 // The most bytes of a nick, and of a user name.
 const MAX_NAME: usize = 30;
 
-// Whether it is another client.
+// Returns whether the holder is another client.
 fn is_other(client: usize, holder: Option<usize>) -> bool
     ensures { result ≡ is_other client holder }
 {
@@ -48,7 +48,7 @@ fn is_nick(text: &[u8]) -> bool
     text.len() > 0 && (text.len() <= MAX_NAME && are_nick_bytes(text))
 }
 
-// One who has given both names is welcome.
+// Welcomes a client that has given both names.
 fn welcome(
     alloc: Global,
     post: &mut Post<'_>,
@@ -68,7 +68,7 @@ fn welcome(
     tell(alloc, post, &me, b"422", b"", b"No MOTD")
 }
 
-// A new nick goes to the client and to each who shares a channel with it.
+// Sends a new nick to the client and to each client that shares a channel with it.
 fn announce(
     alloc: Global,
     post: &mut Post<'_>,
@@ -85,10 +85,10 @@ fn announce(
     spread_to_neighbours(alloc, post, clients, channels, me.key, line.as_slice())
 }
 
-/// NICK.
+/// Answers a NICK of the client `me` that asks for the nick `new`.
 ///
 /// # Errors
-/// `NoMemory` where room is refused.
+/// Returns `NoMemory` if an allocation fails.
 pub fn nick(
     alloc: Global,
     post: &mut Post<'_>,
@@ -131,7 +131,7 @@ fn user_byte(byte: u8) -> u8
     }
 }
 
-// A user name, in which `!` and `@` have no place.
+// Returns a user name, in which `!` and `@` can't stand.
 fn user_name(alloc: Global, text: &[u8]) -> Result<Vec<u8>, NoMemory>
     ensures { IfOk result (λ name. name.items ≡ map user_byte text.now) }
 {
@@ -142,10 +142,10 @@ fn user_name(alloc: Global, text: &[u8]) -> Result<Vec<u8>, NoMemory>
     Ok(name)
 }
 
-/// USER.
+/// Answers a USER of the client `me` with the user name `name`.
 ///
 /// # Errors
-/// `NoMemory` where room is refused.
+/// Returns `NoMemory` if an allocation fails.
 pub fn user(
     alloc: Global,
     post: &mut Post<'_>,

@@ -20,7 +20,8 @@ pub struct Sender<'a> {
     pub person: &'a Person,
 }
 
-/// A reply to the sender: its words have a space before each.
+/// Appends to `post` the reply to the sender `me` with the number `code`. `words` have a space before each, and `last`
+/// is the last parameter.
 pub fn tell(
     alloc: Global,
     post: &mut Post<'_>,
@@ -37,7 +38,8 @@ pub fn tell(
     post.send(alloc, me.key, line.as_slice())
 }
 
-/// A reply to the sender that repeats one word.
+/// Appends to `post` the reply to the sender `me` with the number `code`, which repeats `word`. `last` is the last
+/// parameter.
 pub fn tell_of(
     alloc: Global,
     post: &mut Post<'_>,
@@ -54,7 +56,7 @@ pub fn tell_of(
     tell(alloc, post, me, code, words.as_slice(), last)
 }
 
-/// A line goes to each of these members.
+/// Appends to `post` the line `text` for each of `members`.
 pub fn spread(
     alloc: Global,
     post: &mut Post<'_>,
@@ -70,7 +72,7 @@ pub fn spread(
     Ok(())
 }
 
-/// A line goes to each of these members but one client.
+/// Appends to `post` the line `text` for each of `members` except `client`.
 pub fn spread_to_others(
     alloc: Global,
     post: &mut Post<'_>,

@@ -19,10 +19,10 @@ use bytetext::{NoMemory, Seq};
 use slab::Slab;
 use std::alloc::Global;
 
-/// What keeps a client from a command on a channel, by its standing.
+/// Tells the client `me` why it can't give a command on the channel `name`, by its `standing`.
 ///
 /// # Errors
-/// `NoMemory` where room is refused.
+/// Returns `NoMemory` if an allocation fails.
 pub fn turn_away(
     alloc: Global,
     post: &mut Post<'_>,
@@ -41,10 +41,11 @@ pub fn turn_away(
     }
 }
 
-/// A message of a client goes to all who are on a channel: the words after its name have a space before each.
+/// Sends the message `command` of the client `me` to all who are on the channel `name`. `words` follow the name with a
+/// space before each, and `last` is the last parameter.
 ///
 /// # Errors
-/// `NoMemory` where room is refused.
+/// Returns `NoMemory` if an allocation fails.
 pub fn pass_on(
     alloc: Global,
     post: &mut Post<'_>,
@@ -68,7 +69,7 @@ pub fn pass_on(
     spread(alloc, post, channel.members.as_slice(), line.as_slice())
 }
 
-// A message of a client that has a channel's name alone goes to all who are on it.
+// Sends a message of a client whose only parameter is a channel's name to all who are on the channel.
 fn pass_name_on(
     alloc: Global,
     post: &mut Post<'_>,
@@ -87,10 +88,10 @@ fn pass_name_on(
     spread(alloc, post, channel.members.as_slice(), line.as_slice())
 }
 
-/// PART, with what the client says of it.
+/// Answers a PART of the client `me` from the channel `name`, with the `text` that the client may give.
 ///
 /// # Errors
-/// `NoMemory` where room is refused.
+/// Returns `NoMemory` if an allocation fails.
 pub fn part(
     alloc: Global,
     post: &mut Post<'_>,
@@ -120,7 +121,7 @@ pub fn part(
     }
 }
 
-// The topic of a channel goes to one who asks.
+// Sends the topic of a channel to the client that asked.
 fn tell_topic(
     alloc: Global,
     post: &mut Post<'_>,
@@ -139,10 +140,10 @@ fn tell_topic(
     }
 }
 
-/// TOPIC: without a text it asks for the topic.
+/// Answers a TOPIC of the client `me` for the channel `name`. Without a `text` it asks for the topic.
 ///
 /// # Errors
-/// `NoMemory` where room is refused.
+/// Returns `NoMemory` if an allocation fails.
 pub fn topic(
     alloc: Global,
     post: &mut Post<'_>,
@@ -173,7 +174,7 @@ pub fn topic(
     }
 }
 
-/// The member of a channel that holds a nick.
+/// Returns the member of the channel `name` that holds `nick`.
 pub fn target_on(
     clients: &Slab<Person>,
     channels: &[Channel],
@@ -188,7 +189,7 @@ pub fn target_on(
     }
 }
 
-// A client that is a member of a channel, if there is one, has to leave it.
+// Kicks a client off a channel, if it is a member.
 fn kick_out(
     alloc: Global,
     post: &mut Post<'_>,
@@ -222,10 +223,10 @@ fn kick_out(
     Ok(Change::Channels(Seq::new(after)))
 }
 
-/// KICK: a missing reason is the client's nick.
+/// Answers a KICK of `nick` off the channel `name`. If there is no `reason`, the nick of the client `me` is the reason.
 ///
 /// # Errors
-/// `NoMemory` where room is refused.
+/// Returns `NoMemory` if an allocation fails.
 pub fn kick(
     alloc: Global,
     post: &mut Post<'_>,

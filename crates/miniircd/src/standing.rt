@@ -8,7 +8,7 @@ use crate::member::{Channel, channel_of, member_of};
 /// A client's standing with a channel.
 #[derive(Clone, Copy)]
 pub enum Standing {
-    // There is no such channel.
+    // The channel doesn't exist.
     Unknown,
     // The client isn't on it.
     Outside,
@@ -18,7 +18,7 @@ pub enum Standing {
     Op,
 }
 
-/// The standing of a client with the channel of this name.
+/// Returns the standing of `client` with the channel called `name`.
 pub fn find_standing(channels: &[Channel], name: &[u8], client: usize) -> Standing
     ensures { result ≡ standing_in client (room name.now channels.now) }
 {

@@ -17,7 +17,7 @@ use rfccase::is_channel_name;
 use slab::Slab;
 use std::alloc::Global;
 
-// A refusal, which a NOTICE doesn't get.
+// Sends a refusal, unless the message is a NOTICE.
 fn refuse(
     alloc: Global,
     post: &mut Post<'_>,
@@ -42,7 +42,7 @@ fn talk_command(loud: bool) -> &'static [u8]
     if loud { b"PRIVMSG" } else { b"NOTICE" }
 }
 
-// The line that is passed on.
+// Returns the line that the server passes on.
 fn speech(
     alloc: Global,
     person: &Person,
@@ -107,7 +107,7 @@ fn talk_to_client(
     post.send(alloc, to, line.as_slice())
 }
 
-// The client, if it is registered.
+// Returns the client, if it is registered.
 pub(crate) fn if_there(clients: &Slab<Person>, client: Option<usize>) -> Option<usize>
     ensures { result ≡ if_there clients.now.slots client }
 {
@@ -118,10 +118,10 @@ pub(crate) fn if_there(clients: &Slab<Person>, client: Option<usize>) -> Option<
     }
 }
 
-/// PRIVMSG, or where it isn't loud NOTICE, to a channel or to a client.
+/// Answers a PRIVMSG if `loud`, or else a NOTICE, in which `me` says `text` to `target`, a channel or a client.
 ///
 /// # Errors
-/// `NoMemory` where room is refused.
+/// Returns `NoMemory` if an allocation fails.
 pub fn talk(
     alloc: Global,
     post: &mut Post<'_>,
@@ -147,10 +147,10 @@ pub fn talk(
     Ok(())
 }
 
-/// The answer to a PING.
+/// Answers a PING of `client` with the parameter `text`.
 ///
 /// # Errors
-/// `NoMemory` where room is refused.
+/// Returns `NoMemory` if an allocation fails.
 pub fn answer_ping(
     alloc: Global,
     post: &mut Post<'_>,

@@ -8,14 +8,14 @@ ghost use Rattle.miniircd.specs.People.{word_at};
 use bytetext::Text;
 use rfccase::same;
 
-// Whether two texts are the same by casemapping.
+// Returns whether two texts are the same by casemapping.
 pub(crate) fn is_same(a: &[u8], b: &[u8]) -> bool
     ensures { result ≡ is_same a.now b.now }
 {
     same(a, b)
 }
 
-// The parameter at this place, from 0.
+// Returns the parameter at `index`, from 0.
 pub(crate) fn param(params: &[Text], index: usize) -> Option<&[u8]>
     ensures { option_copied result ≡ slice_get params.now index }
 {
@@ -25,7 +25,7 @@ pub(crate) fn param(params: &[Text], index: usize) -> Option<&[u8]>
     }
 }
 
-// The parameter at this place, empty where there is none.
+// Returns the parameter at `index`, or an empty text if it is missing.
 pub(crate) fn word(params: &[Text], index: usize) -> &[u8]
     ensures { result.now ≡ word_at index params.now }
 {
@@ -35,7 +35,7 @@ pub(crate) fn word(params: &[Text], index: usize) -> &[u8]
     }
 }
 
-// The parameters from this place on.
+// Returns the parameters from the place `from` on.
 pub(crate) fn params_from(params: &[Text], from: usize) -> &[Text]
     ensures { result.now ≡ drop from params.now }
 {
@@ -46,7 +46,7 @@ pub(crate) fn params_from(params: &[Text], from: usize) -> &[Text]
     }
 }
 
-// The first bytes of a text, at most so many.
+// Returns the first bytes of a text, at most `len`.
 pub(crate) fn front(text: &[u8], len: usize) -> &[u8]
     ensures { result.now ≡ take len text.now }
 {

@@ -1,4 +1,4 @@
-// One message of a client: what it changes, and what is told of it.
+// One message of a client: what it changes, and which lines the server sends for it.
 ghost use Rattle.std.specs.Prelude.{◌≡◌, ◌==◌, drop, IfOk, IfSome, OnErr, OnOk};
 ghost use Rattle.std.specs.List.{slice_split};
 ghost use Rattle.miniircd.specs.Mail.{readers, posted};
@@ -29,7 +29,7 @@ use ircline::Message;
 use slab::Slab;
 use std::alloc::Global;
 
-// The pieces of a list, with commas between.
+// Returns the pieces of a list separated by commas.
 fn names_in(alloc: Global, list: &[u8]) -> Result<Vec<Text>, NoMemory>
     ensures { IfOk result (λ names. names.items ≡ slice_split (λ b. b == 44) list.now) }
 {
@@ -40,7 +40,7 @@ fn names_in(alloc: Global, list: &[u8]) -> Result<Vec<Text>, NoMemory>
     Ok(names)
 }
 
-// A client joins the channels of a list.
+// Lets a client join the channels of a list.
 fn join(
     alloc: Global,
     post: &mut Post<'_>,
@@ -61,7 +61,7 @@ fn join(
     join_each(alloc, post, clients, me, names.as_slice(), channels)
 }
 
-// A KICK of these parameters.
+// Answers a KICK with these parameters.
 fn kick_by(
     alloc: Global,
     post: &mut Post<'_>,
@@ -80,7 +80,7 @@ fn kick_by(
     kick(alloc, post, clients, channels, me, name, nick, reason)
 }
 
-// A MODE of these parameters.
+// Answers a MODE with these parameters.
 fn mode_by(
     alloc: Global,
     post: &mut Post<'_>,
@@ -99,7 +99,7 @@ fn mode_by(
     mode(alloc, post, clients, channels, me, name, modes, arguments)
 }
 
-// A PRIVMSG or a NOTICE of these parameters, which changes nothing.
+// Answers a PRIVMSG or a NOTICE with these parameters, which changes nothing.
 fn talk_by(
     alloc: Global,
     post: &mut Post<'_>,
@@ -120,7 +120,7 @@ fn talk_by(
     Ok(Change::Same)
 }
 
-// A command that its client may send, with the parameters that it needs. A QUIT is told apart before.
+// Carries out a command that its client may send, with the parameters that it needs. The caller handles QUIT.
 fn act(
     alloc: Global,
     post: &mut Post<'_>,
@@ -178,7 +178,7 @@ fn act(
     }
 }
 
-// What one is told who gives too few parameters.
+// Replies to a client that gave too few parameters.
 fn tell_few(
     alloc: Global,
     post: &mut Post<'_>,
@@ -210,10 +210,10 @@ fn tell_few(
     }
 }
 
-/// A message of a client: what it changes, and what is told of it.
+/// Answers `message` of the client `me` and returns what it changes.
 ///
 /// # Errors
-/// `NoMemory` where room is refused.
+/// Returns `NoMemory` if an allocation fails.
 pub fn answer(
     alloc: Global,
     post: &mut Post<'_>,

@@ -12,7 +12,7 @@ use bytetext::NoMemory;
 use slab::Slab;
 use std::alloc::Global;
 
-// The members of the channel of a name.
+// Returns the members of the channel called `name`.
 fn members_of<'a>(channels: &'a [Channel], name: &[u8]) -> &'a [Member] {
     match channel_of(channels, name) {
         Some(channel) => channel.members.as_slice(),
@@ -20,10 +20,10 @@ fn members_of<'a>(channels: &'a [Channel], name: &[u8]) -> &'a [Member] {
     }
 }
 
-/// NAMES of a channel: nobody is on one that isn't there.
+/// Answers a NAMES of the client `me` for the channel `name`. A channel that doesn't exist has no members.
 ///
 /// # Errors
-/// `NoMemory` where room is refused.
+/// Returns `NoMemory` if an allocation fails.
 pub fn names(
     alloc: Global,
     post: &mut Post<'_>,
@@ -38,7 +38,7 @@ pub fn names(
     tell_names(alloc, post, clients, me, name, members)
 }
 
-// The words of the reply about a member, with a space before each.
+// Returns the words of the reply about a member, with a space before each.
 fn words_of(
     alloc: Global,
     name: &[u8],
@@ -60,7 +60,7 @@ fn words_of(
     Ok(words)
 }
 
-// The reply about one member.
+// Sends the reply about one member.
 fn tell_member(
     alloc: Global,
     post: &mut Post<'_>,
@@ -79,10 +79,10 @@ fn tell_member(
     tell(alloc, post, me, b"352", words.as_slice(), last.as_slice())
 }
 
-/// WHO of a channel: nobody is on one that isn't there.
+/// Answers a WHO of the client `me` for the channel `name`. A channel that doesn't exist has no members.
 ///
 /// # Errors
-/// `NoMemory` where room is refused.
+/// Returns `NoMemory` if an allocation fails.
 pub fn who(
     alloc: Global,
     post: &mut Post<'_>,

@@ -14,10 +14,11 @@ use bytetext::NoMemory;
 use slab::Slab;
 use std::alloc::Global;
 
-/// WHOIS of a nick. The server keeps no real names: the nick stands for that.
+/// Answers a WHOIS of the client `me` for `nick`. The server keeps no real names and replies with the nick where one
+/// belongs.
 ///
 /// # Errors
-/// `NoMemory` where room is refused.
+/// Returns `NoMemory` if an allocation fails.
 pub fn whois(
     alloc: Global,
     post: &mut Post<'_>,
@@ -35,7 +36,7 @@ pub fn whois(
     tell_of(alloc, post, me, b"318", nick, b"End of WHOIS list")
 }
 
-// What is told of the registered client of a nick, or that there is none.
+// Sends the replies about the registered client called `nick`, or the reply that there is none.
 fn tell_nick(
     alloc: Global,
     post: &mut Post<'_>,
@@ -52,7 +53,7 @@ fn tell_nick(
     }
 }
 
-// What is told of a client that is held.
+// Sends the replies about a connected client.
 fn tell_client(
     alloc: Global,
     post: &mut Post<'_>,
@@ -73,7 +74,7 @@ fn tell_client(
     tell_server(alloc, post, me, nick)
 }
 
-// Which server a client is on: this one.
+// Sends the reply that says which server a client is on: this one.
 fn tell_server(
     alloc: Global,
     post: &mut Post<'_>,
@@ -87,14 +88,14 @@ fn tell_server(
     tell(alloc, post, me, b"312", words.as_slice(), b"A small server")
 }
 
-// The words of the reply about a client, with a space before each.
+// Returns the words of the reply about a client, with a space before each.
 fn words_of(alloc: Global, person: &Person) -> Result<Vec<u8>, NoMemory> {
     let nick = repeated(alloc, person.nick.as_bytes())?;
     let words = [nick.as_slice(), b" ", person.user.as_bytes(), b" local *"];
     Ok(words.concat(alloc)?)
 }
 
-// The channels that a client is on, each in a reply of its own.
+// Sends the channels that a client is on, each in a reply of its own.
 fn tell_channels(
     alloc: Global,
     post: &mut Post<'_>,

@@ -10,7 +10,7 @@ use disks::MemDisk;
 use procstore::{Nobodies, ProcStore};
 use std::alloc::Global;
 
-// A new bot of this number. Its nick is egg.
+// Creates the bot of this `number`, in a net of `leaves` leaves. Its nick is egg.
 fn new_bot(alloc: Global, number: u16, leaves: u16) -> Result<Bot<MemDisk>, NoMemory>
     ensures { IfOk result (λ bot. bot ≡ new_bot bot.config bot.link.device) }
 {
@@ -28,7 +28,7 @@ fn new_bot(alloc: Global, number: u16, leaves: u16) -> Result<Bot<MemDisk>, NoMe
     }
 }
 
-/// So many bots, numbered from 0, each with so many leaves.
+/// Creates `count` bots, numbered from 0, each in a net of `leaves` leaves.
 pub fn new_bots(alloc: Global, count: u16, leaves: u16) -> Result<Vec<Bot<MemDisk>>, NoMemory>
     ensures { IfOk result (λ bots. AllNew bots.items) }
 {
@@ -39,7 +39,7 @@ pub fn new_bots(alloc: Global, count: u16, leaves: u16) -> Result<Vec<Bot<MemDis
     Ok(bots)
 }
 
-/// A store of no procs.
+/// Creates a store of no procs.
 pub fn no_procs(alloc: Global) -> Nobodies {
     ProcStore::new(alloc)
 }

@@ -1,4 +1,4 @@
-// Bots that are opened on disks again: `botcore`.
+// Bots that are opened again on their disks: `botcore`.
 ghost use Rattle.std.specs.Prelude.{IfOk};
 ghost use Rattle.botcore.specs.Steps.{IsGoodEvent};
 
@@ -12,7 +12,7 @@ use std::alloc::Global;
 use storage::Disk;
 use userfile::Change;
 
-// The configuration of the bot of this number, in a net of one leaf.
+// Returns the configuration of the bot of this `number`, in a net of one leaf.
 fn config(alloc: Global, number: u16) -> Result<Config, NoMemory> {
     Ok(Config {
         number,
@@ -24,7 +24,7 @@ fn config(alloc: Global, number: u16) -> Result<Config, NoMemory> {
     })
 }
 
-// The event that asks for alice.
+// Makes the event that asks for alice.
 fn ask_alice(alloc: Global) -> Result<Event, NoMemory>
     ensures { IfOk result IsGoodEvent }
 {
@@ -41,7 +41,7 @@ fn add_alice(alloc: Global, hub: &mut Bot<MemDisk>) {
     }
 }
 
-// A new hub.
+// Creates a new hub.
 fn new_hub(alloc: Global) -> Option<Bot<MemDisk>> {
     match config(alloc, 0) {
         Ok(config) => { Bot::create(alloc, config, MemDisk::new(alloc), MemDisk::new(alloc)).ok() }
@@ -49,7 +49,7 @@ fn new_hub(alloc: Global) -> Option<Bot<MemDisk>> {
     }
 }
 
-// The disks of a hub that has accepted alice.
+// Returns the disks of a hub that has accepted alice.
 fn disks_of_a_hub(alloc: Global) -> Option<Disks<MemDisk>> {
     match new_hub(alloc) {
         Some(mut hub) => {
@@ -60,7 +60,7 @@ fn disks_of_a_hub(alloc: Global) -> Option<Disks<MemDisk>> {
     }
 }
 
-// The bot of this configuration that these disks have after a crash.
+// Opens the bot of this `config` on `disks` after a crash.
 fn opened(
     alloc: Global,
     config: Config,
@@ -75,7 +75,7 @@ fn opened(
     Bot::open(alloc, config, first, second)
 }
 
-// The disks that are handed back as no journal of that bot.
+// Returns the disks that are handed back, if the reason is that they hold no journal of that bot.
 fn handed_back(returned: Returned<MemDisk>) -> Option<Disks<MemDisk>> {
     let is_none = match returned.error {
         Failure::Refused(fault) => fault.code() == "J2",
@@ -84,7 +84,7 @@ fn handed_back(returned: Returned<MemDisk>) -> Option<Disks<MemDisk>> {
     is_none.then(|| returned.disks)
 }
 
-// The disks that are handed back, where they hold no journal of the bot of this number.
+// Opens the bot of this `number` on `disks`. Returns the disks if they hold no journal of that bot.
 fn refused(alloc: Global, number: u16, disks: Disks<MemDisk>) -> Option<Disks<MemDisk>> {
     let Ok(config) = config(alloc, number) else {
         return None;
@@ -95,7 +95,7 @@ fn refused(alloc: Global, number: u16, disks: Disks<MemDisk>) -> Option<Disks<Me
     }
 }
 
-// The version and the number of users of the hub that these disks have.
+// Returns the version of the hub on `disks`, and how many users it has.
 fn found(alloc: Global, disks: Disks<MemDisk>) -> Option<(u32, usize)> {
     let Ok(config) = config(alloc, 0) else {
         return None;
@@ -106,7 +106,7 @@ fn found(alloc: Global, disks: Disks<MemDisk>) -> Option<(u32, usize)> {
     }
 }
 
-// What a hub's disks give to it after a leaf was refused them.
+// Returns what a hub finds on its disks after a leaf was refused them.
 fn found_after_a_leaf(alloc: Global) -> Option<(u32, usize)> {
     let disks = disks_of_a_hub(alloc)?;
     let returned = refused(alloc, 1, disks)?;

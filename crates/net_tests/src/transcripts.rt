@@ -1,4 +1,4 @@
-// Where a replay's streams fail, and where its script does: `replay`.
+// Replays whose streams or scripts fail: `replay`.
 use crate::nets::no_procs;
 use replay::{ReplayError, replay};
 use std::alloc::Global;
@@ -6,7 +6,7 @@ use std::io;
 use std::io::{ErrorKind, Read, Write};
 use streams::Duplex;
 
-// Whether a script fault is of this line.
+// Returns whether `answer` is a script fault of this `line`.
 fn is_fault_of(answer: Result<(), ReplayError>, line: u64) -> bool {
     match answer {
         Err(ReplayError::Script(fault)) => fault.line == line,
@@ -14,7 +14,7 @@ fn is_fault_of(answer: Result<(), ReplayError>, line: u64) -> bool {
     }
 }
 
-// Whether a replay of what this reader gives ends with a fault of this line, and nothing written.
+// Returns whether a replay of what `reader` gives ends with a fault of this `line`, and writes nothing.
 fn is_fault<R: Read + Drop>(alloc: Global, mut reader: R, line: u64) -> bool {
     let mut written = Vec::new(alloc);
     let answer = replay(
@@ -44,7 +44,7 @@ impl Read for Broken<'_> {
     }
 }
 
-// A writer that takes a few bytes at a time, and nothing after the last.
+// A writer that takes a few bytes at a time, and nothing once its room is used.
 #[derive(Drop)]
 struct Full {
     room: usize,
@@ -64,7 +64,7 @@ impl Write for Full {
     }
 }
 
-// What a replay answers where the writer has this much room, and how much it took.
+// Returns what a replay answers if the writer has this much `room`, and how many bytes the writer took.
 fn written_into(alloc: Global, room: usize) -> (Result<(), ReplayError>, usize) {
     let mut writer = Full { room, taken: 0 };
     let mut reader: &[u8] = b"leaves 0\nshow 0\n";
@@ -86,7 +86,7 @@ fn a_stream_that_fails_is_a_read_or_a_write_fault(rt: HostRuntime) {
         &mut Duplex::new(&mut reader, &mut written),
     );
     assert!(rt; answer == Err(ReplayError::Read) && written.is_empty());
-    // Of a transcript of 27 bytes the last is left over, or none is and the flush fails.
+    // The transcript has 27 bytes: the writer leaves the last one over, or takes all and fails at the flush.
     assert!(rt; written_into(rt.alloc(), 26) == (Err(ReplayError::Write), 26));
     assert!(rt; written_into(rt.alloc(), 100) == (Err(ReplayError::Write), 27));
 }

@@ -10,7 +10,7 @@ use procstore::Nobody;
 use std::alloc::Global;
 use std::slice;
 
-// Whether so many bots, each with so many leaves, are no world, and all of them are handed back.
+// Returns whether `count` bots, each in a net of `leaves` leaves, are refused as a world, and all are handed back.
 fn is_refused(alloc: Global, count: u16, leaves: u16) -> bool {
     let Ok(bots) = new_bots(alloc, count, leaves) else {
         return false;
@@ -28,7 +28,7 @@ fn a_world_has_a_hub_and_all_leaves_of_it(rt: HostRuntime) {
     assert!(rt; is_refused(rt.alloc(), 1, 1));
 }
 
-// A packet that nobody sent.
+// Makes a packet that nobody sent.
 fn made_up() -> Packet {
     Packet::Hello {
         layout: LAYOUT,
@@ -37,13 +37,13 @@ fn made_up() -> Packet {
     }
 }
 
-// The hub is told of a packet.
+// Makes the step by which the hub receives `packet`.
 fn receiving(packet: Packet) -> Step {
     let event = Event::Receive(packet);
     Step::At { bot: 0, event }
 }
 
-// A hub without leaves.
+// Creates a hub without leaves.
 fn lone_hub(alloc: Global) -> Option<World<Nobody, MemDisk, Nobody>> {
     match new_bots(alloc, 1, 0) {
         Ok(bots) => World::new(alloc, bots, no_procs(alloc)).ok(),
@@ -51,13 +51,13 @@ fn lone_hub(alloc: Global) -> Option<World<Nobody, MemDisk, Nobody>> {
     }
 }
 
-// What comes of a step at a lone hub.
+// Returns what comes of `step` at a lone hub.
 fn told(alloc: Global, step: &Step) -> Option<Transcript> {
     let mut world = lone_hub(alloc)?;
     Some(world.run(alloc, slice::from_ref(step)))
 }
 
-// Whether there is no such packet.
+// Returns whether the only outcome is that there is no such packet.
 fn is_no_packet(transcript: &Transcript) -> bool {
     match transcript.outcomes.as_slice() {
         [Outcome::NoSuchPacket] => !transcript.cut,

@@ -1,4 +1,4 @@
--- What is shown of a bot that does not run: of a journal of any layout what it means.
+-- What is shown of a bot that does not run: what its journal means, whatever its layout.
 use Rattle.std.specs.Prelude.{◌≡◌, ℕ, List, Some}
 use Rattle.botjournal.specs.Contents.{Contents, meaning}
 use Rattle.linkcalls.specs.declared.TheConstants.{MAX_LEAVES}

@@ -10,13 +10,13 @@ use std::time::Clock;
 use streams::{Given, Taken};
 use wire::{Bounds, Wire};
 
-/// For so many seconds a bot may say nothing before it is given up.
+/// How many seconds a bot may say nothing before [`ask`] gives up.
 pub const PATIENCE: u64 = 60;
 
-/// The most bytes of an answer: as many as a bot leaves unsent for one who asks.
+/// The most bytes of an answer: as many as a bot holds unsent for one operator.
 pub const MAX_ANSWER: usize = 16_777_216;
 
-// How long one wait for the socket is, in milliseconds.
+// The longest single wait for the socket, in milliseconds.
 const REST: u64 = 1_000;
 
 // The connection's room: a command, and a few pieces of an answer.
@@ -36,12 +36,14 @@ struct Talk {
     answer: Vec<u8>,
 }
 
-/// The lines that the bot which runs on a folder answers to a command, without the full stop after them. After `die`
-/// it answers only once the bot has let go, so that whoever waits for this call waits for the bot's end.
+/// Sends the command `line` to the bot that runs on `folder`, and returns the lines of its answer, without the full
+/// stop after them. After `die` it returns only once the bot has disconnected, so a caller that waits for this call
+/// waits for the bot's end.
 ///
 /// # Errors
-/// `Command` where it is none; `Folder` for a name that is too long; `Nobody`, `Barred`, `Busy`, `LetGo`, `Silent`,
-/// `TooLong` and `Machine` as they say; `NoMemory` where memory is refused. From `LetGo` on the bot may have done it.
+/// `Command` if `line` is no command; `Folder` for a name that is too long; `Nobody`, `Barred`, `Busy`, `LetGo`,
+/// `Silent`, `TooLong` and `Machine`, as [`AskFault`] describes them; `NoMemory` if an allocation fails. After `LetGo`,
+/// `Silent`, `TooLong`, `Machine` or `NoMemory` the bot may have carried out the command.
 pub fn ask<R: AllocGlobal + Net + Clock>(
     rt: &R,
     folder: &str,
@@ -81,7 +83,7 @@ fn copy_of(alloc: Global, bytes: &[u8]) -> Result<Vec<u8>, AskError> {
     Ok(copy)
 }
 
-// The connection to the bot that runs on a folder.
+// Connects to the bot that runs on a folder.
 fn begin<R: AllocGlobal + Net>(rt: &R, folder: &str) -> Result<Talk, AskError> {
     if folder.len() > MAX_PATH {
         return Err(Failure::Refused(AskFault::Folder(FolderFault::LongName)));
@@ -101,7 +103,7 @@ fn begin<R: AllocGlobal + Net>(rt: &R, folder: &str) -> Result<Talk, AskError> {
     }
 }
 
-// Hears until the answer is whole, and where it is the last until the bot has let go too.
+// Hears until the answer is whole and, after the last command, until the bot has disconnected.
 fn hear<R: AllocGlobal + Net + Clock>(
     rt: &R,
     talk: &mut Talk,
@@ -127,7 +129,7 @@ fn hear<R: AllocGlobal + Net + Clock>(
     Err(Failure::Refused(AskFault::Silent))
 }
 
-// A second of a clock that no one sets.
+// A second of the monotonic clock, which nobody sets.
 fn second<R: Clock>(rt: &R) -> Result<u64, AskError> {
     match rt.monotonic() {
         Ok(passed) => Ok(passed.as_secs()),
@@ -142,7 +144,7 @@ fn wait(watch: &mut Watch) -> Result<(), AskError> {
     }
 }
 
-// Offers what is unsent and asks for a piece. Whether anything moved.
+// Offers what is unsent and asks for a piece. Returns whether anything moved.
 fn turn(alloc: Global, talk: &mut Talk) -> Result<bool, NoMemory> {
     let sent = send(&mut talk.wire);
     let heard = read(&mut talk.wire)?;

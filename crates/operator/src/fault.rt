@@ -8,14 +8,14 @@ use std::io;
 use std::io::ErrorKind;
 use thiserror::Error;
 
-/// Why a bot did not answer, or has nothing to show. Each text but those of `Command` and `Nobody` goes on from the
+/// Why a bot did not answer, or has nothing to show. Each message but those of `Command` and `Nobody` continues the
 /// folder's name: `/var/lib/eggnet/egg1 holds no bot: ..`.
 #[derive(Clone, Copy, Debug, PartialEq, Eq, Error)]
 pub enum AskFault {
-    /// The command is not understood. Nobody was asked.
+    /// The command is not understood. No bot was asked.
     #[error("{0}")]
     Command(Advice),
-    /// Nobody listens at the folder's socket, or there is none.
+    /// Nobody listens at the folder's socket, or the socket does not exist.
     #[error("no bot runs on")]
     Nobody,
     /// The folder is not one whose bot can be asked or shown.
@@ -24,33 +24,33 @@ pub enum AskFault {
     /// What the folder holds is no journal of a bot.
     #[error("holds no journal that can be read: bring back its files, or give the folder of another bot")]
     Unread,
-    /// The journal is of an older layout, and can't be read as one of today's since its generations are used up.
+    /// The journal is of an older layout, and can't be read as one of today's because its generations are used up.
     #[error("holds a journal of an older layout whose generations are used up: show it by the program of before")]
     GenerationsSpent,
-    /// A bot takes the folder just now, and does not listen yet.
+    /// A bot is taking the folder, and does not listen yet.
     #[error("is in use, and nobody listens there yet: try again")]
     Begins,
-    /// The system does not let this program in.
+    /// The system does not let this program connect.
     #[error("may not be entered: run this as the user whose bot it is")]
     Barred,
-    /// Too many wait for the bot already.
+    /// Too many programs wait for the bot already.
     #[error("has a bot with too many waiting operators: try again")]
     Busy,
-    /// The bot ended, or let this program go, before it had answered.
+    /// The bot ended, or disconnected this program, before it had answered.
     #[error("has a bot that let go before it answered: what it was told may count or not")]
     LetGo,
     /// The bot said nothing for a minute.
     #[error("has a bot that does not answer: what it was told may count or not")]
     Silent,
-    /// The bot says more than an answer has.
+    /// The bot says more than an answer may have.
     #[error("has a bot that says more than an answer has: what it was told may count or not")]
     TooLong,
-    /// The system has no socket, no clock or no file for it.
+    /// The system has no socket, clock or file for the call.
     #[error("can't be asked: this machine has no more sockets or files, or the name is no path")]
     Machine,
 }
 
-/// Why a bot did not answer, or want of memory.
+/// Why a bot did not answer, or `NoMemory` if an allocation failed.
 pub type AskError = Failure<AskFault>;
 
 // The command is not understood, or memory runs out.
@@ -87,7 +87,7 @@ fn of_journal(fault: JournalFault) -> AskFault {
     }
 }
 
-// Nobody can be reached at a path.
+// Why nobody can be reached at a path.
 pub(crate) fn socket_error(error: &io::Error) -> AskError {
     match error.kind() {
         ErrorKind::OutOfMemory => Failure::NoMemory,
@@ -98,7 +98,7 @@ pub(crate) fn socket_error(error: &io::Error) -> AskError {
     }
 }
 
-// The system refuses what every program may have.
+// The machine can't do what a call needs, or memory runs out.
 pub(crate) fn machine_error(error: &io::Error) -> AskError {
     match error.kind() {
         ErrorKind::OutOfMemory => Failure::NoMemory,

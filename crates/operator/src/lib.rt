@@ -1,8 +1,8 @@
 //! What an operator's programs do: ask a running bot, and show the records of a stopped one.
 //!
-//! A running bot takes commands at a socket in its folder ([`botfolder`]), in the words of [`control`]. [`ask`] sends one and
-//! answers the lines that the bot says to it. [`show`] answers a bot's version and records, whether it runs or not: of a
-//! stopped bot it reads the journal and makes no file.
+//! A running bot takes commands at a socket in its folder ([`botfolder`]), in the words of [`control`]. [`ask`] sends a
+//! command and returns the lines of the bot's answer. [`show`] returns a bot's version and records, whether it runs or
+//! not: if the bot is stopped, it reads the journal and creates no file.
 //!
 //! ```text
 //! ask(rt, "/var/lib/eggnet/egg1", b"adduser alice")?;    // accepted 1
@@ -10,8 +10,8 @@
 //!                                                        // 0 user alice - -
 //! ```
 //!
-//! What a socket gives no contract can say: that the answer is the one that the bot gave is not proved. Both calls
-//! return, whatever the bot does: one that says nothing for [`PATIENCE`] seconds is given up.
+//! No contract can say what a socket gives, so it is not proved that the answer is the one that the bot gave. Both
+//! calls return, whatever the bot does: they give up on a bot that says nothing for [`PATIENCE`] seconds.
 #![tactic(auto)]
 
 mod asking;

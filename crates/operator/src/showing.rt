@@ -21,13 +21,13 @@ use std::net::Net;
 use std::rt::Files;
 use std::time::Clock;
 
-/// The version and the records of the bot of a folder, as a transcript has them: the bot is asked where it runs, and
-/// else its journal is read. No file is made or written. A bot that starts just while its journal is read is refused.
+/// Returns the version and the records of the bot of `folder`, as a transcript has them. Asks the bot if it runs, and
+/// else reads its journal. No file is created or written. A bot that starts while its journal is read is refused.
 ///
 /// # Errors
-/// `Folder` where the folder or its journal can't be read, or no bot was made there; `Unread` and `GenerationsSpent` as
-/// [`records_of`] says; `Begins` where a bot starts just now; those of [`ask`] where one runs; `NoMemory` where memory is
-/// refused.
+/// `Folder` if the folder or its journal can't be read, or no bot was made there; `Unread` and `GenerationsSpent`, as
+/// [`records_of`] says; `Begins` if a bot is just starting; those of [`ask`] if a bot runs; `NoMemory` if an allocation
+/// fails.
 pub fn show<R: AllocGlobal + Net + Clock + Files<File = File>>(
     rt: &R,
     folder: &str,
@@ -47,12 +47,12 @@ fn asked<R: AllocGlobal + Net + Clock>(rt: &R, folder: &str) -> Result<Vec<u8>, 
     }
 }
 
-/// The version and the records of the bot whose journal these are copies of. One of an older layout is put anew in the
-/// copies, which changes neither.
+/// Returns the version and the records of the bot whose journal `copies` holds. A journal of an older layout is
+/// rewritten in the copies, which changes neither version nor records.
 ///
 /// # Errors
-/// `Unread` where they hold no journal of a bot; `GenerationsSpent` where it is of an older layout and of the last
-/// generation; `NoMemory` where memory is refused.
+/// `Unread` if they hold no journal of a bot; `GenerationsSpent` if the journal is of an older layout and of the last
+/// generation; `NoMemory` if an allocation fails.
 #[tactic(auto, using(crate::proofs::Shown::is_shown))]
 pub fn records_of(alloc: Global, copies: Stopped) -> Result<Vec<u8>, AskError>
     requires copies { AreCopies copies }
@@ -73,7 +73,7 @@ struct Named {
     copies: Stopped,
 }
 
-// Whose journal it is. The copies stay as they were.
+// Finds whose journal it is. The copies stay as they were.
 fn name(alloc: Global, copies: Stopped) -> Result<Named, AskError>
     requires copies { AreCopies copies }
     ensures copies { IfOk result (λ found. AreCopies found.copies) }

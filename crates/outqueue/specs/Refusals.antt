@@ -21,7 +21,7 @@ code_of QueueFull = codes "Q1"
 abbrev pub is_break : ℕ → Bool
 is_break byte = byte == 0 || byte == 10 || byte == 13
 
--- a line is 1 to 510 bytes without NUL, LF and CR
+-- not a line of 1 to 510 bytes without NUL, LF and CR
 abbrev pub is_bad_line : List ℕ → Bool
 is_bad_line line = length line == 0 || nat_lt MAX_BYTES (length line) || list_any is_break line
 
@@ -31,23 +31,24 @@ refusal q queue line =
     if is_bad_line line then Some BadLine
     else (if nat_le MAX_LINES (length (lines_in q (One queue))) then Some QueueFull else None)
 
--- the line stands last in its queue
+-- the line is last in its queue
 abbrev pub with_line : Sending → Queue → List ℕ → Sending
 with_line q Mode line = record q { mode = q.mode ++ line ∷ [] }
 with_line q Server line = record q { server = q.server ++ line ∷ [] }
 with_line q Help line = record q { help = q.help ++ line ∷ [] }
 
--- and takes one place of the room, if any
+-- the line is last in its queue, and uses one place of the room, if any
 abbrev pub put_last : Sending → Queue → List ℕ → Sending
 put_last q queue line = with_room (with_line q queue line) queue (room_in q queue - 1)
 
--- Putting a line: it is queued, or refused, or memory ran out, and what is then. Memory comes last.
+-- What putting a line does: it is queued, or refused, or memory runs out. Memory runs out only if the line is not
+-- refused. The queues change only if it is queued.
 abbrev pub Puts : {T : Type 0} → Sending → Queue → List ℕ → Result T (Failure QueueFault) → Sending → Type 0
 Puts old queue line (Ok _) new = (refusal old queue line ≡ None) × (new ≡ put_last old queue line)
 Puts old queue line (Err (Refused fault)) new = (refusal old queue line ≡ Some fault) × (new ≡ old)
 Puts old queue line (Err NoMemory) new = (refusal old queue line ≡ None) × (new ≡ old)
 
--- the same where there is room, so that no memory is taken
+-- the same if there is room, so that nothing is allocated
 abbrev pub PutsReserved : {T : Type 0} → Sending → Queue → List ℕ → Result T QueueFault → Sending → Type 0
 PutsReserved old queue line (Ok _) new = (refusal old queue line ≡ None) × (new ≡ put_last old queue line)
 PutsReserved old queue line (Err fault) new = (refusal old queue line ≡ Some fault) × (new ≡ old)

@@ -9,7 +9,7 @@ use Rattle.outqueue.specs.declared.queue.Which.TheVariants.{One, All}
 use Rattle.outqueue.specs.declared.queues.Counts.{Counts}
 use Rattle.outqueue.specs.Lanes.{first_of}
 
--- how many lines more each queue has room for
+-- how many more lines each queue has room for
 pub record Room : Type 0 where
   pub mode : ℕ
   pub server : ℕ
@@ -36,13 +36,13 @@ room_in q Mode = q.room.mode
 room_in q Server = q.room.server
 room_in q Help = q.room.help
 
--- with just so much room there
+-- with room for exactly `count` more lines in that queue
 abbrev pub with_room : Sending → Queue → ℕ → Sending
 with_room q Mode count = record q { room = record q.room { mode = count } }
 with_room q Server count = record q { room = record q.room { server = count } }
 with_room q Help count = record q { room = record q.room { help = count } }
 
--- the lines in the order in which they go: a lower queue waits for the higher
+-- the lines in the order in which they go: a lower queue waits for the higher ones
 abbrev pub waiting : Sending → List (List ℕ)
 waiting q = q.mode ++ (q.server ++ q.help)
 
@@ -53,7 +53,7 @@ lines_in q (One Server) = q.server
 lines_in q (One Help) = q.help
 lines_in q All = waiting q
 
--- without those lines; the timer stays
+-- without the lines of one queue, or of all; the timer stays
 abbrev pub without : Sending → Which → Sending
 without q (One Mode) = record q { mode = [] }
 without q (One Server) = record q { server = [] }
@@ -64,12 +64,12 @@ without q All = record q { mode = []; server = []; help = [] }
 abbrev pub counts_of : Sending → Counts
 counts_of q = record { mode = length q.mode; server = length q.server; help = length q.help }
 
--- with the first so many lines of each queue alone; the timer stays
+-- with only the first lines of each queue, as many as `counts` says; the timer stays
 abbrev pub with_first : Sending → Counts → Sending
 with_first q counts =
     record q { mode = take counts.mode q.mode; server = take counts.server q.server; help = take counts.help q.help }
 
--- what stays when the first n lines have gone and the timer stands there
+-- what stays when the first `n` lines have gone and the timer is set to `timer`
 abbrev pub gone : ℕ → Sending → ℕ → Sending
 gone n q timer =
     record {
@@ -80,12 +80,11 @@ gone n q timer =
       room = q.room;
     }
 
--- how many lines may go at a moment: as many as there are k, from 0 on, with `timer + COST * k` below
--- `now + AHEAD`
+-- how many lines may go at `now`: the number of k, from 0 on, for which `timer + COST * k` is below `now + AHEAD`
 abbrev pub allowed : ℕ → ℕ → ℕ
 allowed timer now = (now + AHEAD - timer + (COST - 1)) / COST
 
--- how many go: those that may, or all that wait. The timer is never earlier than now
+-- How many lines go: as many as may, or all that wait if they are fewer. The timer is never earlier than now.
 abbrev pub count_at : Sending → ℕ → ℕ
 count_at q now = min (length (waiting q)) (allowed (max q.timer now) now)
 
@@ -93,11 +92,11 @@ count_at q now = min (length (waiting q)) (allowed (max q.timer now) now)
 unfoldable pub sent : Sending → ℕ → List (List ℕ)
 sent q now = take (count_at q now) (waiting q)
 
--- what stays then: the rest, and a timer that each line has moved by its cost
+-- what stays after that: the other lines, and a timer that each sent line has moved by its cost
 unfoldable pub after : Sending → ℕ → Sending
 after q now = gone (count_at q now) q (max q.timer now + COST * count_at q now)
 
--- These lines are the first that wait, each leaves at a time that the timer allows, and the next one would not.
+-- These lines are the first that wait. Each goes at a time that the timer allows, and the next line would not.
 pub record IsGreatest (q : Sending) (now : ℕ) (lines : List (List ℕ)) : Type 0 where
   pub first : lines ≡ take (length lines) (waiting q)
   pub in_time : (k : ℕ) → k < length lines → max q.timer now + COST * k < now + AHEAD
@@ -109,7 +108,7 @@ pub record IsGreatest (q : Sending) (now : ℕ) (lines : List (List ℕ)) : Type
 unfoldable pub next_line : Sending → ℕ → Option (List ℕ)
 next_line q now = if nat_lt (max q.timer now) (now + AHEAD) then first_of (waiting q) else None
 
--- what stays then: without it, and a timer that it has moved
+-- what stays after that: the other lines, and a timer that the sent line has moved by its cost
 unfoldable pub after_line : Sending → ℕ → Sending
 after_line q now =
     if is_some (next_line q now) then gone 1 q (max q.timer now + COST)
@@ -122,7 +121,7 @@ abbrev pub sent_over : Sending → List ℕ → List (List ℕ)
 sent_over q [] = []
 sent_over q (now ∷ moments) = sent q now ++ sent_over (after q now) moments
 
--- what stays then
+-- what stays after that
 abbrev pub after_over : Sending → List ℕ → Sending
 after_over q [] = q
 after_over q (now ∷ moments) = after_over (after q now) moments

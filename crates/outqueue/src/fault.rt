@@ -17,7 +17,7 @@ pub enum QueueFault {
 }
 
 impl QueueFault {
-    /// The short code that transcripts print: `Q2` or `Q1`.
+    /// Returns the short code that transcripts print: `Q2` or `Q1`.
     pub fn code(self) -> &'static str
         ensures { result.now ≡ code_of self }
     {
@@ -28,6 +28,6 @@ impl QueueFault {
     }
 }
 
-/// Why [`Queues::put`](crate::Queues::put) did not queue a line: a fault, or out of memory where there is none. The queues
-/// are as before.
+/// Why [`Queues::put`](crate::Queues::put) did not queue a line: a fault, or out of memory if there is no fault. The
+/// queues are unchanged.
 pub type PutError = Failure<QueueFault>;

@@ -8,7 +8,7 @@ use std::alloc::Global;
 use std::collections::VecDeque;
 use std::marker::Model;
 
-// At most 500 lines, from the one that goes first, and how many more take no memory.
+// At most 500 lines, from the one that goes first, and how many more can be put without an allocation.
 #[derive(Drop)]
 pub(crate) struct Lane {
     queue: VecDeque<Text>,
@@ -28,7 +28,7 @@ impl Model for Lane {
 }
 
 impl Lane {
-    // No line, and no room.
+    // Creates a queue with no line and no room.
     pub(crate) fn new(alloc: Global) -> Lane
         ensures { result ≡ record { lines = []; room = 0 } }
     {
@@ -38,7 +38,7 @@ impl Lane {
         }
     }
 
-    // How many lines there are.
+    // Returns how many lines wait.
     pub(crate) fn len(&self) -> usize
         ensures lines { result ≡ length self.now.lines }
         ensures few { result ≤ MAX_LINES }
@@ -46,7 +46,7 @@ impl Lane {
         self.queue.len()
     }
 
-    // Makes room for just so many more.
+    // Makes room for exactly `count` more lines.
     pub(crate) fn reserve(&mut self, count: usize) -> Result<(), NoMemory>
         ensures ready { OnOk result (self.new ≡ record self.old { room = count }) }
         ensures unchanged { OnErr result (self.new ≡ self.old) }
@@ -57,7 +57,7 @@ impl Lane {
         Ok(())
     }
 
-    // Puts a line last.
+    // Puts `line` last.
     pub(crate) fn put(&mut self, line: Text) -> Result<(), NoMemory>
         requires { length self.old.lines < MAX_LINES }
         ensures put { OnOk result (self.new ≡ with_last self.old line) }
@@ -69,7 +69,7 @@ impl Lane {
         Ok(())
     }
 
-    // Puts a line last, where there is room for it.
+    // Puts `line` last, in the room reserved for it.
     pub(crate) fn put_reserved(&mut self, line: Text)
         requires few { length self.old.lines < MAX_LINES }
         requires room { 0 < self.old.room }
@@ -79,7 +79,7 @@ impl Lane {
         self.room -= 1;
     }
 
-    // Takes the first line.
+    // Removes the first line and returns it.
     pub(crate) fn pop(&mut self) -> Option<Text>
         ensures line { result ≡ first_of self.old.lines }
         ensures rest { self.new ≡ record self.old { lines = drop 1 self.old.lines } }
@@ -87,7 +87,7 @@ impl Lane {
         self.queue.pop_front()
     }
 
-    // Drops all lines but the first ones, of which this many stay.
+    // Drops all lines but the first `count`.
     pub(crate) fn keep(&mut self, count: usize)
         ensures { self.new ≡ record self.old { lines = take count self.old.lines } }
     {
@@ -113,7 +113,7 @@ impl TryCopy for Lane {
     }
 }
 
-// A copy of each line, in order.
+// Copies each line, in order.
 fn copies_of(alloc: Global, lines: &VecDeque<Text>) -> Result<VecDeque<Text>, NoMemory>
     ensures { IfOk result (λ copies. copies.items ≡ lines.now.items) }
 {

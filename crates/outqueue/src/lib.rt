@@ -1,8 +1,9 @@
 //! The lines that wait to be sent to an IRC server, and when each may go.
 //!
-//! A server drops a client that floods it. RFC 1459 section 8.10 says how it counts: a timer that is never earlier than
-//! the clock grows by two seconds with each line, and lines are read while it is less than ten seconds ahead. [`Queues`]
-//! keeps the same timer and lets a line go only while the server would read it: five at once, then one each two seconds.
+//! A server drops a client that floods it. RFC 1459 section 8.10 says how it counts. The server keeps a timer that is
+//! never earlier than the clock and grows by two seconds with each line, and it reads lines while the timer is less
+//! than ten seconds ahead. [`Queues`] keeps the same timer and returns a line only when the server would read it: five
+//! at once, then one every two seconds.
 //!
 //! There are three queues of at most 500 lines. A lower one is served only while the higher ones are empty.
 //!

@@ -12,5 +12,5 @@ pub const AHEAD: u64 = 10;
 /// How many seconds a line costs (RFC 1459 section 8.10).
 pub const COST: u64 = 2;
 
-/// How many lines go at one moment at most: those that cost as many seconds as the timer may get ahead.
+/// How many lines go at one moment at most: their cost is as many seconds as the timer may get ahead.
 pub const MAX_AT_ONCE: usize = 5;

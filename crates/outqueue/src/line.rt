@@ -5,14 +5,14 @@ ghost use Rattle.outqueue.specs.Refusals.{is_break, is_bad_line};
 
 use crate::limits::MAX_BYTES;
 
-// Whether a line can't be sent as one line.
+// Returns whether `line` can't be sent as one line.
 pub(crate) fn is_bad_line(line: &[u8]) -> bool
     ensures { result ≡ is_bad_line line.now }
 {
     line.is_empty() || line.len() > MAX_BYTES || has_break(line)
 }
 
-// Whether there is a NUL, an LF or a CR.
+// Returns whether `line` holds a NUL, an LF or a CR.
 fn has_break(line: &[u8]) -> bool
     ensures { result ≡ list_any is_break line.now }
 {

@@ -1,13 +1,13 @@
 // Which queue is meant.
 
-/// One of the three queues, the one that is served first in front (Eggdrop's Tcl commands, at `clearqueue`).
+/// One of the three queues, in the order in which they are served (Eggdrop's Tcl commands, at `clearqueue`).
 #[derive(Clone, Copy, Debug, PartialEq, Eq)]
 pub enum Queue {
-    /// What can't wait: answers to the server, channel modes, kicks.
+    /// Lines that can't wait: answers to the server, channel modes, kicks.
     Mode,
-    /// What is meant for the server: joins and the like.
+    /// Lines for the server: joins and the like.
     Server,
-    /// What is meant for people.
+    /// Lines for people.
     Help,
 }
 

@@ -27,8 +27,8 @@ pub struct Counts {
 
 /// Lines that wait to be sent, and the send timer.
 ///
-/// Contracts see the three lists of lines, each from the one that goes first, the timer in seconds since 1970-01-01 UTC,
-/// and how many lines more each queue has room for.
+/// Contracts see the three lists of lines, each from the one that goes first, the timer in seconds since 1970-01-01
+/// UTC, and how many more lines each queue has room for.
 ///
 /// ```text
 /// let mut queues = Queues::new(alloc);
@@ -39,12 +39,12 @@ pub struct Counts {
 /// queues.clear(Which::All)                        // 0
 /// ```
 ///
-/// Who must not fail half-way asks for room first:
+/// A caller that must not fail half-way reserves room first:
 ///
 /// ```text
-/// queues.reserve(Queue::Server, 2)?;              // all that may want memory
-/// queues.put_reserved(Queue::Server, join)        // takes none
-/// queues.put_reserved(Queue::Server, part)        // takes none
+/// queues.reserve(Queue::Server, 2)?;              // only this may allocate
+/// queues.put_reserved(Queue::Server, join)        // allocates nothing
+/// queues.put_reserved(Queue::Server, part)        // allocates nothing
 /// ```
 pub struct Queues {
     mode: Lane,
@@ -53,7 +53,7 @@ pub struct Queues {
     timer: u64,
 }
 
-// By hand, so that this is proved once, and not in each function in which one ends.
+// Written by hand, so that it is proved once and not in each function that drops a `Queues`.
 impl Drop for Queues {
     fn drop(self) {
         let Queues {
@@ -80,7 +80,7 @@ impl Model for Queues {
 }
 
 impl Queues {
-    /// Empty queues, with a timer that is not ahead of any moment, and no room. Takes no memory.
+    /// Creates empty queues with no room, and a timer that is not ahead of any moment. Allocates nothing.
     pub fn new(alloc: Global) -> Queues
         ensures { result ≡ idle }
     {
@@ -92,12 +92,12 @@ impl Queues {
         }
     }
 
-    /// Makes room in a queue for just `count` lines, so that as many calls of [`put`](Queues::put) or
-    /// [`put_reserved`](Queues::put_reserved) take no memory. Nothing else that is seen changes. `reserve(queue, 0)` gives
-    /// the room up.
+    /// Makes room in `queue` for exactly `count` lines, so that this many calls of [`put`](Queues::put) or
+    /// [`put_reserved`](Queues::put_reserved) allocate nothing. Nothing else that is visible changes.
+    /// `reserve(queue, 0)` gives the room up.
     ///
     /// # Errors
-    /// `NoMemory` where room is refused, never where there was as much. The queues are as before.
+    /// Returns `NoMemory` if it can't allocate the room, never if there already was as much. The queues are unchanged.
     pub fn reserve(&mut self, queue: Queue, count: usize) -> Result<(), NoMemory>
         ensures ready { OnOk result (self.new ≡ with_room self.old queue count) }
         ensures unchanged { OnErr result (self.new ≡ self.old) }
@@ -110,12 +110,12 @@ impl Queues {
         }
     }
 
-    /// Puts a line, without its CR LF, after those of a queue.
+    /// Puts `line`, without its CR LF, at the end of `queue`.
     ///
     /// # Errors
-    /// In this order: `BadLine` where the line is empty, longer than 510 bytes, or holds a NUL, a CR or an LF;
-    /// `QueueFull` where the queue holds 500 lines; `NoMemory` where room for the line is refused, never where there was
-    /// room. None changes the queues, and only the last has asked for memory.
+    /// In this order: `BadLine` if the line is empty, longer than 510 bytes, or holds a NUL, a CR or an LF; `QueueFull`
+    /// if the queue holds 500 lines; `NoMemory` if it can't allocate room for the line, never if there was room. On any
+    /// error the queues are unchanged. Only `NoMemory` comes after an attempt to allocate.
     pub fn put(&mut self, queue: Queue, line: Text) -> Result<(), PutError>
         ensures puts { Puts self.old queue line result self.new }
         ensures needs_none { 0 < room_in self.old queue → result ≢ Err Failure.NoMemory }
@@ -129,10 +129,11 @@ impl Queues {
         Ok(())
     }
 
-    /// The same where there is room: it takes no memory.
+    /// Puts `line` at the end of `queue` as [`put`](Queues::put) does, but in room that was reserved, so it allocates
+    /// nothing.
     ///
     /// # Errors
-    /// `BadLine` and `QueueFull`, as at [`put`](Queues::put). The queues and the room are as before.
+    /// Returns `BadLine` and `QueueFull` as [`put`](Queues::put) does. The queues and the room are unchanged.
     pub fn put_reserved(&mut self, queue: Queue, line: Text) -> Result<(), QueueFault>
         requires { 0 < room_in self.old queue }
         ensures { PutsReserved self.old queue line result self.new }
@@ -148,7 +149,7 @@ impl Queues {
         Ok(())
     }
 
-    // Why this line can't be put into this queue.
+    // Returns why `line` can't be put into `queue`, if it can't.
     #[tactic(auto, unfolding(crate::specs::Refusals::refusal))]
     fn refusal_of(&self, queue: Queue, line: &Text) -> Option<QueueFault>
         ensures refusal { result ≡ refusal self.now queue line.now }
@@ -163,7 +164,7 @@ impl Queues {
         None
     }
 
-    /// How many lines wait in one queue or in all.
+    /// Returns how many lines wait in the queues that `which` names.
     pub fn len(&self, which: Which) -> usize
         ensures lines { result ≡ length (lines_in self.now which) }
         ensures small { result ≤ 3 * MAX_LINES }
@@ -178,7 +179,7 @@ impl Queues {
         }
     }
 
-    /// How many lines each queue holds, for [`keep`](Queues::keep).
+    /// Returns how many lines each queue holds, for [`keep`](Queues::keep).
     pub fn counts(&self) -> Counts
         ensures { result ≡ counts_of self.now }
     {
@@ -189,10 +190,11 @@ impl Queues {
         }
     }
 
-    /// Takes lines back: of each queue only the first so many stay, at most. The timer and the room stay. Takes no memory.
+    /// Drops the last lines of each queue, so that at most as many stay as `counts` says. The timer and the room stay.
+    /// Allocates nothing.
     ///
-    /// With what [`counts`](Queues::counts) answered before, this drops just the lines that were put since, if none has
-    /// been sent or cleared.
+    /// If `counts` is an earlier answer of [`counts`](Queues::counts), this drops exactly the lines that were put
+    /// since, provided that none has been sent or cleared.
     pub fn keep(&mut self, counts: Counts)
         ensures { self.new ≡ with_first self.old counts }
     {
@@ -201,7 +203,7 @@ impl Queues {
         self.help.keep(counts.help);
     }
 
-    /// Drops the lines of one queue or of all, and says how many there were. The timer and the room stay.
+    /// Drops the lines of the queues that `which` names, and returns how many they were. The timer and the room stay.
     pub fn clear(&mut self, which: Which) -> usize
         ensures count { result ≡ length (lines_in self.old which) }
         ensures rest { self.new ≡ without self.old which }
@@ -220,11 +222,11 @@ impl Queues {
         count
     }
 
-    /// The line that may go at a moment, in seconds since 1970-01-01 UTC, if one may. Its time doesn't grow with the
-    /// number of lines, and it takes no memory.
+    /// Removes and returns the line that may go at `now`, in seconds since 1970-01-01 UTC, if one may. The time that
+    /// this takes doesn't grow with the number of lines, and it allocates nothing.
     ///
-    /// The timer is set to now if it is earlier. While it is less than ten seconds ahead of now, the first line of the
-    /// first queue that has one goes, and the timer grows by two seconds (RFC 1459 section 8.10).
+    /// If the timer is earlier than `now`, it is set to `now`. While it is less than ten seconds ahead of `now`, the
+    /// first line of the first queue that has one goes, and the timer grows by two seconds (RFC 1459 section 8.10).
     #[tactic(auto, unfolding(crate::specs::Sending::next_line, crate::specs::Sending::after_line))]
     pub fn take(&mut self, now: u64) -> Option<Text>
         requires { now < MOMENTS_END }
@@ -240,7 +242,7 @@ impl Queues {
         Some(line)
     }
 
-    // Takes the first line of the first queue that has one.
+    // Removes and returns the first line of the first queue that has one.
     fn first(&mut self) -> Option<Text>
         ensures line { result ≡ first_of (waiting self.old) }
         ensures rest { self.new ≡ gone 1 self.old self.old.timer }
@@ -254,12 +256,12 @@ impl Queues {
         self.help.pop()
     }
 
-    /// All lines that may go at a moment, in seconds since 1970-01-01 UTC: what [`Queues::take`] gives until it gives
-    /// none. There are five at most.
+    /// Removes and returns all lines that may go at `now`, in seconds since 1970-01-01 UTC: those that [`Queues::take`]
+    /// returns until it returns none. They are five at most.
     ///
     /// # Errors
-    /// `NoMemory` where room for the list is refused; nothing has changed then. Where no line goes, because none waits or the
-    /// timer is ten seconds ahead, none is asked for.
+    /// Returns `NoMemory` if it can't allocate the list; the queues are then unchanged. It allocates nothing if no line
+    /// goes, because none waits or the timer is ten seconds ahead.
     pub fn drain(&mut self, alloc: Global, now: u64) -> Result<Texts, NoMemory>
         requires { now < MOMENTS_END }
         ensures lines { IfOk result (λ lines. lines ≡ sent self.old now) }
@@ -280,7 +282,7 @@ impl Queues {
         Ok(Texts::new(lines))
     }
 
-    // How many lines go at a moment.
+    // Returns how many lines go at `now`.
     fn due(&self, now: u64) -> usize
         requires { now < MOMENTS_END }
         ensures { result ≡ length (sent self.now now) }

@@ -1,4 +1,4 @@
--- What bots do in processes of their own, and where a list of their deeds leads.
+-- What bots in processes of their own do, and where a list of their deeds leads.
 use Rattle.std.specs.Prelude.{◌≡◌, ℕ, ◌+◌, List, [], ◌∷◌, ◌++◌, length, slice_get, slice_set, Option, None, Some}
 use Rattle.userfile.specs.Records.{Records}
 use Rattle.sharewire.specs.declared.packet.Packet.{Packet}
@@ -22,18 +22,17 @@ use Rattle.botworld.specs.Net.{packet_at, posted}
 
 -- ---- processes and their deeds
 
--- The process of a bot. While it runs it has the bot; once it has ended there are the bytes of the bot's two disks.
+-- The process of a bot. While it runs it has the bot; once it has ended, only the bytes of the bot's two disks remain.
 pub data Process : Type 0 where
   Runs : Bot → Process
   Ended : (first second : List ℕ) → Process
 
--- the process of each bot, the hub's first, and every packet that a report told, the first of them first
+-- the process of each bot, the hub's first, and every packet in a report, in the order of the reports
 pub record Net : Type 0 where
   pub processes : List Process
   pub packets : List Sent
 
--- one call of a bot: the names of the procs of its store, the bot before, what it is told, what it reports, the bot
--- after
+-- one call of a bot: the names of the procs of its store, the bot before, the event, the report, the bot after
 pub record Step : Type 0 where
   pub names : List (List ℕ)
   pub was : Bot
@@ -41,7 +40,7 @@ pub record Step : Type 0 where
   pub report : Report
   pub after : Bot
 
--- what a process did when it ended: no call of its bot, or one that tells it this and has not returned
+-- what a process did when it ended: no call of its bot, or a call with this event that has not returned
 pub data Doing : Type 0 where
   Nothing : Doing
   Telling : Event → Doing
@@ -50,11 +49,11 @@ pub data Doing : Type 0 where
 pub data Deed : Type 0 where
   -- its bot makes a step
   Made : (bot : ℕ) → Step → Deed
-  -- it ends, and this is on the disks
+  -- the process ends, and this is on the disks
   Died : (bot : ℕ) → (was : Bot) → Doing → (first second : List ℕ) → Deed
-  -- another one opens the bot on what is on the disks
+  -- another process opens the bot from the bytes on the disks
   Opened : (bot : ℕ) → (after : Bot) → Deed
-  -- another one was to open it, and ended before it had: this is on the disks
+  -- another process was to open the bot, and ended before it had: this is on the disks
   Unopened : (bot : ℕ) → (first second : List ℕ) → Deed
 
 -- ---- the net after deeds
@@ -75,7 +74,7 @@ net_after w (deed ∷ deeds) = net_after (after_deed w deed) deeds
 
 -- ---- which deeds may happen
 
--- A bot takes no packet but one that was told to it: by whatever bot, whenever, and as often as it comes.
+-- A bot takes only packets that a report sent to it: from any bot, at any time, and as often as they come.
 abbrev pub WasTold : List Sent → ℕ → Event → Type 0
 WasTold packets bot Connect = Unit {0}
 WasTold packets bot (Line line) = Unit {0}
@@ -93,8 +92,8 @@ abbrev pub WasDoing : List Sent → ℕ → Doing → Type 0
 WasDoing packets bot Nothing = Unit {0}
 WasDoing packets bot (Telling event) = WasTold packets bot event
 
--- The end of the link after such a call, had the device failed in it: what the call was journaling is in doubt. A call
--- that journals nothing puts nothing in doubt.
+-- The end of the link after such a call if the device failed in it: the record that the call was journaling is in
+-- doubt. A call that journals nothing puts nothing in doubt.
 abbrev pub failing : BotEnd → Doing → End
 failing link Nothing = link.end
 failing link (Telling Connect) = link.end
@@ -108,21 +107,21 @@ failing link (Telling (Unbind gone)) = link.end
 failing link (Telling Compact) = (did link compacts Fails).after
 failing link (Telling Restart) = link.end
 
--- the same bot's end of the link, where it holds this
+-- the same bot's end of the link, with this content
 abbrev pub with_end : BotEnd → End → BotEnd
 with_end link end = record link { end = end }
 
--- these bytes mean what the bot kept before the call, or that with what the call was journaling
+-- these bytes mean what the bot kept before the call, or the same with the record that the call was journaling
 abbrev pub LeavesIn : Doing → BotEnd → List ℕ → List ℕ → Type 0
 LeavesIn doing link first second = AreOf (with_end link (failing link doing)) first second
 
--- a crash at some moment between the one and the other may leave these bytes
+-- a crash at some moment between `was` and `after` may leave these bytes
 pub record CrashesIn (was after : BotEnd) (first second : List ℕ) : Type 0 where
   pub first_left : left_since after.device.first (moment was.device.first) first
   pub second_left : left_since after.device.second (moment was.device.second) second
 
--- The bot of this number, of so many, keeps what these bytes mean, or where they have an older layout what a compaction
--- makes of it. Its binds, channels, clock, timers and queues are new.
+-- The bot with this number, in a net of `bots` bots, keeps what these bytes mean; if they have an older layout, it
+-- keeps what a compaction makes of it. Its binds, channels, clock, timers and queues are new.
 pub record IsOpened (bot bots : ℕ) (first second : List ℕ) (after : Bot) : Type 0 where
   pub number : after.config.number ≡ bot
   pub leaves : after.config.leaves + 1 ≡ bots
@@ -135,15 +134,15 @@ pub record IsOpened (bot bots : ℕ) (first second : List ℕ) (after : Bot) : T
   }
   pub anew : after ≡ begun after.config after.link
 
--- These bytes mean what a bot of this number, of so many, was to be opened on, or where that has an older layout the same put
--- anew in the present one.
+-- These bytes mean what the bytes `x` and `y` mean, from which the bot with this number, in a net of `bots` bots, was
+-- to be opened; or, if those have an older layout, the same rewritten in the present one.
 pub record IsUnopened (bot bots : ℕ) (x y first second : List ℕ) : Type 0 where
   pub leaves : ℕ
   pub many : leaves + 1 ≡ bots
   pub left : IsLeft bot leaves (meaning x y) first second
 
 module _ (promised : Promised) where
-  -- the bot runs, a packet that it takes was told to it, and the step is one that a bot takes
+  -- the bot runs, a report sent it the packet that it takes, and the step is one that a bot takes
   pub record Makes (w : Net) (bot : ℕ) (step : Step) : Type 0 where
     pub running : slice_get w.processes bot ≡ Some (Runs step.was)
     pub told : WasTold w.packets bot step.event
@@ -164,14 +163,14 @@ module _ (promised : Promised) where
   Happens w (Unopened bot first second) = (x y : List ℕ) × (slice_get w.processes bot ≡ Some (Ended x y))
       × IsUnopened bot (length w.processes) x y first second
 
-  -- each of these deeds happens where those before it have led
+  -- each of these deeds happens after those before it
   abbrev pub Run : Net → List Deed → Type 0
   Run w [] = Unit {0}
   Run w (deed ∷ deeds) = Happens w deed × Run (after_deed w deed) deeds
 
 -- ---- the first moment
 
--- the bot of this number runs as it was made, in a net of so many leaves
+-- the bot with this number runs as it was made, in a net with this number of leaves
 pub record IsNew (count place : ℕ) (process : Process) : Type 0 where
   pub bot : Bot
   pub runs : process ≡ Runs bot
@@ -179,7 +178,7 @@ pub record IsNew (count place : ℕ) (process : Process) : Type 0 where
   pub number : bot.config.number ≡ place
   pub leaves : bot.config.leaves ≡ count
 
--- a hub and so many leaves run as they were made, and no packet was told
+-- a hub and `count` leaves run as they were made, and no report has sent a packet
 pub record IsFirst (count : ℕ) (w : Net) : Type 0 where
   pub many : length w.processes ≡ count + 1
   pub packets : w.packets ≡ []
@@ -197,13 +196,13 @@ records_in None = None
 records_in (Some (Runs bot)) = Some (link_records bot.link)
 records_in (Some (Ended first second)) = None
 
--- the version that a bot shows, and its records; none while its process doesn't run
+-- the version of a bot, and its records; none while its process doesn't run
 abbrev pub shown_version : Net → ℕ → Option ℕ
 shown_version w bot = version_in (slice_get w.processes bot)
 
 abbrev pub shown_records : Net → ℕ → Option Records
 shown_records w bot = records_in (slice_get w.processes bot)
 
--- this packet was told
+-- a report has sent this packet
 abbrev pub IsTold : Net → Packet → Type 0
 IsTold w packet = (number : ℕ) × (sent : Sent) × (packet_at w.packets number ≡ Some sent) × (sent.packet ≡ packet)

@@ -1,4 +1,4 @@
--- What is promised of packets that were told, and of steps.
+-- What is promised of the packets in reports, and of steps.
 use Rattle.std.specs.Prelude.{◌≡◌, ℕ, suc, map, Option, None, Some}
 use Rattle.userfile.specs.declared.change.Change.{Change as UserChange}
 use Rattle.userfile.specs.declared.error.ChangeFault.{ChangeFault}
@@ -12,15 +12,15 @@ use Rattle.processes.specs.Deeds.{Net, Step, IsTold}
 -- ---- a request is accepted at most once
 
 pub record Once (w : Net) : Type 0 where
-  -- changes that were told for one request of a leaf are one change under one number
+  -- the changes in reports for one request of a leaf are one change under one number
   pub change : (n m place request : ℕ) (a b : UserChange) → IsTold w (Change n (suc place) request a)
       → IsTold w (Change m (suc place) request b) → (n ≡ m) × (a ≡ b)
-  -- that request is never told as accepted under another number, nor as refused
+  -- no report gives that request as accepted under another number, or as refused
   pub accepted : (n m place request : ℕ) (a : UserChange) → IsTold w (Change n (suc place) request a)
       → IsTold w (Accepted (suc place) request m) → m ≡ n
   pub not_refused : (n place request : ℕ) (a : UserChange) (fault : ChangeFault)
       → IsTold w (Change n (suc place) request a) → IsTold w (Refused (suc place) request fault) → ⊥
-  -- changes that were told under one number are one change of one request
+  -- the changes in reports under one number are one change of one request
   pub same : (n o p r s : ℕ) (a b : UserChange) → IsTold w (Change n o r a) → IsTold w (Change n p s b)
       → (o ≡ p) × (r ≡ s) × (a ≡ b)
 
@@ -35,6 +35,6 @@ calling_at Done step = Some (record {
 calling_at (refused why) step = None
 calling_at NoMemory step = None
 
--- what a step calls, where it is done
+-- what a step calls, if it is done
 abbrev pub calling_of : Step → Option Calling
 calling_of step = calling_at step.report.end step

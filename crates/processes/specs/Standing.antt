@@ -1,4 +1,4 @@
--- Which moment of a link's history a net of processes stands for.
+-- The moment of a link's history for which a net of processes stands.
 use Rattle.std.specs.Prelude.{◌≡◌, ◌+◌, ℕ, List, [], ◌∷◌, length, slice_get, Some}
 use Rattle.protocol.specs.Packets.{Sent as LinkSent}
 use Rattle.protocol.specs.Numbers.{item_at}
@@ -11,7 +11,7 @@ use Rattle.botworld.specs.declared.sent.Sent.{Sent}
 use Rattle.botworld.specs.Network.{sent_as}
 use Rattle.processes.specs.Deeds.{Process, Runs, Ended, Net}
 
--- a process has this end of the link: its bot has it, or its disks mean what a restart of it finds
+-- a process has this end of the link: its bot has it, or a restart finds it in what the disks mean
 abbrev pub HasEnd : BotEnd → Process → Type 0
 HasEnd link (Runs bot) = bot.link ≡ link
 HasEnd link (Ended first second) = AreOf link first second
@@ -27,13 +27,13 @@ pub record IsAt (h : History) (ends : List LinkEnd) (place : ℕ) (process : Pro
 abbrev pub IsAmong : LinkSent → List LinkSent → Type 0
 IsAmong sent packets = (number : ℕ) × (item_at packets number ≡ Some sent)
 
--- each packet that was told is among these
+-- each packet in a report is among these
 abbrev pub AreAmong : List Sent → List LinkSent → Type 0
 AreAmong [] packets = Unit {0}
 AreAmong (sent ∷ others) packets = IsAmong (sent_as sent) packets × AreAmong others packets
 
--- The processes stand for this moment of history, of which all that the links promise holds. Its packets may be more
--- than were told: those too that a call was to tell in which its process ended.
+-- The processes stand for this moment of history, and all promises of the links hold of it. History may have more
+-- packets than the reports: also those of a call during which the process ended.
 pub record Stands (w : Net) (h : History) : Type 0 where
   pub ends : List LinkEnd
   pub packets : List LinkSent
@@ -42,7 +42,7 @@ pub record Stands (w : Net) (h : History) : Type 0 where
   pub told : AreAmong w.packets packets
   pub each : (place : ℕ) (process : Process) → slice_get w.processes place ≡ Some process → IsAt h ends place process
 
--- the net stands for a moment that this history grew into
+-- the net stands for a moment into which this history has grown
 pub record Reaches (h : History) (w : Net) : Type 0 where
   pub after : History
   pub stands : Stands w after

@@ -1,4 +1,4 @@
-// What holds of any deeds of bots in processes of their own.
+// The laws of the deeds of bots in processes of their own.
 ghost use Rattle.std.specs.Prelude.{◌≡◌, ◌⊎◌, ◌≤◌, ◌+◌, ◌++◌, ℕ, suc, true, List, slice_get, Some, Ok};
 ghost use Rattle.protocol.specs.History.{History, start};
 ghost use Rattle.storage.specs.State.{may_leave, moment, left_since};
@@ -19,12 +19,12 @@ ghost use Rattle.processes.specs.Promises.{Once, calling_of};
 use procstore::Promise;
 use storage::Disk;
 
-/// What holds of any deeds of bots in processes of their own, over procs that keep this promise and disks of this kind.
-/// It does nothing itself.
+/// States what holds of all deeds of bots in processes of their own, over procs that keep the promise `P` and disks of
+/// the type `D`. The call does nothing.
 pub fn laws_of_processes<P: Promise, D: Disk>()
     // The first moment stands for the start of history.
     ensures begins { (count : ℕ) (w : Net) → IsFirst count w → Stands w (start count) }
-    // Deeds lead to a moment that history grew into.
+    // Deeds lead to a moment into which history has grown.
     ensures goes { (w : Net) (h : History) (deeds : List Deed)
         → Stands w h → Run P.promised w deeds → Reaches h (net_after w deeds) }
     // At any two moments, bots at one version hold the same records.
@@ -33,39 +33,39 @@ pub fn laws_of_processes<P: Promise, D: Disk>()
         → shown_version (net_after w first) one ≡ Some version
         → shown_version (net_after w (first ++ more)) other ≡ Some version
         → shown_records (net_after w first) one ≡ shown_records (net_after w (first ++ more)) other }
-    // No version goes back, also where the bot's process died between and another opened it.
+    // No version goes back, even if the bot's process died in between and another process opened the bot.
     ensures never_back { (count : ℕ) (w : Net) (first more : List Deed)
         → IsFirst count w → Run P.promised w (first ++ more) → (bot before after : ℕ)
         → shown_version (net_after w first) bot ≡ Some before
         → shown_version (net_after w (first ++ more)) bot ≡ Some after → before ≤ after }
-    // A request is accepted at most once, and is told so.
+    // A request is accepted at most once, and is reported so.
     ensures once { (count : ℕ) (w : Net) (deeds : List Deed)
         → IsFirst count w → Run P.promised w deeds → Once (net_after w deeds) }
-    // Alike bots call the same procs, at any two moments, over stores of the same names.
+    // Bots that are alike call the same procs, at any two moments, over stores of the same names.
     ensures same_calls { (count : ℕ) (w : Net) (deeds : List Deed) → IsFirst count w → Run P.promised w deeds
         → (i j one other : ℕ) (s t : Step) (a b : Calling)
         → slice_get deeds i ≡ Some (Made one s) → slice_get deeds j ≡ Some (Made other t) → s.names ≡ t.names
         → calling_of s ≡ Some a → calling_of t ≡ Some b → IsAlike a b → a.calls ≡ b.calls }
-    // So do bots that are alike but for their channels, where the promised codes ignore these.
+    // So do bots that are alike except for their channels, if the promised codes ignore the channels.
     ensures same_calls_ignoring_channels { IgnoresChannels P.promised → (count : ℕ) (w : Net) (deeds : List Deed)
         → IsFirst count w → Run P.promised w deeds
         → (i j one other : ℕ) (s t : Step) (a b : Calling)
         → slice_get deeds i ≡ Some (Made one s) → slice_get deeds j ≡ Some (Made other t) → s.names ≡ t.names
         → calling_of s ≡ Some a → calling_of t ≡ Some b → IsAlikeButChannels a b → a.calls ≡ b.calls }
-    // A bot that `Bot::open` found is opened on what its disks held, or on that put anew.
+    // A bot that `Bot::open` found is opened from what its disks held, or from the same rewritten in the present
+    // layout.
     ensures opened { (config : Config) (first second : D) (bot : Bot) → Finds D.state config first second (Ok bot)
         → IsOpened config.number (config.leaves + 1) (D.state first).seen (D.state second).seen bot }
-    // What a crash at any moment of `Bot::open` leaves on its disks is what one may leave that dies while it opens the bot:
-    // `Bot::open` says of each device up to which it came that it leaves what was found.
+    // A crash at any moment of `Bot::open` leaves on the disks what a process may leave that dies while it opens the
+    // bot: `Bot::open` says of each state of the device during the call that it leaves what was found.
     ensures unopened { (config : Config) (first second : D) (now : Device) → LeavesFound D.state config first second now
         → (x y : List ℕ) → left_since now.first (moment (D.state first)) x → left_since now.second (moment (D.state second)) y
         → IsUnopened config.number (config.leaves + 1) (D.state first).seen (D.state second).seen x y }
-    // What a crash leaves on the disks of a bot that `Bot::into_disks` took apart is what one leaves that dies outside
-    // a call.
+    // A crash after `Bot::into_disks` leaves on the disks what a process leaves that dies outside a call.
     ensures stopped { (first second : D) (link : BotEnd) → MayLeave (D.state first) (D.state second) link → (x y : List ℕ)
         → may_leave (D.state first) x → may_leave (D.state second) y → LeavesIn Nothing link x y }
-    // What a crash at any moment of a step leaves on a bot's disks is what a process may leave that dies outside a call, or in
-    // that one. That a crash before it leaves what is the bot's is what `Bot::know_disks` says.
+    // A crash at any moment of a step leaves on the bot's disks what a process may leave that dies outside a call, or
+    // in that step. `Bot::know_disks` says that a crash before the step leaves the bot's journal.
     ensures died { (names : List (List ℕ)) (event : Event) (was after : Bot) (report : Report) (x y : List ℕ)
         → MayLeave was.link.device.first was.link.device.second was.link
         → TakesStep P.promised names was event report after → CrashesIn was.link after.link x y

@@ -1,4 +1,4 @@
--- What putting an action into a reply does.
+-- What appending an action to a reply does.
 use Rattle.std.specs.Prelude.{◌≡◌, ◌<◌, ◌≤◌, List, [], ◌∷◌, ◌++◌, length, Result, Ok, Err}
 use Rattle.bytetext.specs.declared.failure.Failure.{Failure}
 use Rattle.bytetext.specs.declared.failure.Failure.TheVariants.{Refused, NoMemory}
@@ -7,7 +7,8 @@ use Rattle.procstore.specs.declared.fault.ActionsFault.{ActionsFault}
 use Rattle.procstore.specs.declared.fault.ActionsFault.TheVariants.{TooMany}
 use Rattle.procstore.specs.declared.limits.TheConstants.{MAX_ACTIONS}
 
--- It stands last, or there are eight, or memory ran out, and what is then. Memory comes last.
+-- The action is appended, or there are eight already, or memory ran out. Out of memory only if there are fewer than
+-- eight.
 abbrev pub Pushes : {T : Type 0} → List Action → Action → Result T (Failure ActionsFault) → List Action → Type 0
 Pushes old action (Ok _) new = (length old < MAX_ACTIONS) × (new ≡ old ++ action ∷ [])
 Pushes old action (Err (Refused TooMany)) new = (MAX_ACTIONS ≤ length old) × (new ≡ old)

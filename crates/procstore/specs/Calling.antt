@@ -25,18 +25,19 @@ refusal names name =
     if holds names name then Some NameTaken
     else (if nat_le MAX_PROCS (length names) then Some Full else None)
 
--- a refusal is told as it is; out of memory only if there is none
+-- the error is the reason to reject the proc; out of memory only if there is no such reason
 abbrev pub IsWhy : Option AddFault → Failure AddFault → Type 0
 IsWhy refusal (Refused fault) = refusal ≡ Some fault
 IsWhy refusal no_memory = refusal ≡ None
 
--- What a call by name answers: a reply that keeps the promise, that no proc has the name, or that the proc lacks memory.
+-- What a call by name returns: a reply that keeps the promise, or that no proc has the name, or that the proc ran out
+-- of memory.
 abbrev pub IsCalled : Promised → List (List ℕ) → List ℕ → Call → Seen → Result Reply (Failure CallFault) → Type 0
 IsCalled promised names name call seen (Ok reply) = (holds names name ≡ true) × IsKept promised name call seen reply
 IsCalled promised names name call seen (Err (Refused NoSuchProc)) = holds names name ≡ false
 IsCalled promised names name call seen (Err no_memory) = (holds names name ≡ true) × promised.may_lack name call
 
--- what a proc answered, as the answer to a call by name
+-- the answer of a proc, as the answer of a call by name
 abbrev pub as_called : Result Reply NoMemory → Result Reply (Failure CallFault)
 as_called (Ok reply) = Ok reply
 as_called (Err lack) = Err no_memory

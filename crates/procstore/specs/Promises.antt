@@ -1,4 +1,4 @@
--- What procs promise, and what it is to keep a promise.
+-- What procs promise, and when a reply keeps a promise.
 use Rattle.std.specs.Prelude.{◌≡◌, ℕ, List, Result, Ok, Err}
 use Rattle.bytetext.specs.declared.memory.NoMemory.{NoMemory}
 use Rattle.procstore.specs.declared.action.Action.{Action}
@@ -7,16 +7,16 @@ use Rattle.procstore.specs.declared.reply.Code.{Code}
 use Rattle.procstore.specs.declared.reply.Reply.{Reply}
 use Rattle.procstore.specs.Seen.{Sight, Seen}
 
--- What the procs of a program promise, by the proc's name and the call. The code of an answer is a function of these and of
--- records and channels, so that it can't depend on the clock.
+-- What the procs of a program promise, by the proc's name and the call. The code of an answer is a function of these
+-- and of records and channels, so it can't depend on the clock.
 pub record Promised : Type 1 where
   pub code_of : List ℕ → Call → Sight → Code
   -- the actions that an answer may have
   pub may : List ℕ → Call → Seen → List Action → Type 0
-  -- the calls that may lack memory
+  -- the calls that may run out of memory
   pub may_lack : List ℕ → Call → Type 0
 
--- a promise of codes and actions, where any call may lack memory
+-- a promise of codes and actions with which any call may run out of memory
 abbrev pub promised : (List ℕ → Call → Sight → Code) → (List ℕ → Call → Seen → List Action → Type 0) → Promised
 promised code_of may = record { code_of = code_of; may = may; may_lack = λ _ _. Unit {0} }
 

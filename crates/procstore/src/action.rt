@@ -4,16 +4,16 @@ use outqueue::Queue;
 use std::alloc::Global;
 use userfile::Change;
 
-/// One thing that a proc asks its bot to do. The bot does it once all procs of the event have answered.
+/// One thing that a proc asks its bot to do. The bot does it once all procs of the event have returned.
 #[derive(Debug, Drop)]
 pub enum Action {
-    /// Asks for a change of the userfile: it waits at the bot until the bot is pumped.
+    /// Asks for a change of the userfile, which waits at the bot until the bot is pumped.
     Ask(Change),
     /// Makes a timer, which counts minutes.
     Timer(TimerWish),
     /// Makes a utimer, which counts seconds.
     Utimer(TimerWish),
-    /// Takes away the oldest timer or utimer of this proc and text.
+    /// Removes the oldest timer or utimer with this proc and text.
     KillTimer(TimerName),
     /// Sends a text to another bot.
     SendBot(BotWish),
@@ -34,12 +34,12 @@ impl TryCopy for Action {
     }
 }
 
-/// A timer or utimer that is asked for. It counts from the last second that the bot's clock has seen.
+/// The timer or utimer that a proc asks for. It counts from the last second that the bot's clock has seen.
 #[derive(Debug)]
 pub struct TimerWish {
     /// Minutes, or seconds of a utimer, from one call to the next.
     pub interval: u32,
-    /// How many calls it makes, or 0 for one after another without end.
+    /// The number of calls, or 0 for calls without end.
     pub count: u32,
     /// The name of the proc that it calls.
     pub proc: Text,
@@ -47,7 +47,7 @@ pub struct TimerWish {
     pub text: Text,
 }
 
-// By hand, so that this is proved once, and not in each function in which one ends.
+// Written by hand, so that it is proved once and not in each function that drops one.
 impl Drop for TimerWish {
     fn drop(self) {
         let TimerWish {
@@ -72,7 +72,7 @@ impl TryCopy for TimerWish {
     }
 }
 
-/// Which timer is meant: one that calls this proc with this text.
+/// Names a timer by the proc that it calls and the text that it passes.
 #[derive(Debug)]
 pub struct TimerName {
     /// The name of the proc that it calls.
@@ -81,7 +81,7 @@ pub struct TimerName {
     pub text: Text,
 }
 
-// By hand, so that this is proved once, and not in each function in which one ends.
+// Written by hand, so that it is proved once and not in each function that drops one.
 impl Drop for TimerName {
     fn drop(self) {
         let TimerName { proc: _, text: _ } = self;
@@ -99,7 +99,7 @@ impl TryCopy for TimerName {
 /// A text for another bot.
 #[derive(Debug, Drop)]
 pub struct BotWish {
-    /// The number of the bot that it is for.
+    /// The number of the bot that receives it.
     pub to: u16,
     /// The text.
     pub text: Text,
@@ -115,7 +115,7 @@ impl TryCopy for BotWish {
 /// A line for the server.
 #[derive(Debug, Drop)]
 pub struct PutWish {
-    /// The queue that it waits in.
+    /// The queue to which it is added.
     pub queue: Queue,
     /// The line, without its CR LF.
     pub line: Text,

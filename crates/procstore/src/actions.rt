@@ -28,7 +28,7 @@ impl Model for Actions {
 }
 
 impl Actions {
-    /// No action. Takes no memory.
+    /// Creates an empty list. Does not allocate.
     pub fn empty(alloc: Global) -> Actions
         ensures { result ≡ [] }
     {
@@ -37,10 +37,10 @@ impl Actions {
         }
     }
 
-    /// This action alone.
+    /// Creates a list of `action` alone.
     ///
     /// # Errors
-    /// `NoMemory` where room for it is refused; the action is gone then.
+    /// `NoMemory` if the list can't be allocated; `action` is dropped.
     pub fn one(alloc: Global, action: Action) -> Result<Actions, NoMemory>
         ensures { IfOk result (λ actions. actions ≡ action ∷ []) }
     {
@@ -49,10 +49,10 @@ impl Actions {
         Ok(Actions { items })
     }
 
-    /// These actions. Takes no memory.
+    /// Creates the list of the actions in `items`. Does not allocate.
     ///
     /// # Errors
-    /// `TooMany` where there are more than eight; they are gone then.
+    /// `TooMany` if there are more than eight; `items` is dropped.
     pub fn from_vec(items: Vec<Action>) -> Result<Actions, ActionsFault>
         ensures actions { IfOk result (λ actions. actions ≡ items.items) }
         ensures few { IsOk result ↔ (length items.items ≤ MAX_ACTIONS) }
@@ -63,11 +63,11 @@ impl Actions {
         Ok(Actions { items })
     }
 
-    /// Puts an action after the others.
+    /// Appends `action`.
     ///
     /// # Errors
-    /// `TooMany` where there are eight, and `NoMemory` where there are fewer and room is refused. The list is as before
-    /// then, and the action is gone.
+    /// `TooMany` if there are eight actions already, and `NoMemory` if there are fewer and the list can't grow. The
+    /// list is unchanged, and `action` is dropped.
     pub fn push(&mut self, action: Action) -> Result<(), PushError>
         ensures { Pushes self.old action result self.new }
     {
@@ -78,7 +78,7 @@ impl Actions {
         Ok(())
     }
 
-    /// The actions, in order.
+    /// Returns the actions, in order.
     pub fn as_slice(&self) -> &[Action]
         ensures actions { result.now ≡ self.now }
         ensures few { length result.now ≤ MAX_ACTIONS }
@@ -86,7 +86,7 @@ impl Actions {
         self.items.as_slice()
     }
 
-    /// How many actions there are.
+    /// Returns the number of actions.
     pub fn len(&self) -> usize
         ensures count { result ≡ length self.now }
         ensures few { result ≤ MAX_ACTIONS }
@@ -94,14 +94,14 @@ impl Actions {
         self.items.len()
     }
 
-    /// Whether there is no action.
+    /// Returns whether there is no action.
     pub fn is_empty(&self) -> bool
         ensures { IsTrue result ↔ (self.now ≡ []) }
     {
         self.items.is_empty()
     }
 
-    /// The actions as a `Vec`. Takes no memory.
+    /// Returns the actions as a `Vec`. Does not allocate.
     pub fn into_vec(self) -> Vec<Action>
         ensures actions { result.items ≡ self }
         ensures few { length result.items ≤ MAX_ACTIONS }

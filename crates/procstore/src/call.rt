@@ -1,19 +1,19 @@
-// What a proc is called with.
+// The arguments of a proc's call.
 use crate::kind::Kind;
 use bytetext::{NoMemory, Texts, TryCopy};
 use std::alloc::Global;
 
-/// What a proc is called with.
+/// The arguments of a proc's call.
 #[derive(Debug)]
 pub struct Call {
     /// The kind of the event.
     pub kind: Kind,
-    /// The event's arguments, in the order of its bind type: for `pub`, say, the nick, `user@host`, the handle, the
+    /// The event's arguments, in the order that its bind type has: for `pub`, the nick, `user@host`, the handle, the
     /// channel and the text.
     pub args: Texts,
 }
 
-// By hand, so that this is proved once, and not in each function in which one ends.
+// Written by hand, so that it is proved once and not in each function that drops one.
 impl Drop for Call {
     fn drop(self) {
         let Call { kind: _, args: _ } = self;

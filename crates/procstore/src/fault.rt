@@ -1,11 +1,11 @@
-// Why a store or a list of actions refuses.
+// Why a store or a list of actions rejects a call.
 ghost use Rattle.std.specs.Prelude.{◌≡◌};
 ghost use Rattle.procstore.specs.Faults.{add_code, call_code};
 
 use bytetext::Failure;
 use thiserror::Error;
 
-/// Why a proc is not added, in the order in which it is tested.
+/// Why a proc is not added, in the order in which the causes are tested.
 #[derive(Clone, Copy, Debug, PartialEq, Eq, Error)]
 pub enum AddFault {
     /// P1: the store has a proc of this name, byte for byte.
@@ -17,7 +17,7 @@ pub enum AddFault {
 }
 
 impl AddFault {
-    /// The letter and number that transcripts print.
+    /// Returns the letter and number that transcripts print.
     pub fn code(self) -> &'static str
         ensures { result.now ≡ add_code self }
     {
@@ -28,7 +28,7 @@ impl AddFault {
     }
 }
 
-/// Why a proc was not added: a fault, or out of memory where there is none.
+/// Why a proc was not added: a fault, or out of memory if there is no fault.
 pub type AddError = Failure<AddFault>;
 
 /// Why no proc was called.
@@ -40,7 +40,7 @@ pub enum CallFault {
 }
 
 impl CallFault {
-    /// The letter and number that transcripts print.
+    /// Returns the letter and number that transcripts print.
     pub fn code(self) -> &'static str
         ensures { result.now ≡ call_code self }
     {
@@ -50,7 +50,8 @@ impl CallFault {
     }
 }
 
-/// Why a call by name has no reply: a fault, or P4, which is the proc's own want of memory. The store takes none.
+/// Why a call by name has no reply: a fault, or P4, which says that the proc itself ran out of memory. The store does
+/// not allocate.
 pub type CallError = Failure<CallFault>;
 
 /// Why a reply can't have these actions.
@@ -61,5 +62,5 @@ pub enum ActionsFault {
     TooMany,
 }
 
-/// Why an action was not put after the others: a fault, or out of memory where there is none.
+/// Why an action was not appended: a fault, or out of memory if there is no fault.
 pub type PushError = Failure<ActionsFault>;

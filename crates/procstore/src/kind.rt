@@ -1,10 +1,10 @@
-// What a proc is called for.
+// The kinds of calls.
 
-/// What a proc is called for: the kind of event of its bind, with the meaning of the Eggdrop bind type of the same word
-/// (Eggdrop 1.9, Tcl commands, "Bind types"), or a timer that is due.
+/// Why a proc is called: for the kind of event of its bind, with the meaning of the Eggdrop bind type of the same word
+/// (Eggdrop 1.9, Tcl commands, "Bind types"), or for a timer that is due.
 #[derive(Clone, Copy, Debug, PartialEq, Eq)]
 pub enum Kind {
-    /// Any line of the server, by its command.
+    /// A line of the server, by its command.
     Raw,
     /// The first word of a private message.
     Msg,
@@ -36,6 +36,6 @@ pub enum Kind {
     Time,
     /// A minute begins, by cron fields.
     Cron,
-    /// A timer or a utimer is due. It names its proc itself, and so no bind has this kind.
+    /// A timer or a utimer is due. A timer names its proc itself, so no bind has this kind.
     Timer,
 }

@@ -1,17 +1,18 @@
-//! Procs: the code that a bot's user writes, each under a name and with a promise that its every answer keeps.
+//! Procs: code that a bot's user writes, each proc with a name and a promise that its every answer keeps.
 //!
-//! A proc is called with a [`Call`], which is the [`Kind`] of an event and its arguments, and a [`View`] of its bot: the
-//! records of people and bans, the channels, and the second of its clock. It answers a [`Reply`]: a [`Code`] and at most
-//! eight [`Actions`]. It changes nothing itself: what it wants done stands in its actions, and its bot does it.
+//! The bot calls a proc with a [`Call`], which is the [`Kind`] of an event and its arguments, and a [`View`] of
+//! itself: the records of people and bans, the channels, and the second of its clock. The proc returns a [`Reply`]: a
+//! [`Code`] and at most eight [`Actions`]. It changes nothing itself: the bot carries out its actions.
 //!
-//! A [`Promise`] says what procs answer. It is written for contracts alone: for each proc name, `Call` and view the code, a
-//! relation that the actions lie in, and whether the proc may lack memory. Codes can't depend on the clock. [`Proc::new`]
-//! asks that a body keeps the promise of its name, so nothing above has to ask it again. [`ProcStore`] holds at most 200
-//! procs and calls them by name: what [`ProcStore::call`] answers is what the promise says of that name, `Call` and view,
-//! whatever closure stands there. Contracts see a store as the list of its names.
+//! A [`Promise`] says what procs answer. It exists for contracts alone: for each proc name, `Call` and view it fixes
+//! the code, a relation that the actions satisfy, and whether the proc may run out of memory. Codes can't depend on
+//! the clock. [`Proc::new`] requires that a body keeps the promise of its name, so no layer above must require it
+//! again. [`ProcStore`] holds at most 200 procs and calls them by name: the answer of [`ProcStore::call`] keeps the
+//! promise of that name, `Call` and view, whichever closure the store holds. Contracts see a store as the list of its
+//! names.
 //!
-//! A body is anything that [`Run`]s. A program's `main` boxes closures ([`Body`]), and one function that is generic in
-//! its bodies makes the store:
+//! A body is any type that implements [`Run`]. A program's `main` boxes closures ([`Body`]), and one function that is
+//! generic over its bodies creates the store:
 //!
 //! ```text
 //! struct Ours;

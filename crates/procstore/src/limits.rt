@@ -1,7 +1,7 @@
 // The limits of stores and replies.
 
-/// How many procs a store holds at most.
+/// The most procs that a store holds.
 pub const MAX_PROCS: usize = 200;
 
-/// How many actions a reply has at most.
+/// The most actions that a reply has.
 pub const MAX_ACTIONS: usize = 8;

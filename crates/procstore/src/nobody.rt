@@ -7,8 +7,8 @@ use crate::store::ProcStore;
 use crate::view::View;
 use bytetext::NoMemory;
 
-/// The procs of a store that has none. Nobody is ever put into a store, so it is never called; it would answer that it
-/// lacks memory.
+/// The procs of a store that has none. No store ever holds a `Nobody`, so nothing calls it; a call would return
+/// `NoMemory`.
 #[derive(Drop)]
 pub struct Nobody;
 

@@ -7,8 +7,8 @@ use crate::view::View;
 use bytetext::{NoMemory, Text};
 use std::marker::{Model, PhantomData};
 
-/// A proc: a body under a name, whose every answer keeps what `P` promises of that name. Contracts see the name and the
-/// body.
+/// A proc: a body with a name. Every answer of the body keeps what `P` promises for that name. Contracts see the name
+/// and the body.
 #[derive(Drop)]
 pub struct Proc<P: Promise, B: Run = Body> {
     name: Text,
@@ -31,11 +31,11 @@ impl<P: Promise, B: Run> Proc<P, B> {
     ghost use Rattle.std.specs.Prelude.{◌≡◌};
     ghost use Rattle.procstore.specs.Promises.{KeepsPromise, IsAllowed};
 
-    /// The proc of this name and body. Any bytes are a name. Takes no memory.
+    /// Creates the proc `name` with the given `body`. Any bytes are a name. Does not allocate.
     pub fn new(name: Text, body: B) -> Proc<P, B>
-        // The body may be called on every Call, whatever it sees.
+        // The body accepts every `Call`, whatever it sees.
         requires can_run { B.can_run body }
-        // Whatever it answers is what `P` promises of this name.
+        // Each of its answers keeps what `P` promises for this name.
         requires keeps { KeepsPromise P.promised name (B.answers body) }
         ensures { result ≡ record { name = name; body = body } }
     {
@@ -46,17 +46,17 @@ impl<P: Promise, B: Run> Proc<P, B> {
         }
     }
 
-    /// The name.
+    /// Returns the name.
     pub fn name(&self) -> &[u8]
         ensures { result.now ≡ self.now.name }
     {
         self.name.as_bytes()
     }
 
-    /// Calls the body.
+    /// Calls the body with `call` and `view`.
     ///
     /// # Errors
-    /// `NoMemory` where the body lacks memory, which the promise allows for this name and call.
+    /// `NoMemory` if the body runs out of memory, which the promise allows for this name and call.
     pub fn call(&self, call: &Call, view: &View<'_>) -> Result<Reply, NoMemory>
         ensures { IsAllowed P.promised self.now.name call.now view.now result }
     {

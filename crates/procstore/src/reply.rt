@@ -1,20 +1,20 @@
-// What a proc answers.
+// The reply of a proc.
 use crate::actions::Actions;
 use bytetext::{NoMemory, TryCopy};
 use std::alloc::Global;
 
 /// What a proc's answer says about the rest of its event, as the return value of a proc does in Eggdrop. After `One`
-/// from a `raw` proc nothing but the other `raw` procs sees the line; after `One` from a `msgm`, `pubm` or `notc` proc
-/// the line is not logged. For other kinds both codes mean the same.
+/// from a `raw` proc only the other `raw` procs see the line. After `One` from a `msgm`, `pubm` or `notc` proc the
+/// line is not logged. For other kinds both codes mean the same.
 #[derive(Clone, Copy, Debug, PartialEq, Eq)]
 pub enum Code {
-    /// 0: go on as if the proc had not been there.
+    /// 0: the event continues as if the proc did not exist.
     Zero,
     /// 1: the proc has dealt with the event.
     One,
 }
 
-/// What a proc answers.
+/// The reply of a proc.
 #[derive(Debug)]
 pub struct Reply {
     /// The code.
@@ -23,7 +23,7 @@ pub struct Reply {
     pub actions: Actions,
 }
 
-// By hand, so that this is proved once, and not in each function in which one ends.
+// Written by hand, so that it is proved once and not in each function that drops one.
 impl Drop for Reply {
     fn drop(self) {
         let Reply {

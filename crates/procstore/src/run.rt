@@ -4,10 +4,10 @@ use crate::reply::Reply;
 use crate::view::View;
 use bytetext::NoMemory;
 
-/// What can be called with a [`Call`] and a [`View`] of its bot and answers a [`Reply`]: a proc's body.
+/// The body of a proc: it is called with a [`Call`] and a [`View`] of its bot and returns a [`Reply`].
 ///
-/// Its two ghost members are for contracts. `can_run` is what must hold of a body so that it may be called on every
-/// `Call`. `answers` relates a body, a `Call` and what it sees to what it may answer.
+/// The two ghost members are for contracts. `can_run` must hold of a body so that it can be called with every `Call`.
+/// `answers` relates a body, a `Call` and what the body sees to what it may answer.
 pub trait Run: Drop {
     ghost use Rattle.std.specs.Prelude.{Result};
     ghost use Rattle.bytetext.specs.declared.memory.NoMemory.{NoMemory};
@@ -19,16 +19,16 @@ pub trait Run: Drop {
 
     ghost answers: { Self → Call → Seen → Result Reply NoMemory → Type 0 };
 
-    /// Calls the body.
+    /// Calls the body with `call` and `view`.
     ///
     /// # Errors
-    /// `NoMemory` where the body lacks memory.
+    /// `NoMemory` if the body runs out of memory.
     fn run(&self, call: &Call, view: &View<'_>) -> Result<Reply, NoMemory>
         requires { can_run self.now }
         ensures { answers self.now call.now view.now result };
 }
 
-/// A closure in a box, as a program's `main` makes it. A closure that makes lists holds an allocator of its own.
+/// A boxed closure, as a program's `main` creates it. A closure that builds lists holds an allocator of its own.
 pub type Body = Box<dyn Fn(&Call, &View<'_>) -> Result<Reply, NoMemory>>;
 
 impl Run for Body {

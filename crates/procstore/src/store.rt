@@ -43,9 +43,9 @@ impl<P: Promise, B: Run> Model for ProcStore<P, B> {
 /// A proc that was not added, and why.
 #[derive(Drop)]
 pub struct NotAdded<P: Promise, B: Run = Body> {
-    /// The proc, as it was handed in.
+    /// The proc that the caller passed.
     pub proc: Proc<P, B>,
-    /// Why the store does not take it.
+    /// Why the store does not add it.
     pub why: AddError,
 }
 
@@ -54,7 +54,7 @@ impl<P: Promise, B: Run> ProcStore<P, B> {
     ghost use Rattle.std.specs.Option.{option_copied};
     ghost use Rattle.procstore.specs.Calling.{holds, refusal, IsWhy, IsCalled};
 
-    /// A store without procs. Takes no memory.
+    /// Creates a store without procs. Does not allocate.
     pub fn new(alloc: Global) -> ProcStore<P, B>
         ensures { result ≡ [] }
     {
@@ -63,7 +63,7 @@ impl<P: Promise, B: Run> ProcStore<P, B> {
         }
     }
 
-    /// How many procs there are.
+    /// Returns the number of procs.
     pub fn len(&self) -> usize
         ensures count { result ≡ length self.now }
         ensures few { result ≤ MAX_PROCS }
@@ -71,14 +71,14 @@ impl<P: Promise, B: Run> ProcStore<P, B> {
         self.procs.len()
     }
 
-    /// Whether there is a proc of this name, byte for byte.
+    /// Returns whether a proc has this `name`, byte for byte.
     pub fn holds(&self, name: &[u8]) -> bool
         ensures { result ≡ holds self.now name.now }
     {
         self.procs.contains_key(name)
     }
 
-    /// The name of the proc that was added at this place, from 0; none after the last.
+    /// Returns the name of the proc at `place` in the order of adding, from 0; none after the last.
     pub fn name_at(&self, place: usize) -> Option<&[u8]>
         ensures { option_copied result ≡ slice_get self.now place }
     {
@@ -88,11 +88,11 @@ impl<P: Promise, B: Run> ProcStore<P, B> {
         }
     }
 
-    /// Adds a proc after the others.
+    /// Appends `proc`.
     ///
     /// # Errors
-    /// `NameTaken` (P1) where there is a proc of its name, `Full` (P2) where there are 200 procs, and `NoMemory` where
-    /// neither holds and room is refused. The store is as before then, and the proc is handed back.
+    /// `NameTaken` (P1) if a proc has its name, `Full` (P2) if there are 200 procs, and `NoMemory` if neither holds
+    /// and the store can't grow. The store is unchanged and returns `proc`.
     pub fn add(&mut self, alloc: Global, proc: Proc<P, B>) -> Result<(), NotAdded<P, B>>
         ensures added { OnOk result (self.new ≡ self.old ++ proc.name ∷ []) }
         ensures allowed { OnOk result (refusal self.old proc.name ≡ None) }
@@ -118,7 +118,7 @@ impl<P: Promise, B: Run> ProcStore<P, B> {
         }
     }
 
-    // Why no proc of this name can be added.
+    // Returns why no proc of this name can be added.
     fn refusal_of(&self, name: &[u8]) -> Option<AddFault>
         ensures { result ≡ refusal self.now name.now }
     {
@@ -131,10 +131,10 @@ impl<P: Promise, B: Run> ProcStore<P, B> {
         None
     }
 
-    /// Calls the proc of this name, which sees this of its bot. The store itself takes no memory.
+    /// Calls the proc `name` with `call` and `view`. The store itself does not allocate.
     ///
     /// # Errors
-    /// `NoSuchProc` (P3) where no proc has this name, and only there. `NoMemory` (P4) where the proc lacks memory and its
+    /// `NoSuchProc` (P3) if and only if no proc has this name. `NoMemory` (P4) if the proc runs out of memory and its
     /// promise allows that for this call.
     pub fn call(&self, name: &[u8], call: &Call, view: &View<'_>) -> Result<Reply, CallError>
         ensures { IsCalled P.promised self.now name.now call.now view.now result }
@@ -146,7 +146,7 @@ impl<P: Promise, B: Run> ProcStore<P, B> {
     }
 }
 
-// What a proc answered, as the answer to a call by name.
+// Turns the answer of a proc into the answer of a call by name.
 fn as_called(answer: Result<Reply, NoMemory>) -> Result<Reply, CallError>
     ensures { result ≡ as_called answer }
 {

@@ -3,7 +3,8 @@ use chanstate::ChanState;
 use std::marker::Model;
 use userfile::Userfile;
 
-/// What a proc sees of its bot. The bot lends it for the call, and no action of the event is done before it.
+/// What a proc sees of its bot. The bot lends it for the call, and carries out the actions of the event only
+/// afterwards.
 #[derive(Drop)]
 pub struct View<'a> {
     userfile: &'a Userfile,
@@ -22,7 +23,8 @@ impl<'a> Model for View<'a> {
 impl<'a> View<'a> {
     ghost use Rattle.std.specs.Prelude.{◌≡◌};
 
-    /// The view of a bot with these records and channels, whose clock shows this second. Takes no memory.
+    /// Creates the view of a bot with this `userfile` and these `channels`, whose clock shows `second`. Does not
+    /// allocate.
     pub fn new(userfile: &'a Userfile, channels: &'a ChanState, second: Option<u64>) -> View<'a>
         ensures { result ≡ record { sight = record { records = userfile.now; channels = channels.now }; second = second } }
     {
@@ -33,22 +35,22 @@ impl<'a> View<'a> {
         }
     }
 
-    /// Who people are, with which flags, and who is banned.
+    /// Returns the people with their flags, and the bans.
     pub fn userfile(&self) -> &Userfile
         ensures { result.now ≡ self.now.sight.records }
     {
         self.userfile
     }
 
-    /// The channels that the bot is on, who is on them, and the bot's own nick.
+    /// Returns the channels that the bot is on, who is on them, and the bot's own nick.
     pub fn channels(&self) -> &ChanState
         ensures { result.now ≡ self.now.sight.channels }
     {
         self.channels
     }
 
-    /// The second that the bot's clock shows, counted from the start of 1970; none before its first reading. Of procs that
-    /// a reading calls it is that reading, from which the timers that they ask for count.
+    /// Returns the second that the bot's clock shows, counted from the start of 1970; none before its first reading.
+    /// When a reading calls a proc, it is that reading, from which the proc's timers count.
     pub fn second(&self) -> Option<u64>
         ensures { result ≡ self.now.second }
     {

@@ -1,4 +1,4 @@
--- What is promised of each moment, of each step and of each run.
+-- What the link promises of each moment, of each step and of each run.
 use Rattle.std.specs.Prelude.{◌≡◌, ◌⊎◌, ◌+◌, ℕ, zero, suc, ◌≤◌, List, [], ◌∷◌, length, slice_get, Option, Some, Result, Ok, Err}
 use Rattle.std.specs.Option.{option_map}
 use Rattle.std.specs.List.{AllByRecursion}
@@ -21,9 +21,9 @@ use Rattle.protocol.specs.Soundness.{IsSound}
 use Rattle.protocol.specs.Standing.{Stands}
 use Rattle.protocol.specs.Network.{Net, Step, Outcome, Report, OutOfMemory, NoSuchBot, NoSuchPacket, Course, Stepped, stepped}
 
--- ---- what is seen
+-- ---- what can be observed
 
--- the version that a bot shows, and its records; none where there is no such bot
+-- the version that a bot shows, and its records; none if there is no such bot
 abbrev pub shown_version : Net → ℕ → Option ℕ
 shown_version net zero = Some (version_of net.hub.kept)
 shown_version net (suc place) = option_map (λ (leaf : Leaf). leaf.kept.version) (slice_get net.leaves place)
@@ -36,7 +36,7 @@ shown_records net (suc place) = option_map (λ (leaf : Leaf). leaf.kept.records)
 abbrev pub WasSent : History → Packet → Type 0
 WasSent h packet = (number : ℕ) × (sent : Sent) × (item_at h.packets number ≡ Some sent) × (sent.packet ≡ packet)
 
--- this change of the hub's or of a leaf's was accepted under a number
+-- this change, of the hub's or of a leaf's, was accepted under a number
 abbrev pub WasAccepted : History → ℕ → AcceptedChange → Type 0
 WasAccepted h number entry = item_at h.hub.kept.accepted number ≡ Some entry
 
@@ -53,10 +53,10 @@ pub record Holds (net : Net) (h : History) : Type 0 where
   pub within : (bot version : ℕ) → shown_version net bot ≡ Some version → version ≤ length h.hub.kept.accepted
   -- a leaf's request is accepted at most once
   pub once : (n m place request : ℕ) (a b : UserChange) → WasTaken h n (suc place) request a → WasTaken h m (suc place) request b → n ≡ m
-  -- an accepted request is told under its number
+  -- the hub reports an accepted request under its number
   pub told : (n m place request : ℕ) (change : UserChange) → WasTaken h n (suc place) request change
       → WasSent h (Accepted (suc place) request m) → m ≡ n
-  -- and never as refused
+  -- and never as rejected
   pub not_refused : (n place request : ℕ) (change : UserChange) (fault : ChangeFault) → WasTaken h n (suc place) request change
       → WasSent h (Refused (suc place) request fault) → ⊥
   -- its change is the one that the leaf asked for
@@ -134,13 +134,13 @@ pub record Ends (net : Net) (h : History) (made : List Made) : Type 0 where
   pub stands : Stands (net_after net made) after
   pub sound : IsSound after
 
--- ---- when the hub's version moves, and what a call that is done has done
+-- ---- when the hub's version moves, and what a finished call has done
 
--- a step told that this version was reached: the hub accepted a change, or a restart found that it had
+-- a step reported that this version was reached: the hub accepted a change, or a restart found that it had
 abbrev pub TellsOf : ℕ → Outcome → Type 0
 TellsOf version outcome = (outcome ≡ Report 0 (Ok (Note.Accepted version))) ⊎ (outcome ≡ Report 0 (Ok (Note.Restarted version)))
 
--- the hub's version stays, or it is one more and the step told so
+-- the hub's version stays, or it is one more and the step reported so
 abbrev pub MovesAsTold : Net → Stepped → Type 0
 MovesAsTold old made =
     (version_of made.after.hub.kept ≡ version_of old.hub.kept)

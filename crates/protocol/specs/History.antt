@@ -12,13 +12,15 @@ use Rattle.protocol.specs.Bots.{Bot}
 use Rattle.protocol.specs.HubRules.{HubRecord, Accept, Settle, Rebase}
 use Rattle.protocol.specs.LeafRules.{LeafRecord, Apply, Out, Done, Install, Compact, LeafLoose, no_loose, without, with_request}
 
--- all accepted changes; for each leaf all answers to its requests, of which the answer to request r is the r-th; and the floor
+-- all accepted changes; for each leaf all answers to its requests, of which the answer to request r is the r-th; and
+-- the floor
 pub record PastHub : Type 0 where
   pub accepted : List AcceptedChange
   pub answers : ℕ → List Answer
   pub floor : ℕ
 
--- a leaf's version; all changes that it gave a request number, of which that of request r is the r-th; and the requests that are out
+-- a leaf's version; all changes that it gave a request number, of which that of request r is the r-th; and its
+-- outstanding requests
 pub record PastLeaf : Type 0 where
   pub version : ℕ
   pub asked : List UserChange
@@ -54,7 +56,7 @@ abbrev pub changes_of : List AcceptedChange → List UserChange
 changes_of [] = []
 changes_of (entry ∷ entries) = entry.change ∷ changes_of entries
 
--- the records at a version: what the first so many accepted changes make
+-- the records at a version: the result of that many accepted changes, from the first on
 abbrev pub records_of : List AcceptedChange → ℕ → Records
 records_of accepted version = records_at (changes_of accepted) version
 

@@ -19,9 +19,9 @@ use Rattle.protocol.specs.Snapshots.{part_count, part_of}
 
 -- ---- what a hub is
 
--- what outlives a restart: the floor, which is the version of the journal's base; the changes accepted since; the records at
--- the hub's version; for each leaf, at its place, the last replies to it, at most eight, the oldest first; and the journal's
--- generation
+-- what survives a restart: the floor, which is the version of the journal's base; the changes accepted since; the
+-- records at the hub's version; for each leaf, at its place, the last replies to it, at most eight, the oldest first;
+-- and the journal's generation
 pub record HubState : Type 0 where
   pub floor : ℕ
   pub tail : List AcceptedChange
@@ -29,13 +29,13 @@ pub record HubState : Type 0 where
   pub replies : List (List Reply)
   pub generation : ℕ
 
--- what a hub journals: an accepted change, the refusal of a leaf's next request, or its state alone
+-- what a hub journals: an accepted change, the rejection of a leaf's next request, or its state alone
 pub data HubRecord : Type 0 where
   Accept : AcceptedChange → HubRecord
   Settle : (leaf : ℕ) → ChangeFault → HubRecord
   Rebase : HubRecord
 
--- a hub, and the asks that wait, which a restart loses
+-- a hub, and the waiting asks, which a restart loses
 abbrev pub Hub : Type 0
 Hub = Bot HubState (List UserChange) HubRecord
 
@@ -43,7 +43,7 @@ Hub = Bot HubState (List UserChange) HubRecord
 abbrev pub version_of : HubState → ℕ
 version_of hub = hub.floor + length hub.tail
 
--- the number of a reply's request: 0 where there is no reply
+-- the number of a reply's request: 0 if there is no reply
 abbrev pub request_number : Option Reply → ℕ
 request_number None = 0
 request_number (Some reply) = reply.request
@@ -52,7 +52,7 @@ request_number (Some reply) = reply.request
 abbrev pub last_request : List Reply → ℕ
 last_request kept = request_number (last_item kept)
 
--- the replies that are kept at a leaf's place: none where it has no place
+-- the replies that are kept at a leaf's place: none if it has no place
 abbrev pub kept_in : Option (List Reply) → List Reply
 kept_in None = []
 kept_in (Some kept) = kept
@@ -75,16 +75,17 @@ pub record AreInTurn (kept : List Reply) : Type 0 where
   pub numbered : AreNumbered first kept
   pub few : length kept ≤ 8
 
--- the replies to a leaf with that to its next request, after which the last eight are kept
+-- the replies to a leaf after that to its next request is added; only the last eight are kept
 abbrev pub with_next : ℕ → Answer → List Reply → List Reply
 with_next leaf answer kept = last_eight (kept ++ record { leaf = leaf; request = last_request kept + 1; answer = answer } ∷ [])
 
--- the reply to a leaf's next request at the leaf's place; the hub's own changes have none
+-- the reply to a leaf's next request, put at the leaf's place; the hub's own changes have none
 abbrev pub with_reply : List (List Reply) → ℕ → Answer → List (List Reply)
 with_reply replies zero answer = replies
 with_reply replies (suc place) answer = slice_set replies place (with_next (suc place) answer (kept_in (slice_get replies place)))
 
--- a record that is kept: the call, the restart that finds it and the journal that is read all fold it in so
+-- a record that is kept: the call, the restart that finds it and the reading of the journal all fold it in by this
+-- function
 abbrev pub hub_folded : HubState → HubRecord → HubState
 hub_folded old (Accept entry) = record old {
   tail = old.tail ++ entry ∷ [];
@@ -96,24 +97,24 @@ hub_folded old Rebase = record old { floor = version_of old; tail = []; generati
 
 -- ---- what is sent
 
--- what a hello at the floor or above is answered with: the changes that follow, at most 16
+-- the answer to a hello at the floor or above: the changes that follow, at most 16
 abbrev pub changes_from : HubState → ℕ → ℕ → List Outgoing
 changes_from hub leaf version = numbered_from leaf version (take 16 (drop (version - hub.floor) hub.tail))
 
--- so many parts of the records at the hub's version
+-- this number of parts of the records at the hub's version
 abbrev pub parts_from : HubState → ℕ → ℕ → ℕ → List Outgoing
 parts_from hub leaf first zero = []
 parts_from hub leaf first (suc count) =
     record { to = leaf; packet = Part (version_of hub) first (part_count hub.records) (part_of hub.records first) }
     ∷ parts_from hub leaf (first + 1) count
 
--- what a hello below the floor is answered with: all parts
+-- the answer to a hello below the floor: all parts
 abbrev pub all_parts : HubState → ℕ → List Outgoing
 all_parts hub leaf = parts_from hub leaf 1 (part_count hub.records)
 
 -- ---- the calls
 
--- the reply to the request of this number, where it is kept
+-- the reply to the request of this number, if it is kept
 abbrev pub reply_to : ℕ → List Reply → Option Reply
 reply_to request [] = None
 reply_to request (reply ∷ replies) = if reply.request == request then Some reply else reply_to request replies
@@ -122,7 +123,7 @@ reply_to request (reply ∷ replies) = if reply.request == request then Some rep
 abbrev pub is_no_leaf : ℕ → ℕ → Bool
 is_no_leaf leaves leaf = (leaf == 0) || nat_lt leaves leaf
 
--- an ask of good shape waits where fewer than 64 do
+-- an ask of good shape waits if fewer than 64 wait already
 abbrev pub ask_taken : {S : Type 0} → S → S → ℕ → Option ChangeFault → Row S
 ask_taken old with_it waiting (Some fault) = refused (BadChange fault) old
 ask_taken old with_it waiting None = if nat_lt waiting 64 then noted Queued with_it else refused AsksFull old
@@ -131,19 +132,19 @@ abbrev pub hub_asked : Hub → UserChange → Row Hub
 hub_asked old change =
     unless_down old (ask_taken old (record old { loose = old.loose ++ change ∷ [] }) (length old.loose) (bad_shape change))
 
--- no such bot, the sender itself, or no text that a bot may tell another
+-- no such bot, the sender itself, or a text that no bot may send another
 abbrev pub is_bad_text : ℕ → ℕ → ℕ → List ℕ → Bool
 is_bad_text leaves number to text = nat_lt leaves to || (to == number) || not (is_bot_text text)
 
--- a text on its way to another bot, told to the bot that takes it next
+-- a text to another bot, sent to the bot that takes it next
 abbrev pub text_told : {S : Type 0} → S → ℕ → ℕ → ℕ → ℕ → List ℕ → Row S
 text_told old leaves number next to text =
     if is_bad_text leaves number to text then refused BadBotText old
     else record { told = Ok Relayed; sends = record { to = next; packet = BotText number to text } ∷ []; after = old }
 
 module _ (leaves : ℕ) (how : How) (old : Hub) where
-  -- a change is accepted under the next number while there is one: it is journaled, and goes to each leaf, after what else is
-  -- to be sent
+  -- a change is accepted under the next number if there is one: it is journaled, and goes to each leaf, after the
+  -- packets that go first
   abbrev pub accepts : AcceptedChange → List Outgoing → List UserChange → Row Hub
   accepts entry first waiting =
       if nat_lt (version_of old.kept) last_number
@@ -151,7 +152,7 @@ module _ (leaves : ℕ) (how : How) (old : Hub) where
       (first ++ to_each 1 leaves (change_packet (version_of old.kept + 1) entry)) waiting
       else refused NumbersSpent old
 
-  -- the oldest ask, with those after it: where the records refuse it, it is gone; else it is accepted
+  -- the oldest ask, with those after it: if the records refuse it, it is dropped; otherwise it is accepted
   abbrev pub ask_served : UserChange → List UserChange → Option ChangeFault → Row Hub
   ask_served change rest (Some fault) = noted (Refused fault) (record old { loose = rest })
   ask_served change rest None = accepts (own change) [] rest
@@ -164,11 +165,11 @@ module _ (leaves : ℕ) (how : How) (old : Hub) where
   abbrev pub hub_pumped : Row Hub
   hub_pumped = unless_down old (hub_pumped_up old.loose)
 
-  -- a leaf is told what became of its request
+  -- the hub tells a leaf the outcome of its request
   abbrev pub replied : ℕ → ℕ → Answer → List Outgoing
   replied leaf request answer = record { to = leaf; packet = answer_packet leaf request answer } ∷ []
 
-  -- a leaf's next request is settled: a refusal is journaled too, before it is sent
+  -- a leaf's next request is settled: a rejection is journaled too, before it is sent
   abbrev pub next_request : ℕ → ℕ → UserChange → Option ChangeFault → Row Hub
   next_request leaf request change (Some fault) =
       journals hub_folded how old (Settle leaf fault) (Refused fault) (replied leaf request (refused_request fault)) old.loose
@@ -176,7 +177,7 @@ module _ (leaves : ℕ) (how : How) (old : Hub) where
       accepts (record { origin = leaf; request = request; change = change })
       (replied leaf request (Taken (version_of old.kept + 1))) old.loose
 
-  -- a request that was replied to is answered with that reply, where it is still kept
+  -- the hub answers a request that it has replied to with the same reply, if it still keeps that
   abbrev pub repeats : ℕ → ℕ → Option Reply → Row Hub
   repeats leaf request None = noted Old old
   repeats leaf request (Some reply) = record { told = Ok Repeat; sends = replied leaf request reply.answer; after = old }
@@ -196,12 +197,12 @@ module _ (leaves : ℕ) (how : How) (old : Hub) where
   abbrev pub served_with : List Outgoing → Row Hub
   served_with packets = record { told = Ok (Served (length packets)); sends = packets; after = old }
 
-  -- a hello is answered with changes, or with parts where the changes are no longer there
+  -- a hello is answered with changes, or with parts if the hub no longer has the changes
   abbrev pub hello_served : ℕ → ℕ → Bool → Row Hub
   hello_served leaf version true = served_with (all_parts old.kept leaf)
   hello_served leaf version false = served_with (changes_from old.kept leaf version)
 
-  -- a text for the hub, or one that goes on
+  -- a text for the hub, or one that the hub passes on
   abbrev pub text_passed : ℕ → ℕ → List ℕ → Row Hub
   text_passed from zero text = noted (Text from text) old
   text_passed from (suc to) text =
@@ -227,7 +228,7 @@ module _ (leaves : ℕ) (how : How) (old : Hub) where
   abbrev pub hub_received : Packet → Row Hub
   hub_received packet = unless_down old (hub_received_up packet)
 
-  -- the state alone goes into the journal, in the next generation while there is one
+  -- the state alone goes into the journal, in the next generation if there is one
   abbrev pub hub_compacted : Row Hub
   hub_compacted = unless_down old (
       if nat_lt old.kept.generation last_number then journals hub_folded how old Rebase Compacted [] old.loose

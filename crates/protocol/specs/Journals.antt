@@ -17,7 +17,7 @@ use Rattle.protocol.specs.LeafRules.{LeafState, LeafRecord, Apply, Out, Done, In
 
 -- ---- reading entries
 
--- one entry more: none where it is no record of this state
+-- one more entry: none if it is no record of this state
 abbrev pub read_next : {Kept Record : Type 0} → (Kept → Entry → Option Record) → (Kept → Record → Kept) → Option Kept → Entry
     → Option Kept
 read_next record_of folded None entry = None
@@ -29,7 +29,7 @@ abbrev pub reads : {Kept Record : Type 0} → (Kept → Entry → Option Record)
 reads record_of folded start [] = start
 reads record_of folded start (entry ∷ entries) = reads record_of folded (read_next record_of folded start entry) entries
 
--- records that stand together in one userfile
+-- records that one userfile can hold together
 abbrev pub stand_together : Records → Bool
 stand_together records = is_none (records_fault records.users records.bans)
 
@@ -72,21 +72,21 @@ hub_base hub = record {
   out = [];
 }
 
--- the reply is to one of so many leaves, which are numbered from 1 on
+-- the reply is to one of this number of leaves, which are numbered from 1 on
 abbrev pub is_to_leaf : ℕ → Reply → Bool
 is_to_leaf leaves reply = nat_lt 0 reply.leaf && nat_le reply.leaf leaves
 
--- the base is a hub's with no more than so many leaves
+-- the base is a hub's with at most this number of leaves
 abbrev pub is_hub_base : ℕ → Base → Bool
 is_hub_base leaves base =
     (base.bot == 0) && (list_all (is_to_leaf leaves) base.replies && stand_together (records_from base.records))
 
--- the request is the leaf's next one, of a leaf that has a place
+-- the request is the leaf's next one, and the leaf has a place
 abbrev pub is_next_of : Option (List Reply) → ℕ → Bool
 is_next_of None request = false
 is_next_of (Some kept) request = request == (last_request kept + 1)
 
--- so is an accepted change's; the hub's own has request number 0
+-- the same for an accepted change; the hub's own has request number 0
 abbrev pub is_next : List (List Reply) → ℕ → ℕ → Bool
 is_next replies zero request = request == 0
 is_next replies (suc place) request = is_next_of (slice_get replies place) request
@@ -94,7 +94,7 @@ is_next replies (suc place) request = is_next_of (slice_get replies place) reque
 abbrev pub record_if : {Record : Type 0} → Bool → Record → Option Record
 record_if may entry = if may then Some entry else None
 
--- what an entry tells a hub in this state: none where it isn't the hub's, or can't be the next
+-- what an entry means to a hub in this state: none if it isn't the hub's, or can't be the next
 abbrev pub hub_record : HubState → Entry → Option HubRecord
 hub_record hub (Accepted origin request change) =
     record_if (is_none (refusal hub.records change) && (nat_lt (version_of hub) last_number && is_next hub.replies origin request))
@@ -104,14 +104,14 @@ hub_record hub (Applied number change) = None
 hub_record hub (ReqOut request change) = None
 hub_record hub (ReqDone request) = None
 
--- what the contents of a journal mean to a hub with so many leaves
+-- what the contents of a journal mean to a hub with this number of leaves
 abbrev pub hub_meaning : ℕ → Contents → Option HubState
 hub_meaning leaves contents =
     if is_hub_base leaves contents.base
     then reads hub_record hub_folded (Some (hub_of leaves contents.generation contents.base)) contents.entries
     else None
 
--- what a record makes of the contents: an entry more, or another base
+-- what a record makes of the contents: one more entry, or another base
 abbrev pub hub_written : Contents → HubState → HubRecord → Contents
 hub_written contents hub (Accept entry) = added (Accepted entry.origin entry.request entry.change) contents
 hub_written contents hub (Settle leaf fault) = added (Settled leaf (next_number (item_at hub.replies leaf)) fault) contents
@@ -125,11 +125,12 @@ HubMay hub (Accept entry) =
 HubMay hub (Settle leaf fault) = is_some (item_at hub.replies leaf) ≡ true
 HubMay hub Rebase = Unit {0}
 
--- all of them are to this leaf
+-- all replies are to this leaf
 abbrev pub AreTo : ℕ → List Reply → Type 0
 AreTo leaf kept = AllByRecursion (λ (reply : Reply). reply.leaf ≡ leaf) kept
 
--- the state of a hub with so many leaves: a place for each leaf, the replies to it there, and the records of a userfile
+-- the state of a hub with this number of leaves: a place for each leaf, the replies to it there, and the records of a
+-- userfile
 pub record IsHubState (leaves : ℕ) (hub : HubState) : Type 0 where
   pub places : length hub.replies ≡ leaves
   pub placed : (place : ℕ) (kept : List Reply) → slice_get hub.replies place ≡ Some kept → AreTo (suc place) kept
@@ -159,11 +160,11 @@ leaf_base number leaf = record {
   out = leaf.out;
 }
 
--- the base is that leaf's
+-- the base is that of the leaf with this number
 abbrev pub is_leaf_base : ℕ → Base → Bool
 is_leaf_base number base = (base.bot == number) && stand_together (records_from base.records)
 
--- what an entry tells a leaf in this state: none where it isn't a leaf's, or can't be the next
+-- what an entry means to a leaf in this state: none if it isn't a leaf's, or can't be the next
 abbrev pub leaf_record : LeafState → Entry → Option LeafRecord
 leaf_record leaf (Applied number change) =
     record_if (is_none (refusal leaf.records change) && (number == (leaf.version + 1))) (Apply change)
@@ -197,7 +198,7 @@ LeafMay leaf (Done request) = is_out request leaf.out ≡ true
 LeafMay leaf (Install version records) = AreSound records
 LeafMay leaf Compact = Unit {0}
 
--- the state of a leaf: the records of a userfile, and requests that may be out, as those of a base
+-- the state of a leaf: the records of a userfile, and requests that may be outstanding, as those of a base
 pub record IsLeafState (leaf : LeafState) : Type 0 where
   pub records : AreSound leaf.records
   pub out : are_out leaf.last leaf.out ≡ true

@@ -22,8 +22,8 @@ use Rattle.protocol.specs.HubRules.{ask_taken}
 
 -- ---- what a leaf is
 
--- what outlives a restart: the version and its records, the last request number, the requests that are out, by rising number,
--- and the generation of the journal
+-- what survives a restart: the version and its records, the last request number, the outstanding requests, by rising
+-- number, and the generation of the journal
 pub record LeafState : Type 0 where
   pub version : ℕ
   pub records : Records
@@ -31,7 +31,7 @@ pub record LeafState : Type 0 where
   pub out : List OutRequest
   pub generation : ℕ
 
--- what a restart loses: the asks that wait, and the parts that are kept
+-- what a restart loses: the waiting asks, and the parts that are kept
 pub record LeafLoose : Type 0 where
   pub waiting : List UserChange
   pub parts : Option PartSet
@@ -40,8 +40,8 @@ pub record LeafLoose : Type 0 where
 abbrev pub no_loose : LeafLoose
 no_loose = record { waiting = []; parts = None }
 
--- what a leaf journals: the next change is applied, a change goes out under the next request number, the request of this number
--- that is out was replied to, records of a version take the place of what there was, or the state alone
+-- what a leaf journals: it applies the next change; it sends a change under the next request number; the outstanding
+-- request of this number got its reply; the records of a version replace its records; or its state alone
 pub data LeafRecord : Type 0 where
   Apply : UserChange → LeafRecord
   Out : UserChange → LeafRecord
@@ -52,9 +52,9 @@ pub data LeafRecord : Type 0 where
 abbrev pub Leaf : Type 0
 Leaf = Bot LeafState LeafLoose LeafRecord
 
--- ---- the requests that are out
+-- ---- the outstanding requests
 
--- the request of this number is out
+-- the request of this number is outstanding
 abbrev pub is_out : ℕ → List OutRequest → Bool
 is_out number [] = false
 is_out number (request ∷ requests) = (request.number == number) || is_out number requests
@@ -64,16 +64,16 @@ abbrev pub without : ℕ → List OutRequest → List OutRequest
 without number [] = []
 without number (request ∷ requests) = if request.number == number then requests else request ∷ without number requests
 
--- the number of a request: 0 where there is none
+-- the number of a request: 0 if there is none
 abbrev pub number_of : Option OutRequest → ℕ
 number_of None = 0
 number_of (Some request) = request.number
 
--- the highest number that is out
+-- the highest outstanding number
 abbrev pub highest : List OutRequest → ℕ
 highest out = number_of (last_item out)
 
--- the number after the last is less than eight above the lowest that is out
+-- the number after the last is less than eight above the lowest outstanding number
 abbrev pub has_room : ℕ → List OutRequest → Bool
 has_room last [] = true
 has_room last (request ∷ requests) = nat_lt (last + 1) (request.number + 8)
@@ -82,11 +82,12 @@ has_room last (request ∷ requests) = nat_lt (last + 1) (request.number + 8)
 abbrev pub may_go_out : ℕ → List OutRequest → Bool
 may_go_out last out = nat_lt last last_number && has_room last out
 
--- with a change out under this number
+-- the outstanding requests with one more, for this change and under this number
 abbrev pub with_request : ℕ → UserChange → List OutRequest → List OutRequest
 with_request number change out = out ++ record { number = number; change = change } ∷ []
 
--- a record that is kept: the call, the restart that finds it and the journal that is read all fold it in so
+-- a record that is kept: the call, the restart that finds it and the reading of the journal all fold it in by this
+-- function
 abbrev pub leaf_folded : LeafState → LeafRecord → LeafState
 leaf_folded old (Apply change) = record old { version = old.version + 1; records = changed old.records change }
 leaf_folded old (Out change) = record old { last = old.last + 1; out = with_request (old.last + 1) change old.out }
@@ -102,28 +103,28 @@ leaf_asked old change =
     (record old { loose = record old.loose { waiting = old.loose.waiting ++ change ∷ [] } }) (length old.loose.waiting) (bad_shape change))
 
 module _ (leaves number : ℕ) (how : How) (old : Leaf) where
-  -- the leaf tells the hub its layout and its version
+  -- the leaf's hello to the hub: its layout and its version
   abbrev pub hello : Outgoing
   hello = record { to = 0; packet = Hello LAYOUT number old.kept.version }
 
-  -- the leaf asks the hub for these changes
+  -- the leaf's requests to the hub for these changes
   abbrev pub asking : List OutRequest → List Outgoing
   asking [] = []
   asking (request ∷ requests) = record { to = 0; packet = Request number request.number request.change } ∷ asking requests
 
-  -- what is out goes again, after a hello
+  -- after a hello, the leaf sends the outstanding requests again
   abbrev pub sent_again : List OutRequest → Row Leaf
   sent_again [] = record { told = Ok Idle; sends = hello ∷ []; after = old }
   sent_again (request ∷ requests) =
       record { told = Ok (Sent (highest (request ∷ requests))); sends = hello ∷ asking (request ∷ requests); after = old }
 
-  -- the next request waits: what is out goes again, and where nothing is, the numbers are spent
+  -- the next request has to wait: the leaf sends the outstanding ones again; if there are none, the numbers are used up
   abbrev pub held_back : List OutRequest → Row Leaf
   held_back [] = refused NumbersSpent old
   held_back (request ∷ requests) = sent_again (request ∷ requests)
 
-  -- the oldest ask gets the next request number where it may go out, is journaled, and goes after what is out; a hello goes
-  -- first
+  -- if it may go out, the oldest ask gets the next request number, is journaled, and goes after the outstanding
+  -- requests; a hello goes first
   abbrev pub leaf_pumped_up : List OutRequest → List UserChange → Row Leaf
   leaf_pumped_up out [] = sent_again out
   leaf_pumped_up out (change ∷ rest) =
@@ -135,7 +136,7 @@ module _ (leaves number : ℕ) (how : How) (old : Leaf) where
   abbrev pub leaf_pumped : Row Leaf
   leaf_pumped = unless_down old (leaf_pumped_up old.kept.out old.loose.waiting)
 
-  -- what the hub says can't be of these records; the parts that are kept are dropped
+  -- what the hub sent doesn't fit these records; the leaf drops the parts that it kept
   abbrev pub diverged : Row Leaf
   diverged = refused Diverged (record old { loose = record old.loose { parts = None } })
 
@@ -143,7 +144,7 @@ module _ (leaves number : ℕ) (how : How) (old : Leaf) where
   next_applied change (Some fault) = diverged
   next_applied change None = journals leaf_folded how old (Apply change) (Applied (old.kept.version + 1)) [] old.loose
 
-  -- the change that is numbered one above the version is applied, and no other
+  -- the leaf applies the change that is numbered one above its version, and no other
   abbrev pub change_placed : UserChange → Place → Row Leaf
   change_placed change Below = noted Old old
   change_placed change Same = noted Old old
@@ -155,7 +156,7 @@ module _ (leaves number : ℕ) (how : How) (old : Leaf) where
   note_of (Taken n) = Accepted n
   note_of (refused_request fault) = Refused fault
 
-  -- a reply to a request that is out ends it
+  -- a reply to an outstanding request ends it
   abbrev pub reply_taken : ℕ → Answer → Bool → Row Leaf
   reply_taken request answer false = noted Old old
   reply_taken request answer true = journals leaf_folded how old (Done request) (note_of answer) [] old.loose
@@ -165,7 +166,8 @@ module _ (leaves number : ℕ) (how : How) (old : Leaf) where
       if not (leaf == number) || (request == 0) then noted Stray old
       else reply_taken request answer (is_out request old.kept.out)
 
-  -- the whole set: its records are put in place where they stand together, in the next generation while there is one
+  -- the whole set: its records replace the leaf's if one userfile can hold them together, in the next generation if
+  -- there is one
   abbrev pub installed : ℕ → Records → Option ChangeFault → Row Leaf
   installed version records (Some fault) = diverged
   installed version records None =

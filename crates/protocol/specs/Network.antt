@@ -1,4 +1,5 @@
--- The net of links, and its steps. Whoever runs it chooses which bot acts and which packet is delivered, as often as it likes.
+-- The net of links, and its steps. The caller chooses which bot acts and which packet is delivered, as often as it
+-- likes.
 use Rattle.std.specs.Prelude.{ℕ, zero, suc, false, List, [], ◌∷◌, ◌++◌, slice_get, slice_set, Option, None, Some, Result}
 use Rattle.userfile.specs.Records.{no_records}
 use Rattle.userfile.specs.declared.change.Change.{Change as UserChange}
@@ -18,7 +19,7 @@ pub record Net : Type 0 where
   pub leaves : List Leaf
   pub packets : List Sent
 
--- what a bot may be told to do
+-- what a bot can be asked to do
 pub data Event : Type 0 where
   Ask : UserChange → Event
   Pump : Event
@@ -31,7 +32,7 @@ pub data Step : Type 0 where
   At : (bot : ℕ) → Event → Step
   Deliver : (number : ℕ) → Step
 
--- what is told of a step
+-- what a step reports
 pub data Outcome : Type 0 where
   Report : (bot : ℕ) → Result Note LinkFault → Outcome
   OutOfMemory : Outcome
@@ -43,7 +44,7 @@ pub data Course : Type 0 where
   Makes : How → Course
   LacksMemory : Course
 
--- what a step tells, sends and leaves
+-- what a step reports, sends and leaves
 pub record Stepped : Type 0 where
   pub outcome : Outcome
   pub sends : List Outgoing
@@ -107,7 +108,7 @@ happened how old (At bot event) =
     at_bot old bot (hub_event old.count how old.hub event) (λ number leaf. leaf_event old.count how number leaf event)
 happened how old (Deliver number) = delivered how old (item_at old.packets number)
 
--- a step for which there was no memory: it leaves the net, save that a restart has lost its journal
+-- a step that runs out of memory: it leaves the net as it was, except that after a restart the bot is down
 abbrev pub lacked : Net → Step → Stepped
 lacked old (At bot (Ask change)) = unmoved old OutOfMemory
 lacked old (At bot Pump) = unmoved old OutOfMemory

@@ -1,4 +1,4 @@
--- What the bots of a net send one another. Bot 0 is the hub, and leaves are numbered from 1.
+-- What the bots of a net send each other. Bot 0 is the hub, and leaves are numbered from 1.
 use Rattle.std.specs.Prelude.{ℕ, zero, suc, ◌+◌, List, [], ◌∷◌}
 use Rattle.usercodec.specs.declared.records.Record.{Record}
 use Rattle.botjournal.specs.declared.reply.Answer.{Answer}
@@ -12,17 +12,18 @@ use Rattle.sharewire.specs.declared.packet.Packet.TheVariants as wire
 pub data Packet : Type 0 where
   -- the layout that a leaf's journal has, the leaf, and the version that it is at
   Hello : (layout leaf version : ℕ) → Packet
-  -- the accepted change of this number, the bot that asked for it and that bot's request number, 0 and 0 for the hub's own
+  -- the accepted change of this number, the bot that asked for it and that bot's request number; both are 0 for the
+  -- hub's own
   Change : (number origin request : ℕ) → UserChange → Packet
   -- a leaf asks for a change, under its own number
   Request : (leaf request : ℕ) → UserChange → Packet
   -- a leaf's request was accepted, and its change has this number
   Accepted : (leaf request number : ℕ) → Packet
-  -- a leaf's request was refused
+  -- a leaf's request was rejected
   Refused : (leaf request : ℕ) → ChangeFault → Packet
-  -- one bot tells another a text
+  -- a text from one bot to another
   BotText : (from to : ℕ) (text : List ℕ) → Packet
-  -- the part of this number, of so many, of the records at a version
+  -- the part of this number, out of `count`, of the records at a version
   Part : (version part count : ℕ) → List Record → Packet
 
 -- the packet that has this frame
@@ -60,12 +61,12 @@ own change = record { origin = 0; request = 0; change = change }
 abbrev pub change_packet : ℕ → AcceptedChange → Packet
 change_packet number entry = Change number entry.origin entry.request entry.change
 
--- the packet that tells a leaf what became of its request
+-- the packet that tells a leaf the outcome of its request
 abbrev pub answer_packet : ℕ → ℕ → Answer → Packet
 answer_packet leaf request (Taken number) = Accepted leaf request number
 answer_packet leaf request (refused_request fault) = Refused leaf request fault
 
--- one packet to each bot from the first on, so many of them, in order
+-- one packet to each of `count` bots from the first on, in order
 abbrev pub to_each : ℕ → ℕ → Packet → List Outgoing
 to_each first zero packet = []
 to_each first (suc count) packet = record { to = first; packet = packet } ∷ to_each (first + 1) count packet

@@ -56,12 +56,12 @@ joined_next None rest = None
 joined_next (Some part) None = None
 joined_next (Some part) (Some rest) = Some (part ++ rest)
 
--- the parts one behind the other, where all are there
+-- the parts one after the other, if none is missing
 abbrev pub joined : List (Option (List Record)) → Option (List Record)
 joined [] = Some []
 joined (part ∷ parts) = joined_next part (joined parts)
 
--- so many places, with no part in them
+-- this number of places, with no part in them
 abbrev pub no_places : ℕ → List (Option (List Record))
 no_places zero = []
 no_places (suc count) = None ∷ no_places count
@@ -70,13 +70,13 @@ no_places (suc count) = None ∷ no_places count
 abbrev pub no_parts : ℕ → ℕ → PartSet
 no_parts version count = record { version = version; parts = no_places count }
 
--- the set that a part goes into: the kept one where it is of that version and count, else an empty one
+-- the set that a part goes into: the kept one if it is of that version and count, otherwise an empty one
 abbrev pub set_for : Option PartSet → ℕ → ℕ → PartSet
 set_for None version count = no_parts version count
 set_for (Some kept) version count =
     if (kept.version == version) && (length kept.parts == count) then kept else no_parts version count
 
--- the set with this part in place of one of its number, from 1
+-- the set with this part at the place of its number, from 1
 abbrev pub with_part : PartSet → ℕ → List Record → PartSet
 with_part kept number items = record kept { parts = slice_set kept.parts (number - 1) (Some items) }
 

@@ -18,16 +18,16 @@ use Rattle.protocol.specs.Truth.{IsTrue, AllSent}
 
 -- ---- the hub
 
--- the accepted change of this number is the hub's own, or its leaf asked for that change under its request number, and the
--- answer to that request is this number
+-- the accepted change of this number is the hub's own; or its leaf asked for that change under its request number, and
+-- the answer to that request is this number
 abbrev pub IsOwned : (ℕ → List Answer) → (ℕ → List UserChange) → ℕ → AcceptedChange → Type 0
 IsOwned answers asked number entry =
     (entry.origin ≡ 0)
     ⊎
     ((item_at (answers entry.origin) entry.request ≡ Some (Taken number)) × (item_at (asked entry.origin) entry.request ≡ Some entry.change))
 
--- of what the hub keeps: the records before an accepted change don't refuse it, the records at each version are a userfile's,
--- each accepted change is someone's, and the floor is a version that was reached
+-- what the hub keeps: the records before an accepted change don't refuse it, the records at each version are a
+-- userfile's, each accepted change has its owner, and the floor is a version that was reached
 pub record HubHolds (asked : ℕ → List UserChange) (hub : PastHub) : Type 0 where
   pub taken : (place : ℕ) (entry : AcceptedChange) → item_at hub.accepted (suc place) ≡ Some entry
       → refusal (records_of hub.accepted place) entry.change ≡ None
@@ -46,12 +46,13 @@ HubFits asked hub Rebase = Unit {0}
 
 -- ---- a leaf
 
--- each request that is out is one that the leaf made, with its change
+-- each outstanding request is one that the leaf made, with its change
 abbrev pub AreAsked : List UserChange → List OutRequest → Type 0
 AreAsked asked [] = Unit {0}
 AreAsked asked (request ∷ requests) = (item_at asked request.number ≡ Some request.change) × AreAsked asked requests
 
--- of what a leaf keeps: its version was reached, what is out was asked, and each request that it made is out or was answered
+-- what a leaf keeps: its version was reached, its outstanding requests were asked, and each request that it made is
+-- outstanding or was answered
 pub record LeafHolds (hub : PastHub) (number : ℕ) (leaf : PastLeaf) : Type 0 where
   pub version : leaf.version ≤ length hub.accepted
   pub asked : AreAsked leaf.asked leaf.out

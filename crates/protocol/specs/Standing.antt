@@ -1,4 +1,4 @@
--- A net stands for a moment of history, part by part: what the bots hold is read off what happened.
+-- When a net stands for a moment of history, part by part: what the bots hold follows from what happened.
 use Rattle.std.specs.Prelude.{◌≡◌, ℕ, suc, List, length, drop, slice_get, Some}
 use Rattle.std.specs.List.{AllByRecursion}
 use Rattle.botjournal.specs.declared.reply.Reply.{Reply}
@@ -11,7 +11,8 @@ use Rattle.protocol.specs.LeafRules.{LeafState, Leaf}
 use Rattle.protocol.specs.History.{PastHub, PastLeaf, History, records_of}
 use Rattle.protocol.specs.Network.{Net}
 
--- the replies that the hub keeps to a leaf are the last so many answers, and the last one is among them where there is any
+-- the replies that the hub keeps to a leaf are the latest of its answers, and the last one is among them if there is
+-- any
 pub record KeepsLast (kept : List Reply) (answers : List Answer) : Type 0 where
   pub in_turn : AreInTurn kept
   pub last : last_request kept ≡ length answers
@@ -24,7 +25,8 @@ pub record HubStands (state : HubState) (past : PastHub) : Type 0 where
   pub records : state.records ≡ records_of past.accepted (length past.accepted)
   pub replies : (place : ℕ) (kept : List Reply) → slice_get state.replies place ≡ Some kept → KeepsLast kept (past.answers (suc place))
 
--- the records are those at the leaf's version, its last request number counts what it asked, and the same is out
+-- the records are those at the leaf's version, its last request number counts what it asked, and the same requests are
+-- outstanding
 pub record LeafStands (accepted : List AcceptedChange) (state : LeafState) (past : PastLeaf) : Type 0 where
   pub version : state.version ≡ past.version
   pub records : state.records ≡ records_of accepted past.version

@@ -1,4 +1,4 @@
--- When a packet is true of history, and what a bot may say.
+-- When a packet is true of history, and what a bot may send.
 use Rattle.std.specs.Prelude.{◌≡◌, ℕ, ◌+◌, ◌<◌, ◌≤◌, List, [], ◌∷◌, length, Some}
 use Rattle.userfile.specs.declared.change.Change.{Change as UserChange}
 use Rattle.usercodec.specs.declared.records.Record.{Record}
@@ -16,13 +16,14 @@ abbrev pub IsAccepted : List AcceptedChange → ℕ → ℕ → ℕ → UserChan
 IsAccepted accepted number origin request change =
     item_at accepted number ≡ Some (record { origin = origin; request = request; change = change })
 
--- the part of this number, of so many, of the records at a version that was reached
+-- the part of this number, out of `count`, of the records at a version that was reached
 pub record IsPart (accepted : List AcceptedChange) (version part count : ℕ) (items : List Record) : Type 0 where
   pub reached : version ≤ length accepted
   pub many : count ≡ part_count (records_of accepted version)
   pub these : items ≡ part_of (records_of accepted version) part
 
--- what a packet says is so: a hello has the layout of all bots; its version and a text say nothing of history
+-- the statement of a packet is true: a hello has the layout of all bots; its version and a text state nothing of
+-- history
 abbrev pub IsTrue : PastHub → (ℕ → List UserChange) → Packet → Type 0
 IsTrue hub asked (Hello layout leaf version) = layout ≡ LAYOUT
 IsTrue hub asked (Change number origin request change) = IsAccepted hub.accepted number origin request change
@@ -37,7 +38,7 @@ abbrev pub IsRecentAnswer : PastHub → ℕ → ℕ → Answer → Type 0
 IsRecentAnswer hub leaf request answer =
     (length (hub.answers leaf) < request + 8) × (item_at (hub.answers leaf) request ≡ Some answer)
 
--- what the hub says in a step: an answer is always one of the last eight to its leaf
+-- what the hub sends in a step: an answer is always one of the last eight to its leaf
 abbrev pub HubSays : PastHub → Packet → Type 0
 HubSays hub (Hello layout leaf version) = ⊥
 HubSays hub (Change number origin request change) = IsAccepted hub.accepted number origin request change
@@ -47,7 +48,7 @@ HubSays hub (Refused leaf request fault) = IsRecentAnswer hub leaf request (refu
 HubSays hub (BotText from to text) = Unit {0}
 HubSays hub (Part version part count items) = IsPart hub.accepted version part count items
 
--- what a leaf says in a step: its layout and version, its requests, and texts
+-- what a leaf sends in a step: its layout and version, its requests, and texts
 abbrev pub LeafSays : ℕ → PastLeaf → Packet → Type 0
 LeafSays number leaf (Hello layout from version) = (layout ≡ LAYOUT) × ((from ≡ number) × (version ≡ leaf.version))
 LeafSays number leaf (Change n origin request change) = ⊥

@@ -15,7 +15,7 @@ ghost use Rattle.protocol.specs.Network.{Net, Step, Course, stepped, new_net};
 ghost use Rattle.protocol.specs.Claims.{shown_version, shown_records, Made, Ends, IsFineOutcome, MovesAsTold, net_after};
 ghost use Rattle.protocol.specs.Journals.{hub_meaning, hub_written, HubMay, IsHubState, leaf_meaning, leaf_written, LeafMay, IsLeafState};
 
-/// The laws of the sharing link. It does nothing: what it ensures holds of any net and of any steps, whatever their
+/// The laws of the sharing link. The function does nothing: its clauses hold for any net and any steps, whatever their
 /// order, however devices fail, and whenever memory runs out.
 pub fn laws_of_the_link()
     // At any two moments of a run, bots at one version show the same records.
@@ -31,29 +31,30 @@ pub fn laws_of_the_link()
     // No leaf's records diverge, and no hello has another layout than the bots'.
     ensures fine { (count : ℕ) (made : List Made) (course : Course) (step : Step)
         → IsFineOutcome (stepped course (net_after (new_net count) made) step).outcome }
-    // A run is a history of which all that `Holds` says is so at each moment: a request is accepted at most once, its
-    // change is the one that was asked, it is told under its number and never as refused; each change that was sent is
-    // the accepted one; each hello has the bots' layout; each part is one of the records at its version. No step takes back
-    // what was accepted, answered, asked or sent, and each answer that it sends is one of the last eight to its leaf.
+    // A run is a history, and all that `Holds` says is true at each of its moments: a request is accepted at most once,
+    // its change is the one that was asked, the hub reports it under its number and never as rejected; each change that
+    // was sent is the accepted one; each hello has the bots' layout; each part is one of the records at its version. No
+    // step takes back what was accepted, answered, asked or sent, and each answer that it sends is one of the last
+    // eight to its leaf.
     ensures runs { (count : ℕ) (made : List Made) → Ends (new_net count) (start count) made }
-    // The hub's version moves where a step tells that a change was accepted, or that a restart found one, and nowhere else.
+    // The hub's version moves only when a step reports that a change was accepted, or that a restart found one.
     ensures moves { (course : Course) (net : Net) (step : Step) → MovesAsTold net (stepped course net step) }
-    // A leaf's next change that is delivered, and done, is applied.
+    // A leaf applies its next change when that is delivered, and the call is done.
     ensures applied { (leaves number : ℕ) (how : How) (leaf : Leaf) (origin request : ℕ) (change : Change) (note : Note)
         → (leaf_received leaves number how leaf (change_packet (leaf.kept.version + 1) origin request change)).told ≡ Ok note
         → (note ≡ Applied (leaf.kept.version + 1))
         × ((leaf_received leaves number how leaf (change_packet (leaf.kept.version + 1) origin request change)).after.kept.version
         ≡ leaf.kept.version + 1) }
-    // An oldest ask that the records take is accepted by a pump that is done.
+    // A pump that is done accepts the oldest ask if the records take it.
     ensures accepted { (leaves : ℕ) (how : How) (hub : Hub) (change : Change) (rest : List Change) (note : Note)
         → hub.loose ≡ change ∷ rest → refusal hub.kept.records change ≡ None
         → (hub_pumped leaves how hub).told ≡ Ok note → note ≡ Accepted (version_of hub.kept + 1) }
 {}
 
-/// The laws of what a link journals. It does nothing: what it ensures holds of any contents of a journal.
+/// The laws of what a link journals. The function does nothing: its clauses hold for any contents of a journal.
 ///
-/// A journal that means a bot's state, and into which a record of that state goes, means the state with the record folded
-/// in. So a restart finds what was kept, or that with the record in doubt, and nothing else.
+/// Take a journal that means a bot's state, and append a record of that state: the journal then means the state with
+/// the record folded in. So a restart finds what was kept, or that with the record in doubt, and nothing else.
 pub fn laws_of_link_journals()
     ensures hub { (leaves : ℕ) (contents : Contents) (hub : HubState) (entry : HubRecord) → hub_meaning leaves contents ≡ Some hub
         → hub.generation ≡ contents.generation → IsHubState leaves hub → HubMay hub entry

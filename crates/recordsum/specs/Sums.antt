@@ -9,7 +9,7 @@ use Rattle.userfile.specs.declared.user.User.{User}
 use Rattle.usercodec.specs.Records.{record_bytes}
 use Rattle.usercodec.specs.declared.records.Record.TheVariants as records
 
--- each in its one spelling, in order
+-- each record in its one encoding, in order
 abbrev pub users_spelled : List User → List ℕ
 users_spelled users = flat_map (λ user. record_bytes (records.User user)) users
 

@@ -13,10 +13,10 @@ use std::alloc::Global;
 use usercodec::{put_ban, put_user};
 use userfile::{Ban, User, Userfile};
 
-/// The sum of all records of a userfile: the first 16 digits of their SHA-256.
+/// Returns the sum of all records of `userfile`: the first 16 digits of their SHA-256.
 ///
 /// # Errors
-/// `NoMemory` where room for the bytes of a record is refused: never where there is none.
+/// `NoMemory` if the bytes of a record cannot be allocated: never if there are no records.
 pub fn sum_of(alloc: Global, userfile: &Userfile) -> Result<[u8; 16], NoMemory>
     ensures sum { IfOk result (λ sum. sum ≡ sum_of userfile.now) }
     ensures memory { IfErr result (λ _. 0 < length userfile.now.users + length userfile.now.bans) }
@@ -76,7 +76,7 @@ fn add_ban(alloc: Global, hasher: &mut Sha256, ban: &Ban) -> Result<(), NoMemory
     Ok(())
 }
 
-// The first eight bytes of a digest as text.
+// The first eight bytes of a digest as hexadecimal digits.
 fn digits_of(digest: [u8; 32]) -> [u8; 16]
     ensures { result ≡ encode_lower (take 8 digest) }
 {

@@ -19,7 +19,7 @@ host_line bot handle mask = decimal bot ++ codes " host " ++ handle ++ codes " "
 abbrev pub chan_line : ℕ → List ℕ → ChannelFlags → List ℕ
 chan_line bot handle entry = decimal bot ++ codes " chan " ++ handle ++ codes " " ++ entry.channel ++ codes " " ++ spelling entry.flags ++ 10 ∷ []
 
--- B info H TEXT, where there is an info
+-- B info H TEXT, if there is an info
 abbrev pub info_line : ℕ → List ℕ → List ℕ → List ℕ
 info_line bot handle [] = []
 info_line bot handle (b ∷ bs) = decimal bot ++ codes " info " ++ handle ++ codes " " ++ (b ∷ bs) ++ 10 ∷ []
@@ -30,12 +30,12 @@ user_lines bot user =
     user_line bot user ++ info_line bot user.handle user.info ++ flat_map (host_line bot user.handle) user.masks
     ++ flat_map (chan_line bot user.handle) user.channels
 
--- * for a ban of all channels
+-- * for a ban on all channels
 abbrev pub channel_text : List ℕ → List ℕ
 channel_text [] = codes "*"
 channel_text (b ∷ bs) = b ∷ bs
 
--- a comment and the space before it
+-- a comment and the space before it; nothing if it is empty
 abbrev pub comment_text : List ℕ → List ℕ
 comment_text [] = []
 comment_text (b ∷ bs) = codes " " ++ b ∷ bs
@@ -50,7 +50,7 @@ ban_line bot ban =
 abbrev pub sticky_line : ℕ → Ban → List ℕ
 sticky_line bot ban = decimal bot ++ codes " sticky " ++ channel_text ban.channel ++ codes " " ++ ban.mask ++ 10 ∷ []
 
--- a ban, and that it is sticky where it is
+-- a ban, and that it is sticky if it is
 abbrev pub ban_lines : ℕ → Ban → List ℕ
 ban_lines bot ban = ban_line bot ban ++ (if ban.sticky then sticky_line bot ban else [])
 
@@ -59,7 +59,7 @@ abbrev pub version_line : ℕ → ℕ → ℕ → ℕ → List ℕ
 version_line bot version users bans = decimal bot ++ codes " version " ++ decimal version ++ codes " users " ++ decimal users ++ codes " bans " ++ decimal
     bans ++ 10 ∷ []
 
--- a bot's version and records, or that there is no such bot
+-- a bot's version and records, or that no such bot exists
 abbrev pub shown_text : ℕ → Option ℕ → Option Records → List ℕ
 shown_text bot (Some version) (Some records) =
     version_line bot version (length records.users) (length records.bans) ++ flat_map (user_lines bot) records.users ++ flat_map (ban_lines bot) records.bans

@@ -1,4 +1,4 @@
--- The lines of a user, and of a ban, that is looked up by place.
+-- The lines of a user, and of a ban, looked up by place.
 use Rattle.std.specs.Prelude.{ℕ, List, [], Option, None, Some}
 use Rattle.userfile.specs.declared.user.User.{User}
 use Rattle.userfile.specs.declared.ban.Ban.{Ban}

@@ -1,9 +1,9 @@
 //! The text of a bot's version and records, as a transcript has it.
 //!
-//! [`put_records`] adds a line with the version and with how many users and bans there are, then the lines of each user,
-//! and then those of each ban, in order. A user's lines say the flags, the info where there is one, the hostmasks and the
-//! flags on channels; a ban's say its fields, and that it is sticky where it is. Each line begins with the bot's number.
-//! Where there is no such bot, the one line is `world O2`.
+//! [`put_records`] adds a line with the version and the counts of users and bans, then the lines of each user, and then
+//! those of each ban, in order. A user's lines give the flags, the info if there is one, the hostmasks and the flags on
+//! channels. A ban's lines give its fields, and say so if it is sticky. Each line begins with the bot's number. If no
+//! such bot exists, the only line is `world O2`.
 //!
 //! ```text
 //! put_records(alloc, &mut text, 0, Some(2), Some(&userfile))?;
@@ -12,8 +12,8 @@
 //! // 0 host alice *!alice@*.example
 //! ```
 //!
-//! Whoever prints other lines beside these has the same pieces: bytes by [`put`], a number by [`put_number`], and a word
-//! with a number by [`put_counted`].
+//! A caller that prints other lines beside these uses the same functions: [`put`] adds bytes, [`put_number`] a number,
+//! and [`put_counted`] a word with a number.
 #![tactic(auto)]
 
 mod print;

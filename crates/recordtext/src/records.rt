@@ -10,7 +10,8 @@ use flagexpr::Flags;
 use std::alloc::Global;
 use userfile::{Ban, ChannelFlags, Hostmask, User};
 
-/// Adds a user and the info, then the hostmasks and the flags on channels.
+/// Appends to `out` the lines of `user` on the bot of number `bot`: the user and the info, then the hostmasks and the
+/// flags on channels.
 #[tactic(auto, using(std::proofs::Common::append_assoc))]
 pub fn put_user(alloc: Global, out: &mut Vec<u8>, bot: u16, user: &User) -> Result<(), NoMemory>
     ensures { OnOk result (out.new.items ≡ out.old.items ++ user_lines bot user.now) }
@@ -37,7 +38,7 @@ fn put_name(alloc: Global, out: &mut Vec<u8>, bot: u16, user: &User) -> Result<(
     put(out, b"\n")
 }
 
-// B info H TEXT; nothing where the text is empty.
+// B info H TEXT; nothing if the text is empty.
 #[tactic(auto, using(std::proofs::Common::append_assoc))]
 fn put_info(out: &mut Vec<u8>, bot: u16, handle: &[u8], info: &[u8]) -> Result<(), NoMemory>
     ensures { OnOk result (out.new.items ≡ out.old.items ++ info_line bot handle.now info.now) }
@@ -113,7 +114,7 @@ fn put_chan(
     put(out, b"\n")
 }
 
-/// Adds a ban, and that it is sticky where it is.
+/// Appends to `out` the lines of `ban` on the bot of number `bot`: its fields, and that it is sticky if it is.
 #[tactic(auto, using(std::proofs::Common::append_assoc))]
 pub fn put_ban(out: &mut Vec<u8>, bot: u16, ban: &Ban) -> Result<(), NoMemory>
     ensures { OnOk result (out.new.items ≡ out.old.items ++ ban_lines bot ban.now) }
@@ -140,7 +141,7 @@ fn put_fields(out: &mut Vec<u8>, bot: u16, ban: &Ban) -> Result<(), NoMemory>
     put(out, b"\n")
 }
 
-// B sticky C M; nothing where the ban isn't sticky.
+// B sticky C M; nothing if the ban isn't sticky.
 #[tactic(auto, using(std::proofs::Common::append_assoc))]
 fn put_mark(out: &mut Vec<u8>, bot: u16, ban: &Ban) -> Result<(), NoMemory>
     ensures { OnOk result (out.new.items ≡ out.old.items ++ (if ban.now.sticky then sticky_line bot ban.now else [])) }
@@ -156,14 +157,14 @@ fn put_mark(out: &mut Vec<u8>, bot: u16, ban: &Ban) -> Result<(), NoMemory>
     put(out, b"\n")
 }
 
-// `*` for a ban of all channels.
+// `*` for a ban on all channels.
 fn channel_text(channel: &[u8]) -> &[u8]
     ensures { result.now ≡ channel_text channel.now }
 {
     if channel.is_empty() { b"*" } else { channel }
 }
 
-// A comment and the space before it; nothing where it is empty.
+// A comment and the space before it; nothing if the comment is empty.
 #[tactic(auto, using(std::proofs::Common::append_assoc))]
 fn put_comment(out: &mut Vec<u8>, comment: &[u8]) -> Result<(), NoMemory>
     ensures { OnOk result (out.new.items ≡ out.old.items ++ comment_text comment.now) }
@@ -175,7 +176,7 @@ fn put_comment(out: &mut Vec<u8>, comment: &[u8]) -> Result<(), NoMemory>
     put(out, comment)
 }
 
-// Letters, or `-` for none.
+// Letters, or `-` if no flag is set.
 fn put_flags(alloc: Global, out: &mut Vec<u8>, flags: Flags) -> Result<(), NoMemory>
     ensures { OnOk result (out.new.items ≡ out.old.items ++ spelling flags) }
 {

@@ -12,10 +12,11 @@ use bytetext::NoMemory;
 use std::alloc::Global;
 use userfile::{Ban, User, Userfile};
 
-/// Adds a bot's version and the lines of its userfile, or that there is no such bot where it has none of them.
+/// Appends the `version` of the bot of number `bot` and the lines of its `userfile`. If either is `None`, appends that
+/// no such bot exists.
 ///
 /// # Errors
-/// `NoMemory` where room is refused: for a bot that isn't there, never where it is there already.
+/// `NoMemory` if memory cannot be allocated. If `version` is `None`, only if `out` must grow and cannot.
 #[tactic(auto, using(std::proofs::Common::append_assoc))]
 pub fn put_records(
     alloc: Global,
@@ -77,7 +78,7 @@ fn put_users(
     Ok(())
 }
 
-// The lines of a user; nothing where there is none.
+// The lines of a user; nothing for `None`.
 fn put_found_user(
     alloc: Global,
     out: &mut Vec<u8>,
@@ -102,7 +103,7 @@ fn put_bans(out: &mut Vec<u8>, bot: u16, userfile: &Userfile) -> Result<(), NoMe
     Ok(())
 }
 
-// The lines of a ban; nothing where there is none.
+// The lines of a ban; nothing for `None`.
 fn put_found_ban(out: &mut Vec<u8>, bot: u16, ban: Option<&Ban>) -> Result<(), NoMemory>
     ensures { OnOk result (out.new.items ≡ out.old.items ++ found_ban bot (option_copied ban.entry)) }
 {

@@ -2,22 +2,22 @@
 use Rattle.std.specs.Prelude.{ℕ, ◌+◌, ◌-◌, ◌*◌, ◌/◌, ◌%◌, Bool, min, if◌then◌else◌}
 use Rattle.redial.specs.declared.redial.TheConstants.{FIRST_WAIT}
 
--- whose tries they are and how long it waits at most; when the next is due, and how long the next loss waits
+-- the bot's number and its longest wait; the second at which the next try is due, and the wait after the next loss
 pub record Waits : Type 0 where
   pub number : ℕ
   pub most : ℕ
   pub due : ℕ
   pub wait : ℕ
 
--- a good connection begins anew
+-- after a good connection the wait is the shortest again
 abbrev pub wait_after : Waits → Bool → ℕ
 wait_after old was_good = if was_good then FIRST_WAIT else old.wait
 
--- a wait that the bot's number shortens, by half of it at most
+-- the wait, which the bot's number shortens by at most half
 abbrev pub spread : ℕ → ℕ → ℕ
 spread number wait = wait - number % (wait / 2 + 1)
 
--- the next try is due after this wait, and the next wait is twice as long, but not above the most
+-- the next try is due after this wait, and the next wait is twice as long, but at most the longest
 abbrev pub waits : Waits → ℕ → ℕ → Waits
 waits old now wait = record old { due = now + spread old.number wait; wait = min (wait * 2) old.most }
 

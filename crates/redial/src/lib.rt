@@ -1,10 +1,12 @@
-//! When a connection that is lost is tried again.
+//! When a lost connection is tried again.
 //!
-//! The first wait is [`FIRST_WAIT`] seconds. Each try that fails doubles it, up to a most that its owner chooses: a server
-//! of people is asked less often than the hub of a botnet. After a connection that was good it is [`FIRST_WAIT`] again. So
-//! that bots which lost one peer don't all come back in one second, a bot's number shortens its wait, by up to half.
+//! The first wait is [`FIRST_WAIT`] seconds. Each failed try doubles the wait, up to a maximum that the owner chooses:
+//! a server of people is asked less often than the hub of a botnet. After a good connection the wait is [`FIRST_WAIT`]
+//! again. A bot's number shortens its wait by up to half, so that bots which lost the same peer don't all come back in
+//! the same second.
 //!
-//! What was good is for its owner to say: a connection that held for some time, or one whose other end has shown who it is.
+//! The owner decides which connection was good: one that held for some time, or one whose other end has shown who it
+//! is.
 //!
 //! ```text
 //! let mut redial = Redial::new(0, 300);      // bot 0; a try is due at once

@@ -11,7 +11,7 @@ pub struct Redial {
     number: u16,
     most: u16,
     due: u64,
-    // What the next loss waits, before the bot's number shortens it.
+    // The wait after the next loss, before the bot's number shortens it.
     wait: u64,
 }
 
@@ -32,7 +32,8 @@ impl Redial {
     ghost use Rattle.bytetext.specs.declared.moment.TheConstants.{MOMENTS_END};
     ghost use Rattle.redial.specs.Waits.{lost};
 
-    /// A try is due at once. `number` is the bot's, and `most` the longest wait, in seconds.
+    /// Creates a `Redial` whose first try is due at once. `number` is the bot's number, and `most` the longest wait in
+    /// seconds.
     pub fn new(number: u16, most: u16) -> Redial
         requires { FIRST_WAIT ≤ most }
         ensures { result ≡ record { number = number; most = most; due = 0; wait = FIRST_WAIT } }
@@ -45,21 +46,22 @@ impl Redial {
         }
     }
 
-    /// Whether a try is due at this second.
+    /// Returns whether a try is due at second `now`.
     pub fn is_due(&self, now: u64) -> bool
         ensures { IsTrue result ↔ (self.now.due ≤ now) }
     {
         self.due <= now
     }
 
-    /// The second at which the next try is due.
+    /// Returns the second at which the next try is due.
     pub fn due(&self) -> u64
         ensures { result ≡ self.now.due }
     {
         self.due
     }
 
-    /// At this second a try failed, or a connection was lost, which was good or not.
+    /// Records that a try failed at second `now`, or that a connection was lost then. `was_good` says whether that
+    /// connection was good.
     pub fn lost(&mut self, now: u64, was_good: bool)
         requires { now < MOMENTS_END }
         ensures value { self.new ≡ lost self.old now was_good }

@@ -32,12 +32,12 @@ steps_in (Shows bot ∷ deeds) = steps_in deeds
 abbrev pub moment_text : Moment → List ℕ
 moment_text m = outcome_text m.after.net.packets m.outcome
 
--- and a show what the bot is at
+-- a show prints a bot's version and records
 abbrev pub net_text : Net → ℕ → List ℕ
 net_text w bot = shown_text bot (shown_version w bot) (shown_records w bot)
 
--- The text of deeds, of which these are the moments of the steps, in order: a show shows the network as the step before
--- it left it, and at first as it was.
+-- The text of deeds, given the moments of their steps in order: a show prints the network as the step before it left
+-- it, or as it was at first.
 abbrev pub deeds_text : State → List Deed → List Moment → List ℕ
 deeds_text s [] moments = []
 deeds_text s (Shows bot ∷ deeds) moments = net_text s.net bot ++ deeds_text s deeds moments

@@ -1,4 +1,4 @@
--- How a world and a text stand to deeds that were done.
+-- How a world and a text relate to the deeds that were done.
 use Rattle.std.specs.Prelude.{◌≡◌, ℕ, List, ◌++◌}
 use Rattle.procstore.specs.Promises.{Promised}
 use Rattle.bottimers.specs.Zones.{TzText}
@@ -8,8 +8,8 @@ use Rattle.botworld.specs.Standing.{Moment, Past, Run, Stands, later, steps_of, 
 use Rattle.replay.specs.Deeds.{Deed, steps_in, deeds_text}
 use Rattle.replay.specs.Starting.{IsFirst}
 
--- From a past of the world, its next steps were just those of the deeds, none of them ended for want of memory, and what
--- the deeds print was added to the text.
+-- From a past of the world, its next steps were exactly those of the deeds. None of them ran out of memory, and what
+-- the deeds print was appended to the text.
 pub record Does (promised : Promised)
     (past : Past) (deeds : List Deed) (w : Net) (before after : List ℕ) : Type 0 where
   pub moments : List Moment
@@ -20,8 +20,8 @@ pub record Does (promised : Promised)
   pub added : after ≡ before ++ deeds_text past.now deeds moments
   pub stands : Stands promised w (later past moments last)
 
--- The text tells the deeds, from a first moment on: a run of the network of just their steps, of which none ended for
--- want of memory.
+-- The text is what the deeds print from a first state on, in a run of the network with exactly their steps. None of
+-- them ran out of memory.
 pub record IsDoneFrom (promised : Promised)
     (first : State) (deeds : List Deed) (text : List ℕ) : Type 0 where
   pub moments : List Moment
@@ -31,7 +31,7 @@ pub record IsDoneFrom (promised : Promised)
   pub made : AllMade (outcomes_of moments)
   pub tells : text ≡ deeds_text first deeds moments
 
--- The same from a hub and its leaves in a zone, of which each is new.
+-- The same from a new hub and its new leaves in a zone.
 pub record IsDoneByNew (promised : Promised)
     (leaves : ℕ) (zone : TzText) (names : List (List ℕ)) (deeds : List Deed) (text : List ℕ) : Type 0 where
   pub first : State

@@ -6,12 +6,13 @@ use Rattle.botcore.specs.declared.config.Config.{Config}
 use Rattle.botcore.specs.Bots.{Bot, new_bot}
 use Rattle.botworld.specs.Network.{State, start}
 
--- the zone that a script says, or UTC
+-- the zone that a script gives, or UTC
 abbrev pub zone_or_utc : Option TzText → TzText
 zone_or_utc None = fixed_rule (pos 0)
 zone_or_utc (Some rule) = rule
 
--- bot 3, say, has the nick egg3; each bot has the channel #egg, exclusive off and a clock of this zone
+-- the configuration of a bot: bot 3, say, has the nick egg3; each bot has the channel #egg, exclusive off and a clock
+-- of this zone
 abbrev pub config_of : ℕ → TzText → ℕ → Config
 config_of leaves zone number = record {
   number = number;
@@ -22,12 +23,13 @@ config_of leaves zone number = record {
   zone = zone;
 }
 
--- new bots, numbered on from the first, one for each of these, its two disks
+-- new bots, one for each of these devices, which are its two disks; the first has this number, and each next one is one
+-- higher
 abbrev pub bots_from : ℕ → TzText → ℕ → List Device → List Bot
 bots_from leaves zone first [] = []
 bots_from leaves zone first (f ∷ fs) = new_bot (config_of leaves zone first) f ∷ bots_from leaves zone (first + 1) fs
 
--- these are so many new bots of a net of so many leaves in a zone, the hub first
+-- these are `count` new bots of a net of `leaves` leaves in a zone, the hub first
 pub record AreNew (leaves : ℕ) (zone : TzText) (count : ℕ) (bots : List Bot) : Type 0 where
   pub devices : List Device
   pub each : length devices ≡ count

@@ -36,7 +36,7 @@ call_line bot made = codes "call " ++ decimal bot ++ codes " " ++ made.proc ++ c
 abbrev pub out_line : ℕ → List ℕ → List ℕ
 out_line bot line = codes "out " ++ decimal bot ++ codes " " ++ line ++ 10 ∷ []
 
--- fault B NAME, the name being the code of a refused action or of a line that wasn't queued, or that a proc is missing
+-- fault B NAME: NAME says that a proc is missing, or is the code of a refused action or of a line that wasn't queued
 abbrev pub fault_text : Fault → List ℕ
 fault_text (unbound_fault unbound) = codes "Unbound " ++ unbound.proc
 fault_text (action_fault fault) = action_code fault
@@ -45,7 +45,7 @@ fault_text (line_fault fault) = queue_code fault
 abbrev pub fault_line : ℕ → Fault → List ℕ
 fault_line bot fault = codes "fault " ++ decimal bot ++ codes " " ++ fault_text fault ++ 10 ∷ []
 
--- the note of a call of the link, and its number, its letters or its text where it has any
+-- the note of a call of the link, with its number, letters or text if it has any
 abbrev pub link_note_text : LinkNote → List ℕ
 link_note_text Queued = codes "Queued"
 link_note_text Idle = codes "Idle"
@@ -66,7 +66,7 @@ link_note_text (Text from text) = codes "Text " ++ decimal from ++ codes " " ++ 
 link_note_text Stray = codes "Stray"
 link_note_text (Restarted version) = codes "Restarted " ++ decimal version
 
--- any note; a step that is done without one is just done
+-- any note; Done if a step was done without one
 abbrev pub note_text : Option Note → List ℕ
 note_text None = codes "Done"
 note_text (Some (link_note note)) = link_note_text note
@@ -74,7 +74,7 @@ note_text (Some (Bound number)) = codes "Bound " ++ decimal number
 note_text (Some (Unbound number)) = codes "Unbound " ++ decimal number
 note_text (Some (Bad fault)) = codes "Bad " ++ line_code fault
 
--- B NOTE, or B refused CODE; a step that wants memory has no line
+-- B NOTE, or B refused CODE; a step that ran out of memory has no line
 abbrev pub end_line : ℕ → End → Option Note → List ℕ
 end_line bot ended told = decimal bot ++ codes " " ++ note_text told ++ 10 ∷ []
 end_line bot (ended_refused refusal) told = decimal bot ++ codes " refused " ++ refusal_code refusal ++ 10 ∷ []
@@ -99,13 +99,13 @@ abbrev pub found_line : ℕ → Option Sent → List ℕ
 found_line number None = []
 found_line number (Some sent) = sent_line number sent
 
--- the packets from this number on, so many of them, in order
+-- the `count` packets from this number on, in order
 abbrev pub sent_lines : List Sent → ℕ → ℕ → List ℕ
 sent_lines packets number zero = []
 sent_lines packets number (suc count) = found_line number (packet_at packets number) ++ sent_lines packets (number + 1) count
 
--- a bot's part in a step, with all packets sent so far: its calls, the packets that it sent, its lines for the server, its
--- faults, and how it ended
+-- a bot's part in a step, given all packets sent so far: its calls, the packets that it sent, its lines for the server,
+-- its faults, and how it ended
 abbrev pub report_text : List Sent → Report → List ℕ
 report_text packets report =
     flat_map (call_line report.bot) report.calls ++ sent_lines packets report.first report.count ++ flat_map (out_line report.bot) report.lines

@@ -1,4 +1,4 @@
-// How a step ended, in a line.
+// The line that says how a step ended.
 ghost use Rattle.std.specs.Prelude.{◌≡◌, ◌≢◌, ◌++◌, OnOk};
 ghost use Rattle.replay.specs.Text.{link_note_text, note_text, end_line};
 
@@ -7,10 +7,10 @@ use bytetext::NoMemory;
 use linkcalls::Note as LinkNote;
 use recordtext::{put, put_counted, put_number};
 
-/// Adds how a step ended, as `B NOTE`, `B Done` or `B refused CODE`.
+/// Appends to `out` how a step of `bot` ended, by its `end` and its `note`: as `B NOTE`, `B Done` or `B refused CODE`.
 ///
 /// # Errors
-/// `NoMemory` where room is refused, and where the step itself ended so.
+/// `NoMemory` if memory cannot be allocated, and if the step itself ended with `NoMemory`.
 #[tactic(auto, using(std::proofs::Common::append_assoc))]
 pub fn put_end(out: &mut Vec<u8>, bot: u16, end: End, note: &Option<Note>) -> Result<(), NoMemory>
     ensures made { OnOk result (end ≢ End.NoMemory) }
@@ -33,10 +33,10 @@ pub fn put_end(out: &mut Vec<u8>, bot: u16, end: End, note: &Option<Note>) -> Re
     }
 }
 
-/// Adds a note, with its number, letters or text where it has any; `Done` where there is none.
+/// Appends `note` to `out`, with its number, letters or text if it has any, or `Done` if there is no note.
 ///
 /// # Errors
-/// `NoMemory` where room is refused.
+/// `NoMemory` if memory cannot be allocated.
 #[tactic(auto, using(std::proofs::Common::append_assoc))]
 pub fn put_note(out: &mut Vec<u8>, note: &Option<Note>) -> Result<(), NoMemory>
     ensures { OnOk result (out.new.items ≡ out.old.items ++ note_text note.now) }

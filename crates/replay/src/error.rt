@@ -8,13 +8,13 @@ pub enum ReplayError {
     /// The script breaks a rule. Nothing was done or written.
     #[error("{0}")]
     Script(ScriptFault),
-    /// The stream failed as it was asked for bytes, or would have to wait for them. Nothing was done or written.
+    /// The stream failed when it was asked for bytes, or would have blocked. Nothing was done or written.
     #[error("read fault")]
     Read,
-    /// The stream failed as it was offered bytes or flushed, or took none. A front of the transcript was written.
+    /// The stream failed while it wrote or flushed, or took no bytes. A prefix of the transcript was written.
     #[error("write fault")]
     Write,
-    /// A growth was refused. Nothing was written.
+    /// Memory could not be allocated. Nothing was written.
     #[error("out of memory")]
     NoMemory,
 }

@@ -7,10 +7,10 @@ use script::MAX_SCRIPT;
 use std::alloc::Global;
 use streams::{ReadError, Stream, read_up_to};
 
-/// The bytes of a script, or one more than a script has.
+/// Reads the bytes of a script from `stream`, at most one byte more than a script may have.
 ///
 /// # Errors
-/// `Read` where the stream fails or would have to wait, `NoMemory` where a growth is refused.
+/// `Read` if the stream fails or would block; `NoMemory` if memory cannot be allocated.
 pub fn script_bytes<S: Stream>(alloc: Global, stream: &mut S) -> Result<Vec<u8>, ReplayError>
     ensures read { IfOk result (λ bytes. GivesScript (S.source stream.old) bytes.items (S.source stream.new)) }
     ensures fails { IfErr result (λ e. GivesNone e (S.source stream.old) (S.source stream.new)) }

@@ -1,20 +1,24 @@
 //! Replay of scripts: a botnet in memory does a script's commands, and a transcript says what came of each.
 //!
-//! [`transcript`] is the whole of it without a stream: from a script's bytes to the bytes of its transcript. That has
-//! a line for each call that a step makes, for each packet that it sends, for each fault, and for how it ended, and the
-//! records that a `show` asks for. The procs come from the caller, and what they answer is bound by their promise alone.
-//! So where memory holds out the text is that of a run of the network of just the script's steps.
-//! [`replay`] is that call between what a stream gives and what it takes.
+//! [`transcript`] does all of this without a stream: it turns a script's bytes into the bytes of its transcript. The
+//! transcript has a line for each call that a step makes, for each packet that it sends, for each fault, and for how it
+//! ended, and the records that a `show` asks for. The caller passes the procs, and only their promise binds what they
+//! answer. So if memory suffices, the text is that of a run of the network with exactly the script's steps. [`replay`]
+//! reads the script from a stream and writes the transcript to it.
 //!
 //! ```text
 //! let text = transcript(alloc, store, b"leaves 0\nshow 0\n")?;          // 0 version 0 users 0 bans 0
 //! replay(alloc, store, &mut Duplex::new(reader, writer))?;             // the same, from a reader to a writer
 //! ```
 //!
-//! Whoever runs scripts in another way takes the same pieces: the bytes of a script by [`script_bytes`], its bots by
-//! [`new_bots`], each with its journal on two [`SteadyDisk`]s, or in a world by [`new_world`], what a `show` prints by
-//! [`recordtext::put_records`], what came of a step by [`put_note`], what a packet is by [`put_packet`], and the way to
-//! the stream by [`write_text`]. A script that says no zone has that of [`zone_or_utc`].
+//! A caller that runs scripts in another way can use the same functions:
+//!
+//! - [`script_bytes`] reads the bytes of a script.
+//! - [`new_bots`] creates its bots, each with its journal on two [`SteadyDisk`]s, and [`new_world`] creates them in a
+//!   world. [`zone_or_utc`] is the zone of their clocks, also if the script gives none.
+//! - [`recordtext::put_records`] appends what a `show` prints, [`put_note`] what came of a step, and [`put_packet`]
+//!   what a packet is.
+//! - [`write_text`] writes a text to a stream.
 #![tactic(auto)]
 
 mod ends;

@@ -17,10 +17,10 @@ use procstore::{Code, Promise, Run};
 use recordtext::{put, put_number};
 use storage::Disk;
 
-/// Adds the lines of a step, whose packets the world has.
+/// Appends to `out` the lines of the step with this `outcome`, whose packets `world` holds.
 ///
 /// # Errors
-/// `NoMemory` where room is refused, and where the step itself ended so.
+/// `NoMemory` if memory cannot be allocated, and if the step itself ended with `NoMemory`.
 pub fn put_outcome<P: Promise, D: Disk, B: Run>(
     out: &mut Vec<u8>,
     world: &World<P, D, B>,
@@ -75,7 +75,7 @@ fn put_call(out: &mut Vec<u8>, bot: u16, call: &MadeCall) -> Result<(), NoMemory
     put(out, code_text(call.reply.code))
 }
 
-// The code and the line's end.
+// The code, and the end of the line.
 fn code_text(code: Code) -> &'static [u8]
     ensures { result.now ≡ code_text code }
 {
@@ -85,7 +85,7 @@ fn code_text(code: Code) -> &'static [u8]
     }
 }
 
-// The packets from this number on. Numbers are below 2^64, so the last one fits wherever there are such packets.
+// The `count` packets from the number `first` on. Numbers are below 2^64, so the last one fits if these packets exist.
 fn put_packets<P: Promise, D: Disk, B: Run>(
     out: &mut Vec<u8>,
     world: &World<P, D, B>,
@@ -103,7 +103,7 @@ fn put_packets<P: Promise, D: Disk, B: Run>(
     Ok(())
 }
 
-// The line of a packet; nothing where there is none.
+// The line of a packet; nothing for `None`.
 fn put_found(out: &mut Vec<u8>, number: u64, sent: Option<&Sent>) -> Result<(), NoMemory>
     ensures { OnOk result (out.new.items ≡ out.old.items ++ found_line number (option_copied sent.entry)) }
 {

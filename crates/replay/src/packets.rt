@@ -7,7 +7,7 @@ use bytetext::NoMemory;
 use linkcalls::Packet;
 use recordtext::{put, put_counted, put_number};
 
-/// Adds a packet, as `send K A>B KIND DETAIL`.
+/// Appends the packet `sent` to `out` under its `number`, as `send K A>B KIND DETAIL`.
 #[tactic(auto, using(std::proofs::Common::append_assoc))]
 pub fn put_sent(out: &mut Vec<u8>, number: u64, sent: &Sent) -> Result<(), NoMemory>
     ensures { OnOk result (out.new.items ≡ out.old.items ++ sent_line number sent.now) }
@@ -23,10 +23,10 @@ pub fn put_sent(out: &mut Vec<u8>, number: u64, sent: &Sent) -> Result<(), NoMem
     put(out, b"\n")
 }
 
-/// Adds what a packet is, as `KIND DETAIL`.
+/// Appends what `packet` is to `out`, as `KIND DETAIL`.
 ///
 /// # Errors
-/// `NoMemory` where room is refused.
+/// `NoMemory` if memory cannot be allocated.
 #[tactic(auto, using(std::proofs::Common::append_assoc))]
 pub fn put_packet(out: &mut Vec<u8>, packet: &Packet) -> Result<(), NoMemory>
     ensures { OnOk result (out.new.items ≡ out.old.items ++ packet_text packet.now) }

@@ -1,4 +1,4 @@
-// From what a stream gives to what it takes.
+// Replays a script between the two ends of a stream.
 ghost use Rattle.std.specs.Prelude.{ℕ, List, Some, ◌≡◌, IfOk, IfErr};
 ghost use Rattle.script.specs.Reading.{HasFault};
 ghost use Rattle.replay.specs.Transcript.{IsTranscript};
@@ -13,31 +13,35 @@ use procstore::{ProcStore, Promise, Run};
 use std::alloc::Global;
 use streams::Stream;
 
-/// Reads a script whole, and writes its transcript, where binds call the procs of this store.
+/// Reads a whole script from `stream` and writes its transcript to it. The script's binds call the procs of `store`.
 ///
-/// The stream is read to its end, or to the first byte above 1,048,576. Nothing is written before all commands are
+/// It reads the stream to its end, or to the first byte above 1,048,576. It writes nothing before all commands are
 /// done.
 ///
 /// # Errors
-/// `Read` where the stream fails or would have to wait for bytes; then `Script` with the first line that breaks a rule; then
-/// `NoMemory` where a growth is refused; each of these writes nothing. `Write` where the stream fails as it is offered
-/// bytes, takes none, or fails to flush, and then a front of the transcript is written.
+/// The first three write nothing:
+///
+/// - `Read` if the stream fails or would block.
+/// - `Script` with the first line that breaks a rule, if the script was read.
+/// - `NoMemory` if memory cannot be allocated.
+/// - `Write` if the stream fails while it writes or flushes, or takes no bytes. A prefix of the transcript is then
+///   written.
 pub fn replay<P: Promise, B: Run, S: Stream>(
     alloc: Global,
     store: ProcStore<P, B>,
     stream: &mut S,
 ) -> Result<(), ReplayError>
-    // What each answer means for what was read and written.
+    // What each result means for what was read and written.
     ensures ends { Ends P.promised store (S.source stream.old) (S.sink stream.old) result (S.source stream.new)
         (S.sink stream.new) }
-    // A script with a fault is answered with its first faulty line.
+    // The result for a script with a fault is its first faulty line.
     ensures faulty { (input : List ℕ) (line : ℕ) → (S.source stream.old).left ≡ Some input → HasFault input line
         → TellsLine line result }
 {
     read_and_write(alloc, store, stream)
 }
 
-// What each answer means for what was read and written.
+// What each result means for what was read and written.
 fn read_and_write<P: Promise, B: Run, S: Stream>(
     alloc: Global,
     store: ProcStore<P, B>,
@@ -53,7 +57,7 @@ fn read_and_write<P: Promise, B: Run, S: Stream>(
     write_text(stream, text.as_slice())
 }
 
-// Reads a script, and does its commands.
+// Reads a script and does its commands.
 fn read_and_do<P: Promise, B: Run, S: Stream>(
     alloc: Global,
     store: ProcStore<P, B>,

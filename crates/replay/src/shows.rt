@@ -9,7 +9,7 @@ use recordtext::put_records;
 use std::alloc::Global;
 use storage::Disk;
 
-/// Adds a bot's version, users and bans, or that there is no such bot.
+/// Appends to `out` the version, the users and the bans that `bot` has in `world`, or that no such bot exists.
 pub fn put_shown<P: Promise, D: Disk, B: Run>(
     alloc: Global,
     out: &mut Vec<u8>,

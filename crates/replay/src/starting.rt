@@ -15,7 +15,7 @@ use procstore::{ProcStore, Promise, Run};
 use recordtext::put_number;
 use std::alloc::Global;
 
-/// The zone that a script says, or UTC where it says none. Takes no memory.
+/// Returns the `zone` that a script gives, or UTC if it gives none. Never allocates.
 pub fn zone_or_utc(zone: Option<Zone>) -> Zone
     ensures { result ≡ zone_or_utc zone }
 {
@@ -25,7 +25,8 @@ pub fn zone_or_utc(zone: Option<Zone>) -> Zone
     }
 }
 
-/// The bots of a script of so many leaves, with these procs and clocks of this zone.
+/// Creates the world of a script: a hub and `leaves` leaves, at most `MAX_LEAVES`, with the procs of `store` and clocks
+/// of `zone`.
 pub fn new_world<P: Promise, B: Run>(
     alloc: Global,
     store: ProcStore<P, B>,
@@ -37,17 +38,17 @@ pub fn new_world<P: Promise, B: Run>(
 {
     match World::new(alloc, new_bots(alloc, leaves, zone)?, store) {
         Ok(world) => Ok(world),
-        // The bots are numbered in order, and each has as many leaves as there are.
+        // The bots are numbered in order, and each expects as many leaves as the world has.
         Err(_) => unreachable!(),
     }
 }
 
-/// The hub and its leaves, as they are before their first step, each with its journal on two disks in memory that never
-/// fail: their nicks are `egg` and their number, their one channel is `#egg`, and their clocks have
-/// this zone.
+/// Creates the hub and `leaves` leaves, at most `MAX_LEAVES`, as they are before their first step. Each has its journal
+/// on two disks in memory that never fail. Its nick is `egg` and its number, its one channel is `#egg`, and its clock
+/// has `zone`.
 ///
 /// # Errors
-/// `NoMemory` where room is refused.
+/// `NoMemory` if memory cannot be allocated.
 pub fn new_bots(alloc: Global, leaves: u16, zone: &Zone) -> Result<Vec<Bot<SteadyDisk>>, NoMemory>
     requires { leaves ≤ MAX_LEAVES }
     ensures { IfOk result (λ bots. AreNew leaves zone.now (leaves + 1) bots.items) }
@@ -59,7 +60,7 @@ pub fn new_bots(alloc: Global, leaves: u16, zone: &Zone) -> Result<Vec<Bot<Stead
     Ok(bots)
 }
 
-// A bot of this number.
+// The bot of this number.
 fn bot(alloc: Global, leaves: u16, zone: &Zone, number: u16) -> Result<Bot<SteadyDisk>, NoMemory>
     requires few { leaves ≤ MAX_LEAVES }
     requires numbered { number ≤ leaves }
@@ -74,14 +75,14 @@ fn bot(alloc: Global, leaves: u16, zone: &Zone, number: u16) -> Result<Bot<Stead
     ) {
         Ok(bot) => Ok(bot),
         Err(returned) => match returned.error {
-            // Nick and channel are good, the number is one of the botnet, and such a disk never fails.
+            // Nick and channel are good, the number is one of the botnet, and a steady disk never fails.
             Failure::Refused(_) => unreachable!(),
             Failure::NoMemory => Err(NoMemory),
         },
     }
 }
 
-// What the bot of this number is told.
+// The configuration of the bot of this number.
 fn config(alloc: Global, leaves: u16, zone: &Zone, number: u16) -> Result<Config, NoMemory>
     ensures { IfOk result (λ config. config ≡ config_of leaves zone.now number) }
 {

@@ -12,7 +12,7 @@ use std::alloc::Global;
 use std::marker::Model;
 use storage::{Disk, DiskFault};
 
-/// A disk in memory for which no fault is planned: so it never fails.
+/// A disk in memory for which no fault is planned, so it never fails.
 ///
 /// ```text
 /// let bot = Bot::create(alloc, config, SteadyDisk::new(alloc), SteadyDisk::new(alloc));   // no DiskFault
@@ -35,7 +35,7 @@ impl Model for SteadyDisk {
 }
 
 impl SteadyDisk {
-    /// An empty disk, which grows on this allocator. Takes no memory.
+    /// Creates an empty disk that grows on `alloc`. Never allocates itself.
     pub fn new(alloc: Global) -> SteadyDisk
         ensures { result ≡ empty }
     {

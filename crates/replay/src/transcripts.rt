@@ -22,11 +22,12 @@ use std::alloc::Global;
 use std::slice;
 use storage::Disk;
 
-/// The whole transcript of the script that these bytes spell, where its binds call the procs of this store.
+/// Returns the whole transcript of the script that the bytes `script` spell. The script's binds call the procs of
+/// `store`.
 ///
 /// # Errors
-/// `Refused` with the first line that breaks a rule; `NoMemory` where a growth is refused. Neither gives a part of the
-/// transcript. A script that is too long needs no memory to be refused.
+/// `Refused` with the first line that breaks a rule; `NoMemory` if memory cannot be allocated. Neither returns a part
+/// of the transcript. A script that is too long is refused without an allocation.
 pub fn transcript<P: Promise, B: Run>(
     alloc: Global,
     store: ProcStore<P, B>,
@@ -34,7 +35,7 @@ pub fn transcript<P: Promise, B: Run>(
 ) -> Result<Vec<u8>, ScriptError>
     ensures whole { IfOk result (λ text. IsTranscript P.promised store script.now text.items) }
     ensures refused { IsRefusedRightly script.now result }
-    // A script with a fault is answered with its first faulty line, unless memory runs out before that is seen.
+    // The result for a script with a fault is its first faulty line, unless memory runs out before that is found.
     ensures faulty { (line : ℕ) → HasFault script.now line → TellsFault line result }
     ensures reasons { TellsWhy script.now result }
     ensures too_long { MAX_SCRIPT < length script.now → result ≡ Err (Failure.Refused (record { line = 0; reason = why.TooLong })) }
@@ -66,7 +67,7 @@ fn text_of<P: Promise, B: Run>(
     Ok(text)
 }
 
-// Does commands in order, and adds what each prints.
+// Does commands in order, and appends what each prints.
 fn put_commands<P: Promise, D: Disk, B: Run>(
     alloc: Global,
     text: &mut Vec<u8>,
@@ -82,7 +83,7 @@ fn put_commands<P: Promise, D: Disk, B: Run>(
     Ok(())
 }
 
-// Does a command, and adds what it prints.
+// Does a command, and appends what it prints.
 fn put_command<P: Promise, D: Disk, B: Run>(
     alloc: Global,
     text: &mut Vec<u8>,
@@ -98,7 +99,7 @@ fn put_command<P: Promise, D: Disk, B: Run>(
     }
 }
 
-// Adds what a bot is at.
+// Appends a bot's version and records.
 fn put_show<P: Promise, D: Disk, B: Run>(
     alloc: Global,
     text: &mut Vec<u8>,
@@ -111,7 +112,7 @@ fn put_show<P: Promise, D: Disk, B: Run>(
     put_shown(alloc, text, world, bot)
 }
 
-// Makes steps in order, and adds what comes of each.
+// Makes steps in order, and appends what comes of each.
 fn put_steps<P: Promise, D: Disk, B: Run>(
     alloc: Global,
     text: &mut Vec<u8>,
@@ -127,7 +128,7 @@ fn put_steps<P: Promise, D: Disk, B: Run>(
     Ok(())
 }
 
-// Makes a step, and adds what comes of it.
+// Makes a step, and appends what comes of it.
 fn put_step<P: Promise, D: Disk, B: Run>(
     alloc: Global,
     text: &mut Vec<u8>,

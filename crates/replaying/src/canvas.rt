@@ -1,27 +1,28 @@
-// A text of SVG that grows: shapes and texts at its end.
+// An SVG text that grows: shapes and texts are appended.
 use bytetext::NoMemory;
 use itoa::Buffer;
 use std::alloc::Global;
 
-/// How a text stands to its place.
+/// How a text is aligned to its point.
 #[derive(Clone, Copy)]
 pub enum Anchor {
-    /// It begins there.
+    /// The text begins there.
     Start,
-    /// Its middle is there.
+    /// The middle of the text is there.
     Middle,
-    /// It ends there.
+    /// The text ends there.
     End,
 }
 
-/// A point, from the left and from the top.
+/// A point, measured from the left and from the top.
 #[derive(Clone, Copy)]
 pub struct Point {
     pub x: u32,
     pub y: u32,
 }
 
-/// What is drawn so far. A refused growth is remembered and told at the end; what lacked room is left out.
+/// What is drawn so far. If memory runs out, the canvas leaves out what it can't draw, and reports the failure at the
+/// end.
 #[derive(Drop)]
 pub struct Canvas {
     bytes: Vec<u8>,
@@ -29,7 +30,7 @@ pub struct Canvas {
 }
 
 impl Canvas {
-    /// Nothing is drawn. Takes no memory.
+    /// Creates an empty canvas. Never allocates.
     pub fn new(alloc: Global) -> Canvas {
         Canvas {
             bytes: Vec::new(alloc),
@@ -37,22 +38,23 @@ impl Canvas {
         }
     }
 
-    /// These bytes alone.
+    /// Creates a canvas that has the bytes `text`.
     pub fn of(alloc: Global, text: &[u8]) -> Canvas {
         let mut canvas = Canvas::new(alloc);
         canvas.put(text);
         canvas
     }
 
-    /// What was written apart, and whether a growth was refused then. Takes no memory.
+    /// Creates a canvas of `bytes` that were written elsewhere; `refused` says whether memory ran out then. Never
+    /// allocates.
     pub fn made(bytes: Vec<u8>, refused: bool) -> Canvas {
         Canvas { bytes, refused }
     }
 
-    /// All that is drawn.
+    /// Returns all that is drawn.
     ///
     /// # Errors
-    /// `NoMemory` where a growth was refused.
+    /// `NoMemory` if memory ran out for something that was to be drawn.
     pub fn into_bytes(self) -> Result<Vec<u8>, NoMemory> {
         if self.refused {
             Err(NoMemory)
@@ -61,32 +63,32 @@ impl Canvas {
         }
     }
 
-    /// Remembers that what was to be drawn lacked memory.
+    /// Notes that memory ran out for something that was to be drawn.
     pub fn lack(&mut self) {
         self.refused = true;
     }
 
-    /// Adds these bytes.
+    /// Appends the bytes `text`.
     pub fn put(&mut self, text: &[u8]) {
         if self.bytes.extend_from_slice(text).is_err() {
             self.refused = true;
         }
     }
 
-    /// Adds all that another has.
+    /// Appends all that `other` has.
     pub fn put_canvas(&mut self, other: &Canvas) {
         self.put(other.bytes.as_slice());
         self.refused = self.refused || other.refused;
     }
 
-    /// Adds a number in base ten.
+    /// Appends `number` in base ten.
     pub fn put_number(&mut self, number: u64) {
         let mut buffer = Buffer::new();
         self.put(buffer.format(number).as_bytes());
     }
 
-    /// Adds these bytes, at most so many, as text of XML: what is no printed ASCII becomes a question mark, and two full
-    /// stops stand for what is cut off.
+    /// Appends at most `most` bytes of `text` as XML text. A byte that is not printable ASCII becomes a question mark,
+    /// and two full stops replace what is cut off.
     pub fn put_text(&mut self, text: &[u8], most: usize) {
         for byte in text.iter().take(most) {
             match spelling_of(*byte) {
@@ -99,13 +101,13 @@ impl Canvas {
         }
     }
 
-    /// Adds all that another has, at most so many bytes, as text of XML.
+    /// Appends at most `most` bytes of what `other` has, as XML text.
     pub fn put_front(&mut self, other: &Canvas, most: usize) {
         self.put_text(other.bytes.as_slice(), most);
         self.refused = self.refused || other.refused;
     }
 
-    /// Adds ` NAME="NUMBER"`.
+    /// Appends the attribute ` NAME="NUMBER"`, with this `name` and this `value`.
     pub fn put_attribute(&mut self, name: &[u8], value: u32) {
         self.put(b" ");
         self.put(name);
@@ -114,7 +116,7 @@ impl Canvas {
         self.put(b"\"");
     }
 
-    /// Adds a line from one point to another, with more attributes.
+    /// Appends a line from the point `from` to the point `to`, with the attributes `more`.
     pub fn put_line(&mut self, from: Point, to: Point, more: &[u8]) {
         self.put(b"<line");
         self.put_attribute(b"x1", from.x);
@@ -124,7 +126,7 @@ impl Canvas {
         self.end_shape(more);
     }
 
-    /// Adds a circle, with more attributes.
+    /// Appends a circle around `middle` with this `radius`, and with the attributes `more`.
     pub fn put_circle(&mut self, middle: Point, radius: u32, more: &[u8]) {
         self.put(b"<circle");
         self.put_attribute(b"cx", middle.x);
@@ -133,7 +135,7 @@ impl Canvas {
         self.end_shape(more);
     }
 
-    /// Adds a square or a box, by its middle and its size, with more attributes.
+    /// Appends a square or a box around `middle` of this `size`, with the attributes `more`.
     pub fn put_box(&mut self, middle: Point, size: Point, more: &[u8]) {
         self.put(b"<rect");
         self.put_attribute(b"x", middle.x.saturating_sub(size.x / 2));
@@ -149,7 +151,8 @@ impl Canvas {
         self.put(b"/>\n");
     }
 
-    /// Begins a text at a point, with more attributes. [`end_text`](Canvas::end_text) ends it.
+    /// Begins a text at the point `at`, aligned by `anchor`, with the attributes `more`. [`end_text`](Canvas::end_text)
+    /// ends it.
     pub fn begin_text(&mut self, at: Point, anchor: Anchor, more: &[u8]) {
         self.put(b"<text");
         self.put_attribute(b"x", at.x);
@@ -170,7 +173,7 @@ impl Canvas {
     }
 }
 
-// What stands for a byte in a text of XML, or None where the byte itself does.
+// What replaces a byte in XML text, or `None` if the byte stays as it is.
 fn spelling_of(byte: u8) -> Option<&'static [u8]> {
     match byte {
         b'<' => Some(b"&lt;"),

@@ -14,5 +14,5 @@ pub enum PictureFault {
     TooLarge,
 }
 
-/// Why [`picture`](crate::picture) gives none: the script is refused, or else a growth was.
+/// Why [`picture`](crate::picture) returns none: the script is refused, or memory ran out.
 pub type PictureError = Failure<PictureFault>;

@@ -1,11 +1,12 @@
-// The packets, from where they are sent to where they come.
+// The packets, from where they are sent to where they are delivered.
 use crate::canvas::{Canvas, Point};
 use crate::places::place_of;
 
-// How far an arrow's head stands from the line of the bot that it goes to.
+// The distance between the head of an arrow and the line of its addressee.
 const HEAD: u32 = 11;
 
-// How far a packet goes that never comes, and how much further one that was sent after it in the same step.
+// The length of the line of a packet that is never delivered, and the extra length for each packet that its step sent
+// before it.
 const STUB: u32 = 34;
 
 const HUB_STUB: u32 = 10;
@@ -21,13 +22,13 @@ pub struct Flight {
     pub to: u16,
     /// Where it was sent.
     pub y: u32,
-    /// How many packets its step sent before it.
+    /// How many packets its step sent before this one.
     pub place: u32,
-    /// Whether it has come.
+    /// Whether it has been delivered.
     pub has_come: bool,
 }
 
-/// Adds the arrow of a packet that comes at this height.
+/// Draws on `out` the arrow of the packet `flight`, which is delivered at the height `y`.
 pub fn put_arrow(out: &mut Canvas, flight: &Flight, y: u32) {
     let from = Point {
         x: place_of(flight.from),
@@ -51,7 +52,7 @@ pub fn put_arrow(out: &mut Canvas, flight: &Flight, y: u32) {
     }
 }
 
-/// Adds what there is of a packet that never comes: a short line and a cross.
+/// Draws the packet `flight` on `out` if it was never delivered: a short line and a cross.
 pub fn put_lost(out: &mut Canvas, flight: &Flight) {
     if flight.has_come {
         return;
@@ -71,7 +72,7 @@ pub fn put_lost(out: &mut Canvas, flight: &Flight) {
     put_cross(out, to);
 }
 
-/// Adds a cross.
+/// Draws a cross on `out` at the point `at`.
 pub fn put_cross(out: &mut Canvas, at: Point) {
     let (left, right) = (at.x.saturating_sub(4), at.x.saturating_add(4));
     let (top, bottom) = (at.y.saturating_sub(4), at.y.saturating_add(4));

@@ -10,26 +10,26 @@ use procstore::Code;
 use replay::put_note;
 use std::alloc::Global;
 
-// How many texts of one kind are told at most.
+// The maximum number of texts of one kind that are shown.
 const MOST: usize = 6;
 
 const STYLE: &[u8] = b"class=\"note\"";
 
-/// How a refusal looks.
+/// The look of a refusal.
 pub const REFUSAL_STYLE: &[u8] = b"class=\"note refusal\"";
 
-// The notes of a step, one under the other.
+// The notes of a step, one below the other.
 #[derive(Drop)]
 struct Notes<'a> {
     out: &'a mut Canvas,
     bot: u16,
-    // Where the next one is, and how it looks.
+    // The place and the look of the next note.
     y: u32,
     style: &'static [u8],
 }
 
 impl Notes<'_> {
-    // Draws a text: at the left of the hub's line, and at the right of a leaf's.
+    // Draws a text: on the left of the hub's line, or on the right of a leaf's.
     fn add(&mut self, note: &Canvas) {
         let x = place_of(self.bot);
         let (x, anchor) = if self.bot == 0 {
@@ -46,8 +46,8 @@ impl Notes<'_> {
     }
 }
 
-/// Draws what came of a step: how it ended, the calls of procs, the packets and lines that were sent, and faults. Where
-/// the next are.
+/// Draws on `out` what came of the step of `report`, from the height `y` down: how it ended, the calls of procs, the
+/// packets and lines that it sent, and its faults. Returns the height of the next notes.
 pub fn put_notes(alloc: Global, out: &mut Canvas, report: &Report, y: u32) -> u32 {
     let mut notes = Notes {
         out,
@@ -67,7 +67,7 @@ pub fn put_notes(alloc: Global, out: &mut Canvas, report: &Report, y: u32) -> u3
     notes.y
 }
 
-/// Whether a step was refused, or a change was.
+/// Returns whether the step of `report` was refused, or whether a change was.
 pub fn is_refusal(report: &Report) -> bool {
     match (report.end, &report.note) {
         (End::Refused(_), _) | (End::Done, Some(Note::Link(LinkNote::Refused(_)))) => true,
@@ -75,7 +75,7 @@ pub fn is_refusal(report: &Report) -> bool {
     }
 }
 
-// How it ended; nothing where it is done and there is nothing to say of it.
+// How the step ended; nothing if it is done and has no note.
 fn put_end(alloc: Global, notes: &mut Notes<'_>, end: End, note: &Option<Note>) {
     match (end, note) {
         (End::Done, None) => {}
@@ -106,7 +106,7 @@ fn put_calls(alloc: Global, notes: &mut Notes<'_>, calls: &[MadeCall]) {
     put_more(alloc, notes, calls.len(), b" calls more");
 }
 
-// How many are not told.
+// How many are not shown.
 fn put_more(alloc: Global, notes: &mut Notes<'_>, count: usize, of: &[u8]) {
     if count > MOST {
         let mut text = Canvas::of(alloc, b"and ");

@@ -15,17 +15,17 @@ use script::{Command, Commands, Saying, Script, pieces_of, saying_of};
 use std::alloc::Global;
 use storage::Disk;
 
-/// The most leaves of a script whose run is drawn.
+/// The maximum number of leaves of a script whose run is drawn.
 pub const MAX_LEAVES: u16 = 8;
 
-/// The most steps of a script whose run is drawn.
+/// The maximum number of steps of a script whose run is drawn.
 pub const MAX_STEPS: usize = 200;
 
-/// The picture of the script that these bytes spell, where its binds call the procs of this store.
+/// Draws the run of the script that the bytes `script` spell. The script's binds call the procs of `store`.
 ///
 /// # Errors
-/// `Refused` with `Script` and the first line that breaks a rule, else with `TooLarge` above 9 bots or 200 steps;
-/// `NoMemory` where a growth is refused.
+/// - `Refused` with `Script` and the first line that breaks a rule, else with `TooLarge` above 9 bots or 200 steps.
+/// - `NoMemory` if memory cannot be allocated.
 pub fn picture<P: Promise, B: Run>(
     alloc: Global,
     store: ProcStore<P, B>,
@@ -43,7 +43,7 @@ pub fn picture<P: Promise, B: Run>(
     }
 }
 
-// How many steps commands have together.
+// The total number of steps of these commands.
 fn steps_of(commands: &Commands) -> usize {
     let mut count: usize = 0;
     for command in commands.as_slice() {
@@ -77,7 +77,7 @@ fn drawn<P: Promise, B: Run>(
     out.into_bytes()
 }
 
-// A row for each command but `show`, with its line.
+// A row for each command except `show`, with its line of the script.
 fn put_rows<P: Promise, D: Disk, B: Run>(
     alloc: Global,
     sheet: &mut Sheet,
@@ -93,7 +93,7 @@ fn put_rows<P: Promise, D: Disk, B: Run>(
     Ok(())
 }
 
-// The whole of it.
+// The whole page.
 fn put_page<P: Promise, D: Disk, B: Run>(
     out: &mut Canvas,
     sheet: &mut Sheet,
@@ -114,7 +114,7 @@ fn put_page<P: Promise, D: Disk, B: Run>(
     out.put(b"</svg>\n");
 }
 
-// What begins a picture of this size: its ground, fonts and the heads of arrows.
+// The beginning of a picture of this size: its background, fonts and arrowheads.
 fn put_head(out: &mut Canvas, width: u32, height: u32) {
     out.put(b"<svg xmlns=\"http://www.w3.org/2000/svg\"");
     out.put_attribute(b"width", width);
@@ -124,7 +124,7 @@ fn put_head(out: &mut Canvas, width: u32, height: u32) {
     out.put(b"<rect width=\"100%\" height=\"100%\" fill=\"#ffffff\"/>\n");
 }
 
-// How texts and heads of arrows look. A text has a white rim, so that it can be read over an arrow.
+// The look of texts and arrowheads. A text has a white rim, so that it can be read over an arrow.
 const STYLE: &[u8] = b"<style>\n\
 .label{font-family:monospace;fill:#222}\n\
 .count{fill:#888}\n\

@@ -1,4 +1,4 @@
-// Scripts, drawn.
+// Draws scripts.
 use crate::painting::picture;
 use crate::scripts::replay_told;
 use crate::statuses::{FAULT, not_read, out_of_memory};
@@ -10,8 +10,8 @@ use std::io;
 use std::rt::Files;
 use streams::{Duplex, Stream};
 
-/// Draws the run of the script in this file, or on standard input where none is named, as SVG on standard output.
-/// Standard error says why where it ends early; the status says it too.
+/// Draws the run of the script in `file`, or on standard input if `file` is `None`, as SVG on standard output. The
+/// binds call the procs of `store`. If it ends early, standard error says why. Returns the status to end with.
 pub fn picture_script<
     R: Input + Print + Eprint + AllocGlobal + Files<File = File>,
     P: Promise,

@@ -12,24 +12,24 @@ use std::alloc::Global;
 use std::slice;
 use storage::Disk;
 
-// How the number in a mark looks, and how the label of a row and its number do.
+// The looks of the number in a mark, and of the label of a row and its number.
 const VERSION_STYLE: &[u8] = b"class=\"version\"";
 
 const LABEL_STYLE: &[u8] = b"class=\"label\"";
 
 const COUNT_STYLE: &[u8] = b"class=\"count\"";
 
-/// What is drawn so far, but for the bots' own lines.
+/// What is drawn so far, except for the bots' own lines.
 pub struct Sheet {
-    /// The arrows, which lie under the rest.
+    /// The arrows, which lie below the rest.
     pub arrows: Canvas,
     /// Marks and texts.
     pub marks: Canvas,
-    /// The packets, by their numbers from 1.
+    /// The packets, by number from 1.
     pub flights: Vec<Flight>,
-    /// Where the next row is.
+    /// The height of the next row.
     pub y: u32,
-    /// How many rows there are.
+    /// The number of rows so far.
     pub rows: u32,
 }
 
@@ -47,7 +47,7 @@ impl Drop for Sheet {
 }
 
 impl Sheet {
-    /// Nothing is drawn. Takes no memory.
+    /// Creates a sheet with nothing drawn, whose first row is at the height `y`. Never allocates.
     pub fn new(alloc: Global, y: u32) -> Sheet {
         Sheet {
             arrows: Canvas::new(alloc),
@@ -59,7 +59,7 @@ impl Sheet {
     }
 }
 
-/// Makes the steps of a command, and draws its row.
+/// Makes the `steps` of a command in `world`, and draws its row on `sheet`, with its `line` of the script.
 pub fn put_row<P: Promise, D: Disk, B: Run>(
     alloc: Global,
     sheet: &mut Sheet,
@@ -76,7 +76,7 @@ pub fn put_row<P: Promise, D: Disk, B: Run>(
     sheet.y = y.max(sheet.y.saturating_add(LINE)).saturating_add(GAP);
 }
 
-// The number of a row and its line of the script, and of a packet that comes what it is.
+// The number of a row and its line of the script, and what the packet of a delivery is.
 fn put_label<P: Promise, D: Disk, B: Run>(
     alloc: Global,
     sheet: &mut Sheet,
@@ -97,7 +97,7 @@ fn put_label<P: Promise, D: Disk, B: Run>(
     out.end_text();
 }
 
-// What a packet is; nothing where there is none of this number.
+// What a packet is; nothing if no packet has this number.
 fn put_kind<P: Promise, D: Disk, B: Run>(
     alloc: Global,
     out: &mut Canvas,
@@ -114,7 +114,7 @@ fn put_kind<P: Promise, D: Disk, B: Run>(
     out.put(b")");
 }
 
-// Makes a step and draws what came of it at this height. Where the next step of the row is.
+// Makes a step and draws what came of it at this height. Returns the height of the next step of the row.
 fn put_step<P: Promise, D: Disk, B: Run>(
     alloc: Global,
     sheet: &mut Sheet,
@@ -148,7 +148,7 @@ fn version_of<P: Promise, D: Disk, B: Run>(world: &World<P, D, B>, step: &Step) 
     }
 }
 
-// What is said of a step in which no bot takes part.
+// What a row shows for a step in which no bot takes part.
 fn put_none(sheet: &mut Sheet, text: &[u8], y: u32) -> u32 {
     let at = Point {
         x: place_of(0).saturating_sub(15),
@@ -160,7 +160,7 @@ fn put_none(sheet: &mut Sheet, text: &[u8], y: u32) -> u32 {
     y.saturating_add(LINE)
 }
 
-// Draws the arrow of a packet that comes.
+// Draws the arrow of a packet that is delivered.
 fn land(sheet: &mut Sheet, step: &Step, y: u32) {
     let Step::Deliver { packet } = step else {
         return;
@@ -198,7 +198,7 @@ fn send<P: Promise, D: Disk, B: Run>(
     }
 }
 
-// Draws a bot's mark and its notes. Where the next are.
+// Draws a bot's mark and its notes. Returns the height of the next.
 fn put_report<P: Promise, D: Disk, B: Run>(
     alloc: Global,
     sheet: &mut Sheet,
@@ -212,7 +212,7 @@ fn put_report<P: Promise, D: Disk, B: Run>(
     put_notes(alloc, &mut sheet.marks, report, y)
 }
 
-// A step's mark, with the version in it where that has changed or was found.
+// A step's mark, with the version in it if the version has changed or was found by a restart.
 fn put_mark(out: &mut Canvas, report: &Report, is_changed: bool, version: u32, y: u32) {
     let at = Point {
         x: place_of(report.bot),

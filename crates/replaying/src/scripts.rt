@@ -1,4 +1,4 @@
-// Scripts, replayed.
+// Replays scripts.
 use crate::statuses::{FAULT, STREAM_FAULT, not_read, out_of_memory};
 use procstore::{ProcStore, Promise, Run};
 use replay::{ReplayError, replay};
@@ -7,8 +7,8 @@ use std::io;
 use std::rt::Files;
 use streams::{Duplex, Stream};
 
-/// Replays the script on standard input, with its transcript on standard output. Standard error says why where it ends
-/// early; the status says it too.
+/// Replays the script on standard input, with its transcript on standard output. The binds call the procs of `store`.
+/// If it ends early, standard error says why. Returns the status to end with.
 pub fn replay_input<R: Input + Print + Eprint + AllocGlobal, P: Promise, B: Run>(
     rt: &R,
     store: ProcStore<P, B>,
@@ -16,7 +16,7 @@ pub fn replay_input<R: Input + Print + Eprint + AllocGlobal, P: Promise, B: Run>
     replayed(rt, store, &mut Duplex::new(rt.reader(), io::writer(rt)))
 }
 
-/// Replays the script in a file, as [`replay_input`] does that on standard input.
+/// Replays the script in `file`, as [`replay_input`] does with standard input. The binds call the procs of `store`.
 pub fn replay_file<R: Print + Eprint + AllocGlobal + Files<File = File>, P: Promise, B: Run>(
     rt: &R,
     store: ProcStore<P, B>,
@@ -40,7 +40,7 @@ fn replayed<R: Eprint + AllocGlobal, P: Promise, B: Run, S: Stream>(
     }
 }
 
-// Tells why a script's run was not told, or not drawn.
+// Reports why a script's run was not replayed or not drawn.
 pub(crate) fn replay_told<R: Eprint>(rt: &R, error: ReplayError) -> u8 {
     let status = match error {
         ReplayError::Script(_) => FAULT,

@@ -4,10 +4,10 @@ use std::io::ErrorKind;
 use std::rt::Env;
 use std::{env, io};
 
-/// The words of the command line, the program's own name first.
+/// Returns the words of the command line, the program's own name first.
 ///
 /// # Errors
-/// Where one is no UTF-8, and where memory is refused.
+/// If a word is not UTF-8, or memory cannot be allocated.
 pub fn words_of<R: AllocGlobal + Env>(rt: &R) -> io::Result<Vec<String>> {
     let mut words = Vec::new(rt.alloc());
     for word in env::args(rt)? {
@@ -16,7 +16,7 @@ pub fn words_of<R: AllocGlobal + Env>(rt: &R) -> io::Result<Vec<String>> {
     Ok(words)
 }
 
-/// Tells why the words of the command line can't be had.
+/// Reports the `error` of [`words_of`], and returns the status to end with.
 pub fn unread<R: Eprint>(rt: &R, error: &io::Error) -> u8 {
     match error.kind() {
         ErrorKind::OutOfMemory => out_of_memory(rt),

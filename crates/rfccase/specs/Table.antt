@@ -1,7 +1,8 @@
 -- The lower case of each of the 256 bytes, in their order, written out as a table.
 use Rattle.std.specs.Prelude.{ℕ, List, [], ◌∷◌}
 
--- sixteen bytes a row: row 4 begins with that of @, row 5 with that of P, and row 7 ends with those of | } ~ DEL
+-- sixteen bytes a row, rows counted from 0: row 4 begins with the lower case of @, row 5 with that of P, and row 7 ends
+-- with those of | } ~ DEL
 unfoldable pub lower_cases : List ℕ
 lower_cases =
     0x00 ∷ 0x01 ∷ 0x02 ∷ 0x03 ∷ 0x04 ∷ 0x05 ∷ 0x06 ∷ 0x07 ∷ 0x08 ∷ 0x09 ∷ 0x0a ∷ 0x0b ∷ 0x0c ∷ 0x0d ∷ 0x0e ∷ 0x0f ∷

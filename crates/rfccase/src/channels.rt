@@ -6,8 +6,8 @@ ghost use Rattle.rfccase.specs.Channels.{is_channel_name, is_channel_start, is_c
 /// The most bytes that a channel name has. RFC 2812 says 50 characters, and servers announce longer ones.
 pub const MAX_CHANNEL_NAME: usize = 100;
 
-/// Whether a text is a channel name (RFC 2812 section 1.3): the first byte is one of `&`, `#`, `+` and `!`, there are at
-/// most 100 bytes, and none of them is a space, a comma or control G.
+/// Returns whether `text` is a channel name (RFC 2812 section 1.3): the first byte is one of `&`, `#`, `+` and `!`,
+/// there are at most 100 bytes, and none of them is a space, a comma or control G.
 pub fn is_channel_name(text: &[u8]) -> bool
     ensures { result ≡ is_channel_name text.now }
 {

@@ -6,7 +6,7 @@ ghost use Rattle.rfccase.specs.Table.{lower_cases};
 use bytetext::{NoMemory, bytes_of};
 use std::alloc::Global;
 
-/// The lower case of a byte, or the byte itself where it has none (RFC 2812 section 2.2).
+/// Returns the lower case of `byte`, or `byte` itself if it has none (RFC 2812 section 2.2).
 pub fn fold(byte: u8) -> u8
     ensures lower { result ≡ low byte }
     ensures table { result ≡ slice_index lower_cases byte }
@@ -18,7 +18,7 @@ pub fn fold(byte: u8) -> u8
     }
 }
 
-/// Whether two texts are the same but for the case of their bytes.
+/// Returns whether `a` and `b` are the same but for the case of their bytes.
 pub fn same(a: &[u8], b: &[u8]) -> bool
     ensures { IsTrue result ↔ IsSame a.now b.now }
 {
@@ -33,7 +33,7 @@ pub fn same(a: &[u8], b: &[u8]) -> bool
     true
 }
 
-/// Puts the lower case of each byte in its place.
+/// Replaces each byte of `text` by its lower case.
 pub fn fold_slice(text: &mut [u8])
     ensures { text.new ≡ folded text.old }
 {
@@ -42,10 +42,10 @@ pub fn fold_slice(text: &mut [u8])
     }
 }
 
-/// The lower case of a text.
+/// Returns the lower case of `text`.
 ///
 /// # Errors
-/// `NoMemory` where room for the copy is refused: never where the text is empty.
+/// `NoMemory` if the copy cannot be allocated; never if `text` is empty.
 pub fn fold_text(alloc: Global, text: &[u8]) -> Result<Vec<u8>, NoMemory>
     ensures { MatchResult result (λ lower. lower.items ≡ folded text.now) (λ _. 0 < length text.now) }
 {

@@ -15,8 +15,8 @@ use std::cmp::Ordering;
 use std::hash::{Hash, Hasher};
 use std::marker::Model;
 
-/// A text as a key of a map or a set: two keys are equal exactly where their texts are the same by [`same`].
-/// Contracts see the list of the text's lower cases, by which keys are also ordered.
+/// A text as a key of a map or a set: two keys are equal exactly if their texts are the same by [`same`].
+/// Contracts see the lower case of the text as a list of bytes, by which keys are also ordered.
 ///
 /// [`same`]: crate::same
 #[derive(Debug, Drop)]
@@ -33,10 +33,10 @@ impl Model for FoldKey {
 }
 
 impl FoldKey {
-    /// The key of this text.
+    /// Creates the key of `text`.
     ///
     /// # Errors
-    /// `NoMemory` where room for the key is refused: never where the text is empty.
+    /// `NoMemory` if the key cannot be allocated; never if `text` is empty.
     pub fn new(alloc: Global, text: &[u8]) -> Result<FoldKey, NoMemory>
         ensures { MatchResult result (λ key. key ≡ folded text.now) (λ _. 0 < length text.now) }
     {
@@ -44,7 +44,7 @@ impl FoldKey {
         Ok(FoldKey { lower })
     }
 
-    /// The lower case of the key's text.
+    /// Returns the lower case of the key's text.
     pub fn as_bytes(&self) -> &[u8]
         ensures { result.now ≡ self.now }
     {

@@ -1,12 +1,12 @@
-//! Names on IRC: casemapping, which says what bytes and texts are the same, and what a channel name is.
+//! Names on IRC: casemapping, which says which bytes and texts are the same, and what a channel name is.
 //!
-//! By RFC 2812 section 2.2 the bytes `{ } | ^` are the lower case of `[ ] \ ~`, beside A to Z. Nicks, channels,
-//! handles, masks, keywords and hostmasks are compared so. Bytes above 127 have no case.
+//! RFC 2812 section 2.2 makes the bytes `{ } | ^` the lower case of `[ ] \ ~`, besides A to Z. Nicks, channels,
+//! handles, masks, keywords and hostmasks are compared by this rule. Bytes above 127 have no case.
 //!
-//! [`fold`] gives the lower case of a byte, and [`same`] compares two texts. A [`FoldKey`] is a text as a key of
-//! a map: two are equal, order the same and hash the same exactly where their texts are the same. [`fold_text`] and
-//! [`fold_slice`] give the lower case of a whole text, for who keeps or looks up folded bytes. [`is_channel_name`] is
-//! the rule of RFC 2812 section 1.3.
+//! [`fold`] returns the lower case of a byte, and [`same`] compares two texts. A [`FoldKey`] is a text as a key of
+//! a map: two are equal, order the same and hash the same exactly if their texts are the same. [`fold_text`] and
+//! [`fold_slice`] fold a whole text, for a caller that keeps or looks up folded bytes. [`is_channel_name`] is the rule
+//! of RFC 2812 section 1.3.
 //!
 //! ```text
 //! same(b"Nick[a]\\~", b"nick{a}|^")        // true

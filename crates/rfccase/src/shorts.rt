@@ -5,8 +5,8 @@ ghost use Rattle.rfccase.specs.Casemapping.{folded};
 use crate::folds::fold_slice;
 use std::marker::Model;
 
-/// The lower case of a text of at most `N` bytes, held without taking memory: for a look-up among folded keys in a
-/// call that may take none. Contracts see the list of the lower cases.
+/// The lower case of a text of at most `N` bytes, held on the stack: for a look-up among folded keys in a call that
+/// must not allocate. Contracts see the folded bytes as a list.
 #[derive(Drop)]
 pub struct ShortFold<const N: usize> {
     bytes: [u8; N],
@@ -24,7 +24,7 @@ impl<const N: usize> Model for ShortFold<N> {
 }
 
 impl<const N: usize> ShortFold<N> {
-    /// The lower case of this text, or `None` where it has more than `N` bytes.
+    /// Creates the lower case of `text`, or returns `None` if it has more than `N` bytes.
     pub fn new(text: &[u8]) -> Option<ShortFold<N>>
         ensures { MatchOption result (N < length text.now) (λ lower. lower ≡ folded text.now) }
     {
@@ -39,14 +39,14 @@ impl<const N: usize> ShortFold<N> {
         Some(ShortFold { bytes, len })
     }
 
-    /// The lower case of the text.
+    /// Returns the lower case of the text.
     pub fn as_bytes(&self) -> &[u8]
         ensures { result.now ≡ self.now }
     {
         &self.bytes[..self.len]
     }
 
-    /// An equal short text of its own. Takes no memory.
+    /// Returns an equal short text of its own. Does not allocate.
     pub fn copy(&self) -> ShortFold<N>
         ensures { result ≡ self.now }
     {

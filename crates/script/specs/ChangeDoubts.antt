@@ -9,17 +9,17 @@ use Rattle.script.specs.declared.change_word.ChangeWord.TheVariants.{AddUser, De
 use Rattle.script.specs.Vocabulary.{change_word_named}
 use Rattle.script.specs.Spacing.{misread, gap_before}
 
--- the first of two that there is
+-- the first of two reasons, if there is one
 abbrev pub first_of : Option Reason → Option Reason → Option Reason
 first_of (Some reason) other = Some reason
 first_of None other = other
 
--- a word that was looked for: where it is missing, why
+-- a reason, unless the word was found
 abbrev pub unless_found : {T : Type 0} → Option T → Reason → Option Reason
 unless_found (Some value) reason = None
 unless_found None reason = Some reason
 
--- a word that may be any but empty
+-- a word that may be anything but empty
 abbrev pub gap_doubt : Reason → List ℕ → Option Reason
 gap_doubt gap word = if is_empty word then Some gap else None
 
@@ -42,12 +42,12 @@ expiry_doubt gap e = unless_found (number_below 18446744073709551616 e) (misread
 abbrev pub mark_doubt : List ℕ → Option Reason
 mark_doubt n = unless_found (number_below 2 n) (misread SpaceAfter Mark n)
 
--- a comment is the rest of the line, and not empty where there is one; so is an info
+-- a comment, and likewise an info, is the rest of the line; it may be left out, but not be empty
 abbrev pub comment_doubt : ChangeWord → List (List ℕ) → Option Reason
 comment_doubt word [] = None
 comment_doubt word (first ∷ rest) = text_doubt (ChangeForm word) first rest
 
--- two words before others, neither of them empty
+-- two words that others follow; neither may be empty
 abbrev pub gaps_doubt : List ℕ → List ℕ → Option Reason
 gaps_doubt a b = first_of (gap_doubt TwoSpaces a) (gap_doubt TwoSpaces b)
 
@@ -110,7 +110,7 @@ four_doubt Chan c m h e comment = Some (ChangeForm Chan)
 four_doubt Info c m h e comment = Some (ChangeForm Info)
 four_doubt Sticky c m h e comment = Some (ChangeForm Sticky)
 
--- the changes that have a count of words each
+-- every change but info, by its number of words
 abbrev pub counted_doubt : ChangeWord → List (List ℕ) → Option Reason
 counted_doubt word [] = Some (ChangeForm word)
 counted_doubt word (a ∷ []) = one_doubt word a

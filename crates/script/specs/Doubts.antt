@@ -19,7 +19,7 @@ use Rattle.script.specs.ChangeDoubts.{first_of, unless_found, gap_doubt, text_do
 abbrev pub bot_doubt : Reason → List ℕ → Option Reason
 bot_doubt gap a = unless_found (number_below 65536 a) (misread gap bot_reason a)
 
--- as many leaves as a hub may have
+-- a number of leaves, at most as many as a hub may have
 abbrev pub count_doubt : Option ℕ → List ℕ → Option Reason
 count_doubt (Some leaves) a = if nat_le leaves MAX_LEAVES then None else Some leaves_reason
 count_doubt None a = Some (misread SpaceAfter leaves_reason a)
@@ -42,7 +42,7 @@ seconds_doubt word = unless_found (number_below 18446744073709551616 word) (misr
 abbrev pub clock_doubt : List ℕ → List (List ℕ) → Option Reason
 clock_doubt word words = if length words == 0 then seconds_doubt word else Some (Form Clock)
 
--- the word of a kind of binds, before these
+-- the word of a kind of binds, which these words follow
 abbrev pub kind_doubt : List ℕ → List (List ℕ) → Option Reason
 kind_doubt kind words = unless_found (kind_of kind) (misread (gap_before words) Kind kind)
 
@@ -99,7 +99,7 @@ words_doubt Deliver a first words = Some (Form Deliver)
 words_doubt Show a first words = Some (Form Show)
 words_doubt Zone a first words = Some (Form Zone)
 
--- each verb has its count of words
+-- each verb has its number of words
 abbrev pub verb_doubt : Verb → List (List ℕ) → Option Reason
 verb_doubt verb [] = Some (Form verb)
 verb_doubt verb (a ∷ []) = word_doubt verb a

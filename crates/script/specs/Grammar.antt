@@ -22,25 +22,25 @@ use Rattle.scriptwords.specs.Changes.{change_named}
 use Rattle.script.specs.Binds.{new_bind_of, old_bind_of}
 use Rattle.script.specs.Lines.{line_steps}
 
--- a bot's number, and a packet's
+-- the number of a bot, and of a packet
 abbrev pub bot_of : List ℕ → Option ℕ
 bot_of word = number_below 65536 word
 
 abbrev pub packet_of : List ℕ → Option ℕ
 packet_of word = number_below 18446744073709551616 word
 
--- what a clock reads
+-- what a clock shows
 abbrev pub reading_of : List ℕ → Option ℕ
 reading_of word = number_below 18446744073709551616 word
 
--- as many leaves as a hub may have
+-- at most as many leaves as a hub may have
 abbrev pub few_leaves : ℕ → Option ℕ
 few_leaves leaves = if nat_le leaves MAX_LEAVES then Some leaves else None
 
 abbrev pub leaves_of : List ℕ → Option ℕ
 leaves_of word = option_and_then few_leaves (bot_of word)
 
--- a word that was looked for: where it is missing, the line is wrong
+-- a word that was looked for: the line is wrong if it is missing
 abbrev pub told : Option Command → Saying
 told None = Wrong
 told (Some command) = Told command
@@ -60,11 +60,11 @@ one_step step = Steps (step ∷ [])
 abbrev pub delivered : ℕ → Command
 delivered packet = one_step (Deliver packet)
 
--- what a bot is told
+-- the command that gives this event to the bot of this number
 abbrev pub event_at : ℕ → Event → Command
 event_at bot event = one_step (At bot event)
 
--- the bot of a word is told this
+-- the same; the line is wrong if the bot's number is missing
 abbrev pub told_to : Option ℕ → Event → Saying
 told_to bot event = told (option_map (λ number. event_at number event) bot)
 
@@ -122,7 +122,7 @@ more_words (Some show_verb) a first words = Wrong
 more_words (Some zone_verb) a first words = Wrong
 more_words None a first words = Wrong
 
--- each command has its count of words
+-- each command has its number of words
 abbrev pub saying_by_words : List (List ℕ) → Saying
 saying_by_words (verb ∷ a ∷ []) = two_words (verb_named verb) a
 saying_by_words (verb ∷ a ∷ first ∷ words) = more_words (verb_named verb) a first words
@@ -134,7 +134,7 @@ abbrev pub has_text : List ℕ → Bool
 has_text [] = false
 has_text (b ∷ bs) = not (b == 35)
 
--- an empty line, and one that begins with #, says nothing
+-- a line says nothing if it is empty or begins with #
 abbrev pub saying_of : List ℕ → Saying
 saying_of [] = Nothing
 saying_of (b ∷ bs) = if b == 35 then Nothing else saying_by_words (words_of (b ∷ bs))

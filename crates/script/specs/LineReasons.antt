@@ -6,7 +6,7 @@ use Rattle.script.specs.declared.reason.Reason.TheVariants as reason
 use Rattle.script.specs.Spacing.{ends_reason, spacing_reason}
 use Rattle.script.specs.Doubts.{doubt_of}
 
--- a reason that the count of words is
+-- whether the reason is a wrong number of words
 abbrev pub is_form : Reason → Bool
 is_form (reason.Form verb) = true
 is_form (reason.ChangeForm word) = true
@@ -34,7 +34,7 @@ is_form reason.LeavesFirst = false
 is_form reason.LeavesAgain = false
 is_form reason.ZoneLate = false
 
--- what to say first of a line that is wrong for this reason
+-- what to report of a line that is wrong for this reason: its ends or its spaces come first
 abbrev pub refined : List ℕ → List (List ℕ) → Reason → Reason
 refined line words why =
     unwrap_or (if is_form why then spacing_reason line words else ends_reason line) why
@@ -42,7 +42,7 @@ refined line words why =
 abbrev pub reason_by_words : List ℕ → List (List ℕ) → Option Reason
 reason_by_words line words = option_map (refined line words) (doubt_of words)
 
--- an empty line, and one that begins with #, says nothing
+-- a line says nothing if it is empty or begins with #
 abbrev pub line_reason : List ℕ → Option Reason
 line_reason [] = None
 line_reason (b ∷ bs) = if b == 35 then None else reason_by_words (b ∷ bs) (words_of (b ∷ bs))

@@ -1,4 +1,4 @@
--- The lines that a script has a bot read.
+-- The lines that a script makes a bot read.
 use Rattle.std.specs.Prelude.{ℕ, List, [], ◌∷◌, ◌++◌, map}
 use Rattle.ircline.specs.declared.line.Line.{Line as read_line}
 use Rattle.ircline.specs.Stream.{lines_of}
@@ -10,7 +10,7 @@ use Rattle.botworld.specs.declared.step.Step.TheVariants.{At}
 abbrev pub line_step : ℕ → read_line → Step
 line_step bot line = At bot (Line line)
 
--- Each line of the text and a line feed after it is a step: a carriage return in the text cuts it, and a text of
--- carriage returns alone has no line.
+-- Each line of the text, with a line feed after the text, is a step. A carriage return in the text ends a line, and a
+-- text of carriage returns alone has no line.
 abbrev pub line_steps : ℕ → List ℕ → List Step
 line_steps bot text = map (line_step bot) (lines_of (text ++ 10 ∷ []))

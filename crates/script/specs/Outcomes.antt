@@ -1,4 +1,4 @@
--- What reading a script answers, and how far a reader has come.
+-- What reading a script returns, and how far a reader has come.
 use Rattle.std.specs.Prelude.{◌≡◌, ℕ, zero, suc, Bool, true, false, List, [], ◌∷◌, ◌++◌, map, Option, None, Some, Result, Ok, Err}
 use Rattle.script.specs.declared.saying.Saying.{Saying}
 use Rattle.script.specs.declared.saying.Saying.TheVariants.{Leaves, Told}
@@ -14,7 +14,7 @@ ReadsAs bytes (Ok script) = Spells bytes script
 ReadsAs bytes (Err (Refused fault)) = HasFault bytes fault.line
 ReadsAs bytes (Err NoMemory) = Unit {0}
 
--- the same of its lines alone
+-- the same, given its lines
 abbrev pub HasLineFault : List (List ℕ) → ℕ → Type 0
 HasLineFault lines zero = said lines ≡ []
 HasLineFault lines (suc place) = BreaksAt lines place
@@ -24,12 +24,12 @@ LinesReadAs lines (Ok script) = said lines ≡ Leaves script.leaves ∷ (zone_sa
 LinesReadAs lines (Err (Refused fault)) = HasLineFault lines fault.line
 LinesReadAs lines (Err NoMemory) = Unit {0}
 
--- what was said in the lines so far, by the script that they make
+-- what the lines so far said, given the script that they make
 abbrev pub so_far : Option Script → List Saying
 so_far None = []
 so_far (Some script) = Leaves script.leaves ∷ (zone_said script.zone ++ map Told script.commands)
 
--- the next line goes on with the script, or breaks a rule
+-- the next line continues the script, or breaks a rule
 abbrev pub GoesOn : Option Script → Saying → Bool → Option Script → Type 0
 GoesOn old saying true new = so_far new ≡ so_far old ++ onto_said saying []
 GoesOn old saying false new = begins_script (so_far old ++ onto_said saying []) ≡ false

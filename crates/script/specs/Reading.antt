@@ -8,7 +8,8 @@ use Rattle.script.specs.declared.TheConstants.{MAX_SCRIPT}
 use Rattle.script.specs.Grammar.{saying_of}
 use Rattle.bottimers.specs.Zones.{TzText}
 
--- the lines, which a line feed ends or divides each: after the last one stands an empty line
+-- the lines, each ended or separated by a line feed: after the last line feed there is one more line, which may be
+-- empty
 abbrev pub lines_of : List ℕ → List (List ℕ)
 lines_of bytes = slice_split (λ b. b == 10) bytes
 
@@ -24,7 +25,7 @@ abbrev pub said : List (List ℕ) → List Saying
 said [] = []
 said (line ∷ lines) = onto_said (saying_of line) (said lines)
 
--- commands alone
+-- whether these are all commands
 abbrev pub are_told : List Saying → Bool
 are_told [] = true
 are_told (Told command ∷ says) = are_told says
@@ -33,7 +34,7 @@ are_told (Leaves n ∷ says) = false
 are_told (Zone rule ∷ says) = false
 are_told (Wrong ∷ says) = false
 
--- commands, and before them the zone where it is said
+-- whether these are all commands, after the zone if it is given
 abbrev pub are_told_in_zone : List Saying → Bool
 are_told_in_zone (Zone rule ∷ says) = are_told says
 are_told_in_zone (Told command ∷ says) = are_told says
@@ -42,7 +43,8 @@ are_told_in_zone (Leaves n ∷ says) = false
 are_told_in_zone (Wrong ∷ says) = false
 are_told_in_zone [] = true
 
--- a script can go on from here: nothing is said yet, or the number of leaves, the zone at will, and then commands
+-- whether a script can continue from here: nothing is said yet, or the number of leaves, perhaps the zone, and then
+-- commands
 abbrev pub begins_script : List Saying → Bool
 begins_script [] = true
 begins_script (Leaves n ∷ says) = are_told_in_zone says
@@ -51,23 +53,24 @@ begins_script (Nothing ∷ says) = false
 begins_script (Told command ∷ says) = false
 begins_script (Wrong ∷ says) = false
 
--- the zone, where it is said
+-- the zone, if it is given
 abbrev pub zone_said : Option TzText → List Saying
 zone_said None = []
 zone_said (Some rule) = Zone rule ∷ []
 
--- these bytes are this script: not too many, and they say the number of leaves, its zone and then its commands
+-- these bytes are this script: they are not too many, and they say the number of leaves, the zone if it is given, and
+-- then the commands
 pub record Spells (bytes : List ℕ) (script : Script) : Type 0 where
   pub short : length bytes ≤ MAX_SCRIPT
   pub says : said (lines_of bytes) ≡ Leaves script.leaves ∷ (zone_said script.zone ++ map Told script.commands)
 
--- a script can go on from the lines before this place, and not from those with it
+-- a script can continue from the lines before this place, but not from those lines and the one at this place
 pub record BreaksAt (lines : List (List ℕ)) (place : ℕ) : Type 0 where
   pub within : place < length lines
   pub before : begins_script (said (take place lines)) ≡ true
   pub here : begins_script (said (take (suc place) lines)) ≡ false
 
--- this line, from 1, is the first that breaks a rule; 0 where the bytes are too many, or say nothing
+-- this line, counted from 1, is the first that breaks a rule; 0 if the bytes are too many or say nothing
 abbrev pub HasFault : List ℕ → ℕ → Type 0
 HasFault bytes zero = (MAX_SCRIPT < length bytes) ⊎ (said (lines_of bytes) ≡ [])
 HasFault bytes (suc place) = (length bytes ≤ MAX_SCRIPT) × BreaksAt (lines_of bytes) place

@@ -12,7 +12,7 @@ use Rattle.script.specs.declared.saying.Saying.TheVariants.{Nothing, Leaves, Zon
 use Rattle.script.specs.Grammar.{saying_of}
 use Rattle.script.specs.Reading.{said, lines_of}
 
--- after the number of leaves only a second one, or a zone, breaks a rule
+-- after the number of leaves, only a second one or a zone can break a rule
 abbrev pub late_reason : Saying → Reason
 late_reason (Leaves n) = LeavesAgain
 late_reason Nothing = ZoneLate
@@ -20,16 +20,16 @@ late_reason (Zone rule) = ZoneLate
 late_reason (Told command) = ZoneLate
 late_reason Wrong = ZoneLate
 
--- how a line of this saying, which is right by itself, breaks a rule after what was said
+-- how a line that is right by itself breaks a rule after what was said before
 abbrev pub order_reason : List Saying → Saying → Reason
 order_reason [] saying = LeavesFirst
 order_reason (first ∷ says) saying = late_reason saying
 
--- a line's own reason, or else that of its place
+-- a line's own reason, or else the reason of its place
 abbrev pub reason_after : List Saying → List ℕ → Reason
 reason_after says line = unwrap_or (line_reason line) (order_reason says (saying_of line))
 
--- why these lines have a fault in the line of this number
+-- why the line of this number is the fault of these lines
 abbrev pub lines_why : List (List ℕ) → ℕ → Reason
 lines_why lines zero = NoCommand
 lines_why lines (suc place) = reason_after (said (take place lines)) (get_or lines place [])
@@ -37,7 +37,7 @@ lines_why lines (suc place) = reason_after (said (take place lines)) (get_or lin
 abbrev pub why : List ℕ → ℕ → Reason
 why bytes line = if nat_lt MAX_SCRIPT (length bytes) then TooLong else lines_why (lines_of bytes) line
 
--- ---- what is answered
+-- ---- what is returned
 
 -- a fault of this line has this reason
 abbrev pub TellsReason : ℕ → Reason → Failure ScriptFault → Type 0

@@ -9,7 +9,7 @@ use Rattle.script.specs.declared.reason.Reason.TheVariants.{CarriageReturn, Byte
 abbrev pub ends_in : ℕ → List ℕ → Bool
 ends_in byte line = not (is_empty line) && slice_index line (length line - 1) == byte
 
--- an unseen mark that some editors put before the first line
+-- an invisible mark that some editors put before the first line
 abbrev pub has_mark : List ℕ → Bool
 has_mark line = slice_index line 0 == 239 && (slice_index line 1 == 187 && slice_index line 2 == 191)
 
@@ -23,7 +23,7 @@ ends_reason line =
     else if has_mark line then Some ByteOrderMark
     else None
 
--- what is wrong with the spacing of a line whose count of words is wrong
+-- what is wrong with the spacing of a line that has the wrong number of words
 abbrev pub spacing_reason : List ℕ → List (List ℕ) → Option Reason
 spacing_reason line words =
     if ends_in 13 line then Some CarriageReturn
@@ -33,11 +33,11 @@ spacing_reason line words =
     else if list_any is_tab line then Some Tab
     else None
 
--- A word that is none of those wanted: an empty one is a space too many, and one with a tab two words.
+-- A word that is none of those expected: an empty word is a space too many, and a word with a tab is two words.
 abbrev pub misread : Reason → Reason → List ℕ → Reason
 misread gap reason word = if is_empty word then gap else if list_any is_tab word then Tab else reason
 
--- what an empty word is before these: the last one is a space at the end of the line
+-- what is wrong if an empty word comes before these words: if none follow, it is a space at the end of the line
 abbrev pub gap_before : List (List ℕ) → Reason
 gap_before [] = SpaceAfter
 gap_before (word ∷ words) = TwoSpaces

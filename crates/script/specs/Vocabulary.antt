@@ -25,7 +25,7 @@ abbrev pub all_verbs : List Verb
 all_verbs =
     Leaves ∷ Ask ∷ Pump ∷ Compact ∷ Restart ∷ Connect ∷ Line ∷ Clock ∷ Bind ∷ Unbind ∷ Deliver ∷ Show ∷ Zone ∷ []
 
--- the verb that is spelled so: no two are spelled alike
+-- the verb that is spelled like this: no two verbs have one spelling
 abbrev pub verb_named : List ℕ → Option Verb
 verb_named spelling = find (λ verb. bytes_eq spelling (spelling_of verb)) all_verbs
 

@@ -1,4 +1,4 @@
-// The binds that a script makes and takes away.
+// The binds that a script makes and removes.
 ghost use Rattle.std.specs.Prelude.{◌≡◌, map, IfOk};
 ghost use Rattle.script.specs.Binds.{new_bind_of, old_bind_of, new_bind_by, old_bind_by};
 
@@ -8,10 +8,10 @@ use bytetext::{NoMemory, Text};
 use scriptwords::rest_of;
 use std::alloc::Global;
 
-/// The bind of this kind that FLAGS PROC MASK.. spell; none where they don't, or where there is no such kind.
+/// Returns the bind of `kind` that `words` spell as FLAGS PROC MASK.., or `None` if they don't or if `kind` is `None`.
 ///
 /// # Errors
-/// `NoMemory` where room is refused.
+/// `NoMemory` if memory cannot be allocated.
 pub fn new_bind(
     alloc: Global,
     kind: Option<BindKind>,
@@ -28,7 +28,7 @@ pub fn new_bind(
     }
 }
 
-// The same, of its parts.
+// The same bind, given its parts.
 fn new_bind_by(
     alloc: Global,
     kind: Option<BindKind>,
@@ -54,10 +54,10 @@ fn new_bind_by(
     }))
 }
 
-/// The bind of this kind that PROC MASK.. name; none where they don't, or where there is no such kind.
+/// Returns the bind of `kind` that `words` name as PROC MASK.., or `None` if they don't or if `kind` is `None`.
 ///
 /// # Errors
-/// `NoMemory` where room is refused.
+/// `NoMemory` if memory cannot be allocated.
 pub fn old_bind(
     alloc: Global,
     kind: Option<BindKind>,
@@ -74,7 +74,7 @@ pub fn old_bind(
     }
 }
 
-// The same, of its parts.
+// The same bind, given its parts.
 fn old_bind_by(
     alloc: Global,
     kind: Option<BindKind>,

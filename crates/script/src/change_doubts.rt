@@ -9,7 +9,7 @@ use crate::spacing::{gap_before, misread};
 use flagexpr::Flags;
 use scriptwords::number;
 
-/// What is wrong with the name of a change and its words.
+/// Returns what is wrong with the change that is called `name` and has these `words`, or `None` if it is right.
 pub fn ask_doubt(name: &[u8], words: &[&[u8]]) -> Option<Reason>
     ensures { result ≡ ask_doubt name.now (map (λ word. word.now) words.now) }
 {
@@ -51,7 +51,7 @@ fn info_doubt(words: &[&[u8]]) -> Option<Reason>
     }
 }
 
-// The changes that have a count of words each.
+// Every change but info, by its number of words.
 fn counted_doubt(word: ChangeWord, words: &[&[u8]]) -> Option<Reason>
     ensures { result ≡ counted_doubt word (map (λ word. word.now) words.now) }
 {
@@ -123,7 +123,7 @@ fn three_doubt(word: ChangeWord, a: &[u8], b: &[u8], c: &[u8]) -> Option<Reason>
     }
 }
 
-// Two words before others, neither of them empty.
+// Two words that others follow; neither may be empty.
 fn gaps_doubt(a: &[u8], b: &[u8]) -> Option<Reason>
     ensures { result ≡ gaps_doubt a.now b.now }
 {
@@ -196,7 +196,7 @@ fn mark_doubt(n: &[u8]) -> Option<Reason>
     }
 }
 
-// A comment is the rest of the line, and not empty where there is one; so is an info.
+// A comment, and likewise an info, is the rest of the line. It may be left out, but not be empty.
 fn comment_doubt(word: ChangeWord, comment: &[&[u8]]) -> Option<Reason>
     ensures { result ≡ comment_doubt word (map (λ word. word.now) comment.now) }
 {
@@ -206,7 +206,7 @@ fn comment_doubt(word: ChangeWord, comment: &[&[u8]]) -> Option<Reason>
     }
 }
 
-// The last word of a change.
+// Flags, the last word of a change.
 fn flags_doubt(reason: Reason, word: &[u8]) -> Option<Reason>
     ensures { result ≡ flags_doubt reason word.now }
 {
@@ -219,14 +219,14 @@ fn flags_doubt(reason: Reason, word: &[u8]) -> Option<Reason>
     }
 }
 
-/// What is wrong with a word that may be any but empty.
+/// Returns `gap` if `word` is empty, and `None` otherwise: the word may be any other.
 pub fn gap_doubt(gap: Reason, word: &[u8]) -> Option<Reason>
     ensures { result ≡ gap_doubt gap word.now }
 {
     if word.is_empty() { Some(gap) } else { None }
 }
 
-/// What is wrong with a last word that takes the rest of the line.
+/// Returns `reason` if a last word that takes the rest of the line, `first` and `rest`, is empty.
 pub fn text_doubt(reason: Reason, first: &[u8], rest: &[&[u8]]) -> Option<Reason>
     ensures { result ≡ text_doubt reason first.now (map (λ word. word.now) rest.now) }
 {
@@ -237,7 +237,7 @@ pub fn text_doubt(reason: Reason, first: &[u8], rest: &[&[u8]]) -> Option<Reason
     }
 }
 
-/// The first of two that there is.
+/// Returns `one` if it is a reason, and `other` otherwise.
 pub fn first_of(one: Option<Reason>, other: Option<Reason>) -> Option<Reason>
     ensures { result ≡ first_of one other }
 {

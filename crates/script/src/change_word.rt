@@ -5,27 +5,27 @@ ghost use Rattle.script.specs.Vocabulary.{change_word_named, change_spelling};
 /// The name of a change, the third word of an `ask`.
 #[derive(Clone, Copy, Debug, PartialEq, Eq)]
 pub enum ChangeWord {
-    /// A user comes.
+    /// Adds a user.
     AddUser,
-    /// A user goes.
+    /// Deletes a user.
     DelUser,
-    /// A user has one mask more.
+    /// Adds a hostmask to a user.
     AddHost,
-    /// A user has one mask less.
+    /// Deletes a hostmask of a user.
     DelHost,
-    /// A ban ends.
+    /// Deletes a ban.
     DelBan,
-    /// A user's flags everywhere.
+    /// Sets a user's flags everywhere.
     Global,
-    /// A user's flags as a bot.
+    /// Sets a user's flags as a bot.
     Bot,
-    /// A user's flags in a channel.
+    /// Sets a user's flags on a channel.
     Chan,
-    /// A ban is made.
+    /// Adds a ban.
     AddBan,
-    /// A user's info line.
+    /// Sets a user's info line.
     Info,
-    /// Whether a ban is sticky.
+    /// Sets whether a ban is sticky.
     Sticky,
 }
 
@@ -45,7 +45,7 @@ const ALL: [ChangeWord; 11] = [
 ];
 
 impl ChangeWord {
-    /// As scripts spell it.
+    /// Returns the name as scripts spell it.
     pub fn spelling(self) -> &'static str
         ensures { result.now ≡ change_spelling self }
     {
@@ -64,7 +64,7 @@ impl ChangeWord {
         }
     }
 
-    /// The name that is spelled so, byte for byte.
+    /// Returns the name that is spelled as `spelling`, byte for byte.
     pub fn named(spelling: &[u8]) -> Option<ChangeWord>
         ensures { result ≡ change_word_named spelling.now }
     {

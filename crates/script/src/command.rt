@@ -3,13 +3,13 @@ use botworld::Step;
 use bytetext::{NoMemory, Seq, TryCopy};
 use std::alloc::Global;
 
-/// One command after the number of leaves. Whether there is such a bot or packet is seen when the command is done.
+/// One command after the number of leaves. Whether its bot or packet exists is checked when the command is done.
 #[derive(Drop)]
 pub enum Command {
-    /// The botnet makes these steps, in order. A `line` has a step for each line of its text, so none where its text is
+    /// The botnet makes these steps, in order. A `line` has a step for each line of its text, so none if its text is
     /// carriage returns alone; every other command has one step.
     Steps(Steps),
-    /// The version and the records of this bot are shown: 0 is the hub, and leaves are numbered from 1.
+    /// Shows the version and the records of this bot: 0 is the hub, and leaves are numbered from 1.
     Show(u16),
 }
 

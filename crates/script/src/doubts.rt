@@ -14,7 +14,7 @@ use bottimers::Zone;
 use linkcalls::MAX_LEAVES;
 use scriptwords::{bot_number, number};
 
-/// What is wrong with a line of these words, but for its spacing; none where it is right.
+/// Returns what is wrong with a line of these `words`, except for its spacing, or `None` if it is right.
 pub fn doubt_of(words: &[&[u8]]) -> Option<Reason>
     ensures { result ≡ doubt_of (map (λ word. word.now) words.now) }
 {
@@ -77,7 +77,7 @@ fn words_doubt(verb: Verb, a: &[u8], first: &[u8], words: &[&[u8]]) -> Option<Re
     }
 }
 
-// What is wrong with a bot's number before other words, or else with those.
+// What is wrong with the number of a bot that other words follow, or else `other`.
 fn bot_or(a: &[u8], other: Option<Reason>) -> Option<Reason>
     ensures { result ≡ first_of (bot_doubt TwoSpaces a.now) other }
 {
@@ -176,7 +176,7 @@ fn unbind_doubt(kind: &[u8], words: &[&[u8]]) -> Option<Reason>
     }
 }
 
-// A kind of binds before these words.
+// The word of a kind of binds, which these words follow.
 fn kind_doubt(kind: &[u8], words: &[&[u8]]) -> Option<Reason>
     ensures { result ≡ kind_doubt kind.now (map (λ word. word.now) words.now) }
 {

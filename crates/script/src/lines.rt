@@ -10,10 +10,10 @@ use bytetext::{NoMemory, Text};
 use ircline::{Line, LineReader};
 use std::alloc::Global;
 
-/// A step for each line of a text that this bot reads, and that a line feed ends.
+/// Returns a step for each line of `text`, to which it adds a line feed: the bot of number `bot` reads that line.
 ///
 /// # Errors
-/// `NoMemory` where room is refused.
+/// `NoMemory` if memory cannot be allocated.
 pub fn line_steps(alloc: Global, bot: u16, text: Text) -> Result<Steps, NoMemory>
     ensures { IfOk result (λ steps. steps ≡ line_steps bot text) }
 {
@@ -22,7 +22,7 @@ pub fn line_steps(alloc: Global, bot: u16, text: Text) -> Result<Steps, NoMemory
     Ok(Steps::new(steps))
 }
 
-// The lines of a text and a line feed.
+// The lines of a text that a line feed follows.
 fn lines_of(alloc: Global, text: Text) -> Result<Vec<Line>, NoMemory>
     ensures { IfOk result (λ lines. lines.items ≡ lines_of (text ++ 10 ∷ [])) }
 {

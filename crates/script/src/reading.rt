@@ -17,12 +17,12 @@ use linkcalls::MAX_LEAVES;
 use scriptwords::pieces_of;
 use std::alloc::Global;
 
-/// A script: how many leaves the botnet has, in which zone, and what is done with it.
+/// A script: how many leaves the botnet has, in which zone, and which commands are done.
 #[derive(Drop)]
 pub struct Script {
     /// The number of leaves, at most 1,000.
     pub leaves: u16,
-    /// The zone of all bots' clocks, where the script says it; UTC where it doesn't.
+    /// The zone of all bots' clocks. If the script doesn't give one, they show UTC.
     pub zone: Option<Zone>,
     /// The commands, in order.
     pub commands: Commands,
@@ -34,12 +34,12 @@ impl Script {
     ghost use Rattle.script.specs.Outcomes.{ReadsAs};
     ghost use Rattle.script.specs.Reasons.{TellsWhy};
 
-    /// The script that these bytes spell.
+    /// Reads the script that `bytes` spell.
     ///
     /// # Errors
-    /// `Refused` with line 0 above 1,048,576 bytes, else with the first line that breaks a rule, else with line 0 where
-    /// there is no command; each with its reason. `NoMemory` where room is refused before a broken rule is told, which is
-    /// not for the length.
+    /// - `Refused` with line 0 if there are more than 1,048,576 bytes; else with the first line that breaks a rule;
+    ///   else with line 0 if there is no command. Each has its reason.
+    /// - `NoMemory` if memory runs out before a broken rule is found; never if the script is too long.
     pub fn read(alloc: Global, bytes: &[u8]) -> Result<Script, ScriptError>
         ensures reads { ReadsAs bytes.now result }
         ensures reasons { TellsWhy bytes.now result }
@@ -92,7 +92,7 @@ fn script_of(alloc: Global, lines: &[&[u8]]) -> Result<Script, ScriptError>
     }
 }
 
-// A line that breaks a rule, by itself or else in this way after others.
+// The fault of a line that breaks a rule: its own reason, or else `order`.
 fn fault_at(alloc: Global, line: u64, bytes: &[u8], order: Reason) -> ScriptError
     ensures { TellsReason line (unwrap_or (line_reason bytes.now) order) result }
 {
@@ -105,7 +105,7 @@ fn fault_at(alloc: Global, line: u64, bytes: &[u8], order: Reason) -> ScriptErro
     }
 }
 
-// How a line of this saying, which is right by itself, breaks a rule after these lines, where it does.
+// How a line that is right by itself breaks a rule after the lines so far, if it breaks one.
 fn order_reason(script: &Option<Script>, saying: &Saying) -> Reason
     ensures { result ≡ order_reason (so_far script.now) saying.now }
 {
@@ -118,7 +118,7 @@ fn order_reason(script: &Option<Script>, saying: &Saying) -> Reason
     }
 }
 
-// Adds what the next line says. False where it breaks a rule after the lines so far.
+// Adds what the next line says. Returns false if that breaks a rule after the lines so far.
 fn go_on(alloc: Global, script: &mut Option<Script>, saying: Saying) -> Result<bool, NoMemory>
     ensures { IfOk result (λ good. GoesOn script.old saying good script.new) }
 {
@@ -131,7 +131,7 @@ fn go_on(alloc: Global, script: &mut Option<Script>, saying: Saying) -> Result<b
     }
 }
 
-// Begins the script with the number of leaves, which is said once.
+// Begins the script with the number of leaves. Returns false if it has been given before.
 fn set_leaves(alloc: Global, script: &mut Option<Script>, leaves: u16) -> bool
     ensures { GoesOn script.old (Leaves leaves) result script.new }
 {
@@ -147,7 +147,7 @@ fn set_leaves(alloc: Global, script: &mut Option<Script>, leaves: u16) -> bool
     true
 }
 
-// Sets the zone, which is said once, after the number of leaves and before any command.
+// Sets the zone. Returns false if it has been given before, before the number of leaves, or after a command.
 fn set_zone(script: &mut Option<Script>, zone: Zone) -> bool
     ensures { GoesOn script.old (Saying.Zone zone) result script.new }
 {
@@ -163,7 +163,8 @@ fn set_zone(script: &mut Option<Script>, zone: Zone) -> bool
     }
 }
 
-// Adds a command, after the number of leaves. Where room is refused the script is gone: nothing is read on.
+// Adds a command. Returns false before the number of leaves. If memory runs out, the script is dropped: nothing more is
+// read.
 fn add_command(script: &mut Option<Script>, command: Command) -> Result<bool, NoMemory>
     ensures { IfOk result (λ good. GoesOn script.old (Told command) good script.new) }
 {

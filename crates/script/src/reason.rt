@@ -1,10 +1,10 @@
-// Why a script is not read, as a sentence.
+// Why a script cannot be read, as a sentence.
 use crate::change_word::ChangeWord;
 use crate::verb::Verb;
 use std::fmt;
 use std::fmt::Display;
 
-/// Why a script is not read. Words of a line are counted from 1.
+/// Why a script cannot be read. The words of a line are counted from 1.
 #[derive(Clone, Copy, Debug, PartialEq, Eq)]
 pub enum Reason {
     /// The script has more than 1,048,576 bytes.
@@ -17,50 +17,50 @@ pub enum Reason {
     ByteOrderMark,
     /// The line begins with a space.
     SpaceBefore,
-    /// The line ends in a space where a word is wanted, or none.
+    /// The line ends in a space where a word is expected, or none.
     SpaceAfter,
-    /// Two spaces stand together where one divides words.
+    /// Two spaces stand together where one separates words.
     TwoSpaces,
-    /// A tab stands where a space is wanted.
+    /// A tab stands where a space is expected.
     Tab,
-    /// The first word is none that there is.
+    /// The first word is not a command.
     Unknown,
     /// The line has too few or too many words for this verb.
     Form(Verb),
-    /// The second word is no number of leaves, or one above 1,000.
+    /// The second word is not a number of leaves, or it is above 1,000.
     Leaves,
-    /// The second word is no rule of a zone.
+    /// The second word is not the rule of a zone.
     Zone,
-    /// The second word is no number of a bot.
+    /// The second word is not the number of a bot.
     Bot,
-    /// The second word is no number of a packet.
+    /// The second word is not the number of a packet.
     Packet,
-    /// The third word is no number of seconds.
+    /// The third word is not a number of seconds.
     Seconds,
-    /// The third word is no name of a change.
+    /// The third word is not the name of a change.
     Change,
     /// The line has too few or too many words for this change.
     ChangeForm(ChangeWord),
-    /// The fifth word is no flags: those of a user everywhere, or as a bot.
+    /// The fifth word is not flags: those of a user everywhere, or as a bot.
     Flags,
-    /// The sixth word is no flags: those of a user in a channel.
+    /// The sixth word is not flags: those of a user on a channel.
     ChannelFlags,
-    /// The seventh word is no number of seconds.
+    /// The seventh word is not a number of seconds.
     Expiry,
     /// The sixth word is neither 0 nor 1.
     Mark,
-    /// The third word is no type of binds.
+    /// The third word is not a type of binds.
     Kind,
-    /// Nothing stands before the number of leaves.
+    /// The number of leaves does not come first.
     LeavesFirst,
-    /// The number of leaves stands once.
+    /// The number of leaves comes twice.
     LeavesAgain,
-    /// The zone stands once, and before all other commands.
+    /// The zone comes twice, or after another command than the number of leaves.
     ZoneLate,
 }
 
 impl Reason {
-    /// What is wrong, and what to say instead.
+    /// Returns what is wrong, and what to write instead.
     pub fn sentence(self) -> &'static str {
         match self {
             Reason::TooLong => "the script is longer than 1,048,576 bytes",
@@ -113,7 +113,7 @@ impl Display for Reason {
     }
 }
 
-// How a line of this verb is formed.
+// The words of a line of this verb.
 fn form_of(verb: Verb) -> &'static str {
     match verb {
         Verb::Leaves => "say leaves N, as in leaves 2",
@@ -132,7 +132,7 @@ fn form_of(verb: Verb) -> &'static str {
     }
 }
 
-// How a line that asks for this change is formed.
+// The words of a line that requests this change.
 fn change_form_of(word: ChangeWord) -> &'static str {
     match word {
         ChangeWord::AddUser => "say ask B adduser HANDLE, as in ask 0 adduser alice",

@@ -18,10 +18,10 @@ use linkcalls::MAX_LEAVES;
 use scriptwords::{bot_number, change_named, number, pieces_of, rest_of};
 use std::alloc::Global;
 
-/// What a line says by itself, whatever stands before it.
+/// What a line says by itself, whatever lines come before it.
 #[derive(Drop)]
 pub enum Saying {
-    /// Nothing: it is empty or begins with `#`.
+    /// Nothing: the line is empty or begins with `#`.
     Nothing,
     /// The number of leaves.
     Leaves(u16),
@@ -29,14 +29,14 @@ pub enum Saying {
     Zone(Zone),
     /// A command.
     Told(Command),
-    /// It breaks a rule.
+    /// The line breaks a rule.
     Wrong,
 }
 
-/// What a line says.
+/// Returns what `line` says.
 ///
 /// # Errors
-/// `NoMemory` where room is refused: never where the line says nothing.
+/// `NoMemory` if memory cannot be allocated; never if the line says nothing.
 pub fn saying_of(alloc: Global, line: &[u8]) -> Result<Saying, NoMemory>
     ensures saying { IfOk result (λ saying. saying ≡ saying_of line.now) }
     ensures memory { IfErr result (λ _. IsTrue (has_text line.now)) }
@@ -48,7 +48,7 @@ pub fn saying_of(alloc: Global, line: &[u8]) -> Result<Saying, NoMemory>
     saying_by_words(alloc, words.as_slice())
 }
 
-// Each command has its count of words.
+// Each command has its number of words.
 fn saying_by_words(alloc: Global, words: &[&[u8]]) -> Result<Saying, NoMemory>
     ensures { IfOk result (λ saying. saying ≡ saying_by_words (map (λ word. word.now) words.now)) }
 {
@@ -110,7 +110,7 @@ fn read_zone(rule: &[u8]) -> Saying
     }
 }
 
-// What the bot of a word is told, where the word is a number.
+// The command that gives this event to the bot; the line is wrong if the bot's number is missing.
 fn tell(alloc: Global, bot: Option<u16>, event: Event) -> Result<Saying, NoMemory>
     ensures { IfOk result (λ saying. saying ≡ told_to bot event) }
 {
@@ -120,7 +120,7 @@ fn tell(alloc: Global, bot: Option<u16>, event: Event) -> Result<Saying, NoMemor
     }
 }
 
-// What a bot is told.
+// The command that gives this event to the bot of this number.
 fn event_at(alloc: Global, bot: u16, event: Event) -> Result<Saying, NoMemory>
     ensures { IfOk result (λ saying. saying ≡ Saying.Told (event_at bot event)) }
 {

@@ -6,7 +6,8 @@ ghost use Rattle.script.specs.Spacing.{ends_in, ends_reason, gap_before, has_mar
 
 use crate::reason::Reason;
 
-/// What is wrong with the ends and the spaces of a line of these words, whose count is wrong: none where they are right.
+/// Returns what is wrong with the ends and the spaces of a `line` that has the wrong number of `words`, or `None` if
+/// they are right.
 pub fn spacing_reason(line: &[u8], words: &[&[u8]]) -> Option<Reason>
     ensures { result ≡ spacing_reason line.now (map (λ word. word.now) words.now) }
 {
@@ -25,7 +26,7 @@ pub fn spacing_reason(line: &[u8], words: &[&[u8]]) -> Option<Reason>
     None
 }
 
-/// A carriage return at the end of a line, or a byte order mark before it: none where there is neither.
+/// Returns whether `line` ends in a carriage return or begins with a byte order mark, or `None` if it has neither.
 pub fn ends_reason(line: &[u8]) -> Option<Reason>
     ensures { result ≡ ends_reason line.now }
 {
@@ -38,7 +39,8 @@ pub fn ends_reason(line: &[u8]) -> Option<Reason>
     }
 }
 
-/// What is wrong with a word that is none of those wanted: an empty one is a space too many, and one with a tab two words.
+/// Returns why `word` is none that was expected: `gap` if it is empty, which is a space too many; that it has a tab, so
+/// that it is two words; else `reason`.
 pub fn misread(gap: Reason, reason: Reason, word: &[u8]) -> Reason
     ensures { result ≡ misread gap reason word.now }
 {
@@ -51,7 +53,8 @@ pub fn misread(gap: Reason, reason: Reason, word: &[u8]) -> Reason
     }
 }
 
-/// What an empty word is before these: the last is a space at the end of the line.
+/// Returns what is wrong if an empty word comes before these `words`. If none follow, it is a space at the end of the
+/// line.
 pub fn gap_before(words: &[&[u8]]) -> Reason
     ensures { result ≡ gap_before (map (λ word. word.now) words.now) }
 {

@@ -2,34 +2,34 @@
 ghost use Rattle.std.specs.Prelude.{◌≡◌};
 ghost use Rattle.script.specs.Vocabulary.{spelling_of, verb_named};
 
-/// The first word of a line that says something.
+/// The first word of a line that is neither empty nor begins with `#`.
 #[derive(Clone, Copy, Debug, PartialEq, Eq)]
 pub enum Verb {
-    /// How many leaves there are.
+    /// Sets the number of leaves.
     Leaves,
-    /// A change is asked for.
+    /// Requests a change.
     Ask,
-    /// Each end of the link does what it has to do.
+    /// Makes each end of the link do what is due.
     Pump,
-    /// A journal is made short.
+    /// Compacts a journal.
     Compact,
-    /// A bot starts again from its disks.
+    /// Restarts a bot from its disks.
     Restart,
-    /// A bot has a new connection to the server.
+    /// Gives a bot a new connection to the server.
     Connect,
-    /// A bot reads a line of the server.
+    /// Gives a bot a line of the server to read.
     Line,
-    /// A bot reads its clock.
+    /// Makes a bot read its clock.
     Clock,
-    /// A bind is made.
+    /// Adds a bind.
     Bind,
-    /// A bind is taken away.
+    /// Removes a bind.
     Unbind,
-    /// A packet comes.
+    /// Delivers a packet.
     Deliver,
-    /// A bot's records are shown.
+    /// Shows a bot's records.
     Show,
-    /// The zone of all clocks.
+    /// Sets the zone of all clocks.
     Zone,
 }
 
@@ -51,7 +51,7 @@ const ALL: [Verb; 13] = [
 ];
 
 impl Verb {
-    /// As scripts spell it.
+    /// Returns the verb as scripts spell it.
     pub fn spelling(self) -> &'static str
         ensures { result.now ≡ spelling_of self }
     {
@@ -72,7 +72,7 @@ impl Verb {
         }
     }
 
-    /// The verb that is spelled so, byte for byte.
+    /// Returns the verb that is spelled as `spelling`, byte for byte.
     pub fn named(spelling: &[u8]) -> Option<Verb>
         ensures { result ≡ verb_named spelling.now }
     {

@@ -10,10 +10,10 @@ use bytetext::NoMemory;
 use scriptwords::pieces_of;
 use std::alloc::Global;
 
-/// Why a line breaks a rule by itself; none where it is right, is empty or begins with `#`.
+/// Returns why `line` breaks a rule by itself, or `None` if it is right, is empty or begins with `#`.
 ///
 /// # Errors
-/// `NoMemory` where room is refused: never where the line is empty or begins with `#`.
+/// `NoMemory` if memory cannot be allocated; never if the line is empty or begins with `#`.
 pub fn line_reason(alloc: Global, line: &[u8]) -> Result<Option<Reason>, NoMemory>
     ensures reason { IfOk result (λ reason. reason ≡ line_reason line.now) }
     ensures memory { IfErr result (λ _. IsTrue (has_text line.now)) }
@@ -25,7 +25,7 @@ pub fn line_reason(alloc: Global, line: &[u8]) -> Result<Option<Reason>, NoMemor
     Ok(reason_by_words(line, words.as_slice()))
 }
 
-// The same of a line and its words.
+// The same, given the words of the line.
 fn reason_by_words(line: &[u8], words: &[&[u8]]) -> Option<Reason>
     ensures { result ≡ reason_by_words line.now (map (λ word. word.now) words.now) }
 {
@@ -35,7 +35,7 @@ fn reason_by_words(line: &[u8], words: &[&[u8]]) -> Option<Reason>
     }
 }
 
-// What to say first of a line that is wrong for this reason.
+// What to report of a line that is wrong for this reason: its ends or its spaces come first.
 fn refined(line: &[u8], words: &[&[u8]], reason: Reason) -> Reason
     ensures { result ≡ refined line.now (map (λ word. word.now) words.now) reason }
 {
@@ -50,7 +50,7 @@ fn refined(line: &[u8], words: &[&[u8]], reason: Reason) -> Reason
     }
 }
 
-// Whether the count of words is wrong.
+// Whether the reason is a wrong number of words.
 fn is_form(reason: Reason) -> bool
     ensures { result ≡ is_form reason }
 {

@@ -1,4 +1,4 @@
--- The changes that a script asks for, by their names and words.
+-- The changes that words spell, by their names.
 use Rattle.std.specs.Prelude.{ℕ, ◌==◌, ◌||◌, Bool, List, [], ◌∷◌, Option, None, Some, option_map, if◌then◌else◌, codes}
 use Rattle.std.specs.Str.{bytes_eq}
 use Rattle.flagexpr.specs.declared.fault.FlagFault.{FlagFault}
@@ -10,7 +10,7 @@ use Rattle.scriptwords.specs.declared.asking.Pair.{Pair}
 use Rattle.scriptwords.specs.declared.asking.Pair.TheVariants.{AddHost as add_host, DelHost as del_host, DelBan as del_ban, Global as set_global, Bot as set_bot}
 use Rattle.scriptwords.specs.Words.{is_empty, rest_of, number_below, words_of}
 
--- flags are letters, or - for none
+-- flags are letters, or - for no flags
 abbrev pub unless_fault : Option FlagFault → ℕ → Option ℕ
 unless_fault None flags = Some flags
 unless_fault (Some fault) flags = None
@@ -18,7 +18,7 @@ unless_fault (Some fault) flags = None
 abbrev pub flags_of : List ℕ → Option ℕ
 flags_of word = unless_fault (flags_fault word) (set_of word)
 
--- the channel of a ban: * is all of them
+-- the channel of a ban: * means all of them
 abbrev pub channel_of : List ℕ → List ℕ
 channel_of word = if bytes_eq word (codes "*") then [] else word
 
@@ -26,11 +26,11 @@ channel_of word = if bytes_eq word (codes "*") then [] else word
 abbrev pub expiry_of : List ℕ → Option ℕ
 expiry_of word = number_below 18446744073709551616 word
 
--- whether a ban is sticky: 1 that it is, 0 that it is not
+-- whether a ban is sticky: 1 if it is, 0 if it is not
 abbrev pub mark_of : List ℕ → Option Bool
 mark_of word = option_map (λ n. n == 1) (number_below 2 word)
 
--- a comment is the rest of the line, and not empty where there is one
+-- a comment is the rest of the line; it may be left out, but not be empty
 abbrev pub comment_of : List (List ℕ) → Option (List ℕ)
 comment_of [] = Some []
 comment_of (word ∷ words) = rest_of (word ∷ words)
@@ -84,7 +84,7 @@ by_more_words name c m h e words =
     else if bytes_eq name (codes "addban") then ban_of c m h (expiry_of e) (comment_of words)
     else None
 
--- the changes that have a count of words each
+-- every change but info, by its number of words
 abbrev pub change_by_count : List ℕ → List (List ℕ) → Option Change
 change_by_count name (a ∷ []) = by_one_word name a
 change_by_count name (a ∷ b ∷ []) = by_two_words name a b
@@ -92,7 +92,7 @@ change_by_count name (a ∷ b ∷ c ∷ []) = by_three_words name a b c
 change_by_count name (a ∷ b ∷ c ∷ d ∷ words) = by_more_words name a b c d words
 change_by_count name [] = None
 
--- info H, and the text; without one the info is emptied
+-- info H, and the text; without a text the info is emptied
 abbrev pub info_by_words : List (List ℕ) → Option Change
 info_by_words (h ∷ words) = if is_empty h then None else option_map (SetInfo h) (comment_of words)
 info_by_words [] = None
@@ -100,7 +100,7 @@ info_by_words [] = None
 abbrev pub change_named : List ℕ → List (List ℕ) → Option Change
 change_named name words = if bytes_eq name (codes "info") then info_by_words words else change_by_count name words
 
--- a text of words, of which the first is the name
+-- the change that words spell, the first of which is the name
 abbrev pub change_by_words : List (List ℕ) → Option Change
 change_by_words [] = None
 change_by_words (name ∷ words) = change_named name words

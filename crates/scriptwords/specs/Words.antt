@@ -3,16 +3,16 @@ use Rattle.std.specs.Prelude.{ℕ, ◌+◌, ◌-◌, ◌*◌, ◌^◌, ◌==◌,
 use Rattle.std.specs.Prelude.{if◌then◌else◌}
 use Rattle.std.specs.List.{list_all, slice_split, join_with_byte}
 
--- a line's words, which one space divides each: two spaces have an empty word between them
+-- the words of a line, separated by single spaces: two spaces have an empty word between them
 abbrev pub words_of : List ℕ → List (List ℕ)
 words_of line = slice_split (λ b. b == 32) line
 
--- the words of a rest, which may be none
+-- the words of a rest, if there is a rest
 abbrev pub words_in : Option (List ℕ) → List (List ℕ)
 words_in None = []
 words_in (Some rest) = words_of rest
 
--- the words from one on as a line of their own again: the rest of the line, spaces and all
+-- words joined into one line again: the rest of the line, spaces and all
 abbrev pub line_of : List (List ℕ) → List ℕ
 line_of words = join_with_byte 32 words
 
@@ -28,12 +28,12 @@ rest_of words = if is_empty (line_of words) then None else Some (line_of words)
 abbrev pub is_digit : ℕ → Bool
 is_digit b = nat_le 48 b && nat_le b 57
 
--- what digits mean in base ten: each counts ten times the one after it
+-- what digits mean in base ten: each digit counts ten times as much as in the next place
 abbrev pub value_of : List ℕ → ℕ
 value_of [] = 0
 value_of (d ∷ ds) = (d - 48) * 10 ^ length ds + value_of ds
 
--- a number is one or more digits; leading zeros count for nothing
+-- a number is one or more digits; leading zeros don't matter
 abbrev pub number_of : List ℕ → Option ℕ
 number_of word = if not (length word == 0) && list_all is_digit word then Some (value_of word) else None
 

@@ -1,4 +1,4 @@
-// The changes that can be asked for.
+// The changes that words spell.
 ghost use Rattle.std.specs.Prelude.{◌≡◌, ◌≢◌, ◌∷◌, map, option_map, None, IfOk, IfErr};
 ghost use Rattle.userfile.specs.declared.change.Change.TheVariants.{SetChan, SetInfo, SetSticky};
 ghost use Rattle.scriptwords.specs.Changes.{by_more_words, by_one_word, by_three_words, by_two_words, info_by_words, pair_of};
@@ -22,10 +22,10 @@ pub enum Pair {
     Bot,
 }
 
-/// The change that these words spell, with one space between each two; none where they are no change.
+/// Returns the change that `words` spells, with one space between each two words, or `None` if they spell no change.
 ///
 /// # Errors
-/// `NoMemory` where room is refused: never where they are no change.
+/// `NoMemory` if memory cannot be allocated; never if the words spell no change.
 pub fn change_of(alloc: Global, words: &[u8]) -> Result<Option<Change>, NoMemory>
     ensures change { IfOk result (λ change. change ≡ change_of words.now) }
     ensures memory { IfErr result (λ _. change_of words.now ≢ None) }
@@ -50,14 +50,14 @@ pub fn change_of(alloc: Global, words: &[u8]) -> Result<Option<Change>, NoMemory
     let Some(rest) = rest else {
         return change_named(alloc, name, &[a, b, c, d]);
     };
-    // After four words only a text follows, which takes the rest of the line.
+    // Only a text can follow four words, and it takes the rest of the line.
     change_named(alloc, name, &[a, b, c, d, rest])
 }
 
-/// The change of this name and these words; none where they are no change.
+/// Returns the change that is called `name` and has these `words`, or `None` if they spell no change.
 ///
 /// # Errors
-/// `NoMemory` where room is refused: never where they are no change.
+/// `NoMemory` if memory cannot be allocated; never if the words spell no change.
 pub fn change_named(alloc: Global, name: &[u8], words: &[&[u8]]) -> Result<Option<Change>, NoMemory>
     ensures change { IfOk result (λ change. change ≡ change_named name.now (map (λ word. word.now) words.now)) }
     ensures memory { IfErr result (λ _. change_named name.now (map (λ word. word.now) words.now) ≢ None) }
@@ -69,7 +69,7 @@ pub fn change_named(alloc: Global, name: &[u8], words: &[&[u8]]) -> Result<Optio
     }
 }
 
-// info H, and the text
+// info H, and the text.
 fn info_by_words(alloc: Global, words: &[&[u8]]) -> Result<Option<Change>, NoMemory>
     ensures change { IfOk result (λ change. change ≡ info_by_words (map (λ word. word.now) words.now)) }
     ensures memory { IfErr result (λ _. info_by_words (map (λ word. word.now) words.now) ≢ None) }
@@ -94,7 +94,7 @@ fn set_info(alloc: Global, h: &[u8], words: &[&[u8]]) -> Result<Option<Change>, 
     Ok(Some(Change::SetInfo { handle, info }))
 }
 
-// The changes that have a count of words each.
+// Every change but info, by its number of words.
 fn change_by_count(alloc: Global, name: &[u8], words: &[&[u8]]) -> Result<Option<Change>, NoMemory>
     ensures change { IfOk result (λ change. change ≡ change_by_count name.now (map (λ word. word.now) words.now)) }
     ensures memory { IfErr result (λ _. change_by_count name.now (map (λ word. word.now) words.now) ≢ None) }
@@ -145,7 +145,7 @@ fn by_two_words(alloc: Global, name: &[u8], a: &[u8], b: &[u8]) -> Result<Option
     }
 }
 
-// A change of two words, by its name.
+// The change of two words that has this name.
 fn pair_of(name: &[u8]) -> Option<Pair>
     ensures { result ≡ pair_of name.now }
 {
@@ -271,7 +271,7 @@ fn set_sticky(
     Ok(Some(Change::SetSticky { channel, mask, on }))
 }
 
-// addban C M H E, and the comment
+// addban C M H E, and the comment.
 fn by_more_words(
     alloc: Global,
     name: &[u8],
@@ -304,7 +304,7 @@ fn by_more_words(
     }))
 }
 
-// Letters, or - for none.
+// Letters, or - for no flags.
 fn flags_of(word: &[u8]) -> Option<Flags>
     ensures { result ≡ flags_of word.now }
 {
@@ -314,14 +314,14 @@ fn flags_of(word: &[u8]) -> Option<Flags>
     }
 }
 
-// The channel of a ban: `*` is all of them.
+// The channel of a ban: `*` means all of them.
 fn channel_of(word: &[u8]) -> &[u8]
     ensures { result.now ≡ channel_of word.now }
 {
     if word == b"*".as_slice() { b"" } else { word }
 }
 
-// Whether a ban is sticky: 1 that it is, 0 that it is not.
+// Whether a ban is sticky: 1 if it is, 0 if it is not.
 fn mark_of(word: &[u8]) -> Option<bool>
     ensures { result ≡ mark_of word.now }
 {
@@ -329,7 +329,7 @@ fn mark_of(word: &[u8]) -> Option<bool>
     if number < 2 { Some(number == 1) } else { None }
 }
 
-// A comment is the rest of the line, and not empty where there is one.
+// A comment is the rest of the line. It may be left out, but not be empty.
 fn comment_of(alloc: Global, words: &[&[u8]]) -> Result<Option<Text>, NoMemory>
     ensures comment { IfOk result (λ comment. comment ≡ comment_of (map (λ word. word.now) words.now)) }
     ensures memory { IfErr result (λ _. comment_of (map (λ word. word.now) words.now) ≢ None) }

@@ -3,7 +3,7 @@ ghost use Rattle.std.specs.Prelude.{◌≡◌, ◌^◌};
 ghost use Rattle.std.specs.List.{list_all};
 ghost use Rattle.scriptwords.specs.Words.{below, is_digit, number_below, value_of};
 
-/// The number that a word of digits means, where it is below 2^64.
+/// Returns the number that the digits of `word` mean, if it is below 2^64.
 pub fn number(word: &[u8]) -> Option<u64>
     ensures { result ≡ number_below (2 ^ 64) word.now }
 {
@@ -13,7 +13,7 @@ pub fn number(word: &[u8]) -> Option<u64>
     value_of(word)
 }
 
-/// The number that a word of digits means, where it is below 65,536.
+/// Returns the number that the digits of `word` mean, if it is below 65,536.
 pub fn bot_number(word: &[u8]) -> Option<u16>
     ensures { result ≡ number_below 65536 word.now }
 {
@@ -37,7 +37,7 @@ fn is_digit(byte: u8) -> bool
     byte >= 48 && byte <= 57
 }
 
-// What digits mean, where that is below 2^64.
+// What digits mean, if that is below 2^64.
 fn value_of(word: &[u8]) -> Option<u64>
     ensures { result ≡ below (2 ^ 64) (value_of word.now) }
 {

@@ -5,7 +5,7 @@ ghost use Rattle.scriptwords.specs.Words.{words_of, words_in};
 
 use std::alloc::{AllocError, Global};
 
-/// The pieces between the separators, empty ones too: one more than there are separators.
+/// Returns the pieces of `bytes` between the bytes `separator`, empty pieces too: one more than there are separators.
 pub fn pieces_of(alloc: Global, bytes: &[u8], separator: u8) -> Result<Vec<&[u8]>, AllocError>
     ensures { IfOk result (λ pieces. map (λ piece. piece.now) pieces.items ≡ slice_split (λ b. b == separator)
         bytes.now) }
@@ -17,7 +17,7 @@ pub fn pieces_of(alloc: Global, bytes: &[u8], separator: u8) -> Result<Vec<&[u8]
     Ok(pieces)
 }
 
-// The first word of a line, and the rest of the line after its space, if it has one. Takes no memory.
+// The first word of a line, and the rest of the line after its space, if it has one. Never allocates.
 pub(crate) fn first_word(line: &[u8]) -> (&[u8], Option<&[u8]>)
     ensures { words_of line.now ≡ result.0.now ∷ words_in (option_copied result.1) }
 {

@@ -5,10 +5,10 @@ ghost use Rattle.scriptwords.specs.Words.{line_of, rest_of};
 use bytetext::{NoMemory, Text, bytes_of};
 use std::alloc::Global;
 
-/// The rest of a line from a word on; none where it is empty.
+/// Returns the rest of a line, the words `first` and `rest` with one space between each two, or `None` if it is empty.
 ///
 /// # Errors
-/// `NoMemory` where room is refused: never where it is empty.
+/// `NoMemory` if memory cannot be allocated; never if the rest is empty.
 pub fn rest_of(alloc: Global, first: &[u8], rest: &[&[u8]]) -> Result<Option<Text>, NoMemory>
     ensures text { IfOk result (λ text. text ≡ rest_of (first.now ∷ map (λ word. word.now) rest.now)) }
     ensures memory { IfErr result (λ _. rest_of (first.now ∷ map (λ word. word.now) rest.now) ≢ None) }

@@ -1,12 +1,12 @@
--- What a server is told.
+-- What is sent to a server.
 use Rattle.std.specs.Prelude.{◌≡◌, ℕ, Bool, true, List, [], ◌∷◌, ◌++◌}
 use Rattle.std.specs.List.{AllByRecursion, flat_map}
 use Rattle.streams.specs.State.{Source, Sink}
 use Rattle.upkeep.specs.Lines.{is_line}
 use Rattle.wire.specs.Wires.{Ledger, Holds}
 
--- A connection: its stream, what was heard of it and is not taken yet, what it is still to take, whether it is over, and whether
--- its stream may have something to give: not once it has stalled, until it is woken.
+-- A connection: its stream, the bytes that were read and not taken yet, the unsent bytes, whether it is over, and
+-- whether its stream may have something to read: false after a read that would block, until the connection is woken.
 pub record Talk : Type 0 where
   pub source : Source
   pub sink : Sink
@@ -15,7 +15,7 @@ pub record Talk : Type 0 where
   pub over : Bool
   pub gives : Bool
 
--- a line as it goes: with CR and LF
+-- a line as it is sent: with CR and LF
 abbrev pub ended : List ℕ → List ℕ
 ended line = line ++ 13 ∷ 10 ∷ []
 
@@ -23,7 +23,7 @@ ended line = line ++ 13 ∷ 10 ∷ []
 abbrev pub IsLine : List ℕ → Type 0
 IsLine line = is_line line ≡ true
 
--- What a connection's stream has taken since it began, and then what is unsent, are lines, one after another.
+-- What a connection's stream has taken since it began, followed by the unsent bytes, is a sequence of lines.
 pub record TellsLines (source : Source) (sink : Sink) (heard unsent : List ℕ) : Type 0 where
   pub ledger : Ledger
   pub lines : List (List ℕ)

@@ -8,7 +8,7 @@ use std::alloc::Global;
 use std::marker::Model;
 use upkeep::Seat;
 
-/// The channels of a bot's configuration, in order, and on which of them it is. Contracts see the channels.
+/// The channels of a bot's configuration, in order, and whether the bot is on each of them. Contracts see the channels.
 #[derive(Drop)]
 pub struct Channels {
     seats: Vec<Seat>,
@@ -26,7 +26,7 @@ impl Model for Channels {
 impl Channels {
     ghost use Rattle.std.specs.Prelude.{◌≡◌, ◌<◌, None, Some, length, slice_get, IfOk, MatchOption};
 
-    // The bot of this number is on none of these yet.
+    // The bot numbered `number` is on none of these yet.
     pub(crate) fn new(alloc: Global, names: &[Text], number: u16) -> Result<Channels, NoMemory>
         ensures memory { IfErr result (λ _. 0 < length names.now) }
     {
@@ -37,35 +37,35 @@ impl Channels {
         Ok(Channels { seats })
     }
 
-    /// How many there are.
+    /// Returns the number of channels.
     pub fn len(&self) -> usize
         ensures { result ≡ length self.now }
     {
         self.seats.len()
     }
 
-    /// The channel at a place, from 0; none where there are no more.
+    /// Returns the channel at `place`, counted from 0, or `None` if there are fewer.
     pub fn get(&self, place: usize) -> Option<&Seat>
         ensures { MatchOption result (slice_get self.now place ≡ None) (λ seat. slice_get self.now place ≡ Some seat.now) }
     {
         self.seats.get(place)
     }
 
-    // The bot has joined a channel at this second.
+    // Notes that the bot has joined a channel at second `now`.
     pub(crate) fn join(&mut self, name: &[u8], now: u64) {
         if let Some(seat) = self.seat_of(name) {
             seat.join(now);
         }
     }
 
-    // The bot has left a channel by itself.
+    // Notes that the bot has left a channel by itself.
     pub(crate) fn part(&mut self, name: &[u8]) {
         if let Some(seat) = self.seat_of(name) {
             seat.part();
         }
     }
 
-    // The bot was kicked off a channel at this second.
+    // Notes that the bot was kicked off a channel at second `now`.
     pub(crate) fn kick(&mut self, name: &[u8], now: u64)
         requires moment { now < MOMENTS_END }
     {
@@ -74,7 +74,7 @@ impl Channels {
         }
     }
 
-    // The bot was not let onto a channel at this second.
+    // Notes that the server did not let the bot onto a channel at second `now`.
     pub(crate) fn bar(&mut self, name: &[u8], now: u64)
         requires moment { now < MOMENTS_END }
     {
@@ -83,14 +83,15 @@ impl Channels {
         }
     }
 
-    // The bot has lost its server.
+    // Notes that the bot has lost its server.
     pub(crate) fn leave_all(&mut self) {
         for seat in self.seats.iter_mut() {
             seat.part();
         }
     }
 
-    // The channel at a place, if it is to be joined again at this second. The bot then waits for what the server says.
+    // Returns the channel at `place` if the bot is due to rejoin it at second `now`. It is not due again until the
+    // server answers.
     pub(crate) fn retry(&mut self, place: usize, now: u64) -> Option<&[u8]> {
         let seat = self.seats.get_mut(place)?;
         if !seat.is_due(now) {

@@ -1,4 +1,4 @@
-// What the log says of the server.
+// What the log says about the server.
 use crate::shown::{Shown, put};
 use crate::why::{Why, why_text};
 use dialling::DialFault;
@@ -6,37 +6,38 @@ use std::fmt;
 use std::fmt::Display;
 use std::net::SocketAddr;
 
-// An event of the connection to a server that the log tells of.
+// An event of the connection to a server, as the log shows it.
 #[derive(Drop)]
 pub(crate) enum Entry<'a> {
-    // A connection to a server begins.
+    // The bot begins to connect to a server.
     Dialled(&'a [u8], SocketAddr),
-    // A try to connect to a server did not begin, and the next one is due at this second.
+    // An attempt to connect to a server could not begin; the second at which the next one is due.
     NotDialled(&'a [u8], DialFault, u64),
-    // The server is let go, and the next one is due at this second.
+    // The bot disconnects from the server; the second at which the next attempt is due.
     Lost(Why, u64),
-    // The server refuses something, or ends the connection: the command and what it says.
+    // The server rejects something, or ends the connection: the command and its text.
     Refused(&'a [u8], &'a [u8]),
-    // The server compares nicks otherwise than the bot.
+    // The server's case mapping differs from the bot's.
     OtherCase(&'a [u8]),
-    // A message came: who sent it, its command and what follows it.
+    // A message arrived: its sender, its command and the rest of it.
     Heard(&'a [u8], &'a [u8], &'a [u8]),
-    // A fact of this nick, channel or line.
+    // A fact about this nick, channel or line.
     Plain(Fact, &'a [u8]),
-    // The server takes no nick that the bot asks for.
+    // The server rejects every nick that the bot asks for.
     NoNick,
-    // A line of the configuration or of an operator, or an answer to a person, is left for the server. It may hold a password.
+    // A line of the configuration or of an operator, or an answer to a person, is queued for the server. It may hold a
+    // password.
     ToldOwn,
 }
 
-// A fact of one nick, channel or line.
+// A fact about one nick, channel or line.
 #[derive(Clone, Copy)]
 pub(crate) enum Fact {
     // The server welcomed the bot under this nick.
     Welcomed,
     // The bot has this nick now.
     Renamed,
-    // The server does not take a nick, and this one is asked for.
+    // The server rejected a nick, and the bot asks for this one.
     OtherNick,
     // The bot is on this channel.
     Joined,
@@ -44,13 +45,13 @@ pub(crate) enum Fact {
     Parted,
     // The bot was kicked off this channel.
     Kicked,
-    // The bot was not let onto this channel.
+    // The server did not let the bot onto this channel.
     Barred,
-    // A line of the bot's is left for the server.
+    // A line of the bot's is queued for the server.
     Told,
 }
 
-// What the log says before the nick, the channel or the line.
+// What the log writes before the nick, the channel or the line.
 fn words_of(fact: Fact) -> &'static str {
     match fact {
         Fact::Welcomed => "welcome as ",

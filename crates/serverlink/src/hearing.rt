@@ -11,12 +11,13 @@ use settings::Settings;
 use upkeep::{Cue, cue_of, other_nick, param};
 
 impl Uplink {
-    /// Looks at what the server said by this second, for what it means for the registration and the channels: notes the
-    /// nick, asks for another where it is refused, puts the lines `perform` after a welcome, once, and tells those that may
-    /// go. `bytes` are those of [`Uplink::take_heard`], each once, in order.
+    /// Processes `bytes`, which the server sent by second `now`, for the registration and the channels. Notes the
+    /// bot's nick, and asks for another one if the server rejects it. Puts the lines `perform` of `settings` once
+    /// after a welcome, and queues those that may go. `bytes` are those of [`Uplink::take_heard`], each once and in
+    /// order.
     ///
     /// # Errors
-    /// `NoMemory` where room is refused: never without a connection. Lines before may have been looked at.
+    /// `NoMemory` if an allocation fails: never without a connection. Earlier lines may have been processed by then.
     pub fn look<R: AllocGlobal + Print>(
         &mut self,
         rt: &R,
@@ -65,7 +66,7 @@ impl Uplink {
         }
     }
 
-    // The server has welcomed the bot: the lines perform are due, once.
+    // The server has welcomed the bot: the lines `perform` are due, once.
     fn welcome<R: AllocGlobal + Print>(
         &mut self,
         rt: &R,
@@ -102,7 +103,7 @@ impl Uplink {
         Ok(())
     }
 
-    // The server does not take a nick. Before it has welcomed the bot another is asked for.
+    // The server rejects a nick. Until it has welcomed the bot, the bot asks for another one.
     fn ask_nick<R: AllocGlobal + Print>(
         &mut self,
         rt: &R,
@@ -130,7 +131,7 @@ impl Uplink {
         }
     }
 
-    // What a message means for the channels, and what it refuses.
+    // Notes what a message means for the channels, and logs what the server rejects.
     fn note<R: Print>(&mut self, rt: &R, cue: Cue, message: &Message, now: u64)
         requires moment { now < MOMENTS_END }
     {
@@ -164,7 +165,7 @@ impl Uplink {
     }
 }
 
-// Says where the server compares nicks otherwise than the bot does (005 CASEMAPPING).
+// Logs a case mapping of the server that differs from the bot's (005 CASEMAPPING).
 fn note_case<R: Print>(rt: &R, message: &Message, now: u64) {
     if message.command.as_bytes() != b"005".as_slice() {
         return;
@@ -178,7 +179,7 @@ fn note_case<R: Print>(rt: &R, message: &Message, now: u64) {
     }
 }
 
-// Logs a message whole.
+// Logs a whole message.
 fn log_message<R: Print>(rt: &R, message: &Message, now: u64) {
     let source = message.prefix.as_bytes();
     log(

@@ -1,4 +1,4 @@
-// What is due on a connection without a word of its server.
+// What is due on a connection even if its server says nothing.
 ghost use Rattle.std.specs.Prelude.{◌≢◌, ◌<◌, None, OnErr};
 ghost use Rattle.bytetext.specs.declared.moment.TheConstants.{MOMENTS_END};
 
@@ -11,11 +11,12 @@ use settings::Settings;
 use upkeep::Care;
 
 impl Uplink {
-    /// Does what is due at this second without a word of the server: asks whether it is there, or lets it go, joins channels
-    /// again, and tells lines of the process's own. It is to be called each second at least.
+    /// Does what is due at second `now` even if the server says nothing. Pings a silent server, or disconnects it.
+    /// Rejoins channels, and queues lines of the process's own. `settings` say whether to log the lines. Call this at
+    /// least once a second.
     ///
     /// # Errors
-    /// `NoMemory` where room is refused: never without a connection. What was told before is told.
+    /// `NoMemory` if an allocation fails: never without a connection. Lines that were queued before it stay queued.
     pub fn keep<R: AllocGlobal + Print>(
         &mut self,
         rt: &R,
@@ -51,7 +52,7 @@ impl Uplink {
         }
     }
 
-    // Joins the channels again that are due.
+    // Rejoins the channels that are due.
     fn join_again<R: AllocGlobal + Print>(
         &mut self,
         rt: &R,
@@ -67,7 +68,7 @@ impl Uplink {
         Ok(())
     }
 
-    // Joins the channel at a place again, if it is due.
+    // Rejoins the channel at `place`, if it is due.
     fn join_one<R: AllocGlobal + Print>(
         &mut self,
         rt: &R,
@@ -82,7 +83,7 @@ impl Uplink {
         self.tell(rt, settings, line.as_slice(), now)
     }
 
-    // Tells the lines of the process's own, as many as may go.
+    // Queues lines of the process's own, as many as may go.
     pub(crate) fn tell_own<R: AllocGlobal + Print>(
         &mut self,
         rt: &R,
@@ -98,7 +99,7 @@ impl Uplink {
         Ok(())
     }
 
-    // Tells the oldest line of the process's own.
+    // Queues the oldest line of the process's own.
     fn tell_next<R: AllocGlobal + Print>(
         &mut self,
         rt: &R,
@@ -115,7 +116,7 @@ impl Uplink {
         Ok(())
     }
 
-    // Whether a line of the process's own may go at this second.
+    // Whether the process may send a line of its own at second `now`.
     fn may_tell(&self, now: u64) -> bool {
         match &self.session {
             Some(session) => session.may_tell(now),

@@ -1,16 +1,23 @@
-//! A bot's connection to its IRC server: dialling, registering, keeping it alive, the channels to be on, and what goes out.
+//! A bot's connection to its IRC server: connecting, registering, keeping it alive, the channels to be on, and what is
+//! sent.
 //!
-//! An [`Uplink`] connects to the servers of a configuration in turn ([`dialling`]), hears what the one that is connected
-//! says, and tells it lines. A [`Session`] is one connection of it. What is due when, [`upkeep`] says; what the bot itself
-//! makes of the server's words is not looked at here, and its lines come in by [`Uplink::tell`].
+//! An [`Uplink`] connects to the servers of a configuration in turn ([`dialling`]), reads what the connected one says,
+//! and sends it lines. A [`Session`] is one connection of it. [`upkeep`] decides what is due when. What the bot itself
+//! makes of the server's messages is not looked at here; the bot's lines come in by [`Uplink::tell`].
 //!
-//! What a server is told beside those is a registration's PASS, a PING after 90 seconds of silence, another nick where the
-//! server takes none of the bot's, the lines `perform` once after each welcome, a JOIN after a KICK or where the bot was not
-//! let in ([`Channels`]), and what an operator has it say or a person is answered ([`OwnLines`]). Each line to a server has 1
-//! to 510 bytes: a [`ServerWire`] is told nothing else.
+//! Besides those lines, an uplink sends:
 //!
-//! What happens on the connection goes to standard output, a line an event: seconds since 1970-01-01 UTC, and what
-//! happened. That it can't be written ends nothing. Seconds are those that the bot's clock reads.
+//! - the PASS of a registration;
+//! - a PING after 90 seconds of silence;
+//! - another nick, if the server rejects the bot's;
+//! - the lines `perform`, once after each welcome;
+//! - a JOIN after a KICK, or after the server did not let the bot in ([`Channels`]);
+//! - lines that an operator has it send, and answers to a person ([`OwnLines`]).
+//!
+//! Each line to a server has 1 to 510 bytes: a [`ServerWire`] sends nothing else.
+//!
+//! What happens on the connection is logged to standard output, one line for each event: seconds since 1970-01-01 UTC,
+//! and what happened. A log that cannot be written ends nothing. Seconds are read from the bot's clock.
 //!
 //! ```text
 //! let mut uplink = Uplink::new(alloc, settings)?;

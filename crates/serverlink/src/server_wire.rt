@@ -1,4 +1,4 @@
-// A connection that is told lines and nothing else.
+// A connection over which only lines are sent.
 ghost use Rattle.std.specs.Prelude.{◌≡◌, ◌&&◌, not, true, [], length, IfOk, IfErr, OnOk, OnErr};
 ghost use Rattle.upkeep.specs.Lines.{is_line};
 ghost use Rattle.serverlink.specs.Told.{ended};
@@ -11,7 +11,7 @@ use streams::{Given, Stream, Taken};
 use upkeep::is_line;
 use wire::{Bounds, Wire};
 
-// What may wait of what the server said, and of what it is told, in bytes.
+// The most bytes of what the server said that wait, and the most that wait to be sent.
 const MOST: usize = 65_536;
 
 const BOUNDS: Bounds = Bounds {
@@ -19,16 +19,16 @@ const BOUNDS: Bounds = Bounds {
     unsent: MOST,
 };
 
-/// A connection to a server. All that it is told are lines of 1 to 510 bytes without NUL, CR and LF, each with CR and
-/// LF after it; what the stream has taken is a front of them. At most 65,536 bytes wait on either side. Contracts see
-/// it as a `Rattle.serverlink.specs.Told.Talk`.
+/// A connection to a server. It sends only lines of 1 to 510 bytes without NUL, CR and LF, each followed by CR and LF;
+/// what the stream has taken is a prefix of them. At most 65,536 bytes wait on either side. Contracts see it as a
+/// `Rattle.serverlink.specs.Told.Talk`.
 pub struct ServerWire<S: Stream + Drop> {
     wire: Wire<S>,
-    // Whether it may have something to give: it stalled, and no event has named it since, where not.
+    // False after a read that would block, until an event names the connection again.
     may_give: bool,
 }
 
-// By hand, so that this is proved once.
+// Written by hand, so that the drop is proved once.
 impl<S: Stream + Drop> Drop for ServerWire<S> {
     fn drop(self) {
         let ServerWire {
@@ -54,14 +54,14 @@ impl<S: Stream + Drop> Model for ServerWire<S> {
       gives = server.may_give;
     } };
 
-    // All that it was told since it began are lines.
+    // All that was queued since it began are lines.
     ghost invariant = { λ server. TellsLines (S.source server.wire.stream) (S.sink server.wire.stream)
         server.wire.heard.items server.wire.unsent.items
         × (server.wire.bounds ≡ record { heard = MOST; unsent = MOST }) };
 }
 
 impl<S: Stream + Drop> ServerWire<S> {
-    /// A connection on which nothing is heard or told yet. Takes no memory.
+    /// Creates a connection over `stream` on which nothing was read or sent yet. Allocates nothing.
     #[tactic(auto, using(crate::proofs::ToldLemmas::tells_begun))]
     pub fn new(alloc: Global, stream: S) -> ServerWire<S>
         ensures { result ≡ begun (S.source stream) (S.sink stream) }
@@ -72,24 +72,26 @@ impl<S: Stream + Drop> ServerWire<S> {
         }
     }
 
-    /// An event has named it: it may have something to give.
+    /// Notes that an event has named the connection: its stream may have something to read.
     pub fn wake(&mut self)
         ensures { self.new ≡ named self.old }
     {
         self.may_give = true;
     }
 
-    /// Whether it may have something to give: not once it has stalled, until it is woken, and not once it is over.
+    /// Whether the stream may have something to read: false after a read that would block, until the next wake, and
+    /// false once the connection is over.
     pub fn may_give(&self) -> bool
         ensures { result ≡ (self.now.gives && not self.now.over) }
     {
         self.may_give && !self.wire.is_over
     }
 
-    /// Hears a piece of what has come, where it may have something to give and there is room. Whether a byte came.
+    /// Reads a piece of what has arrived, if the stream may have something to read and there is room for it. Returns
+    /// whether a byte arrived.
     ///
     /// # Errors
-    /// `NoMemory` where room is refused: never where it is not asked. Nothing was heard then.
+    /// `NoMemory` if an allocation fails: never if the stream is not read. Nothing was read then.
     #[tactic(auto, using(crate::proofs::ToldLemmas::tells_on))]
     pub fn read(&mut self) -> Result<bool, NoMemory>
         ensures reads { IfOk result (λ came. Reads self.old came self.new) }
@@ -109,7 +111,7 @@ impl<S: Stream + Drop> ServerWire<S> {
         }
     }
 
-    /// What was heard and is not taken yet, which then is. Takes no memory.
+    /// Takes the bytes that were read and not taken yet. Allocates nothing.
     #[tactic(auto, using(crate::proofs::ToldLemmas::tells_handed))]
     pub fn take_heard(&mut self, alloc: Global) -> Vec<u8>
         ensures all { result.items ≡ self.old.heard }
@@ -118,11 +120,11 @@ impl<S: Stream + Drop> ServerWire<S> {
         self.wire.take_heard(alloc)
     }
 
-    /// Leaves a line for the server, after those before. Bytes that are no line go nowhere. Where it does not fit, the
-    /// connection is over.
+    /// Queues `line` for the server, after the lines before it. Ignores bytes that are not a line. If the line does
+    /// not fit, the connection is over.
     ///
     /// # Errors
-    /// `NoMemory` where room is refused: never for bytes that are no line. Nothing is told then.
+    /// `NoMemory` if an allocation fails: never for bytes that are not a line. Nothing is queued then.
     pub fn tell(&mut self, alloc: Global, line: &[u8]) -> Result<(), NoMemory>
         ensures told { OnOk result (self.new ≡ told line.now self.old) }
         ensures err { OnErr result (self.new ≡ self.old) }
@@ -136,7 +138,7 @@ impl<S: Stream + Drop> ServerWire<S> {
         Ok(())
     }
 
-    /// Offers the server what is unsent, once. Whether it took a byte. Takes no memory.
+    /// Offers the unsent bytes to the stream, once. Returns whether it took a byte. Allocates nothing.
     #[tactic(auto, using(crate::proofs::ToldLemmas::tells_on))]
     pub fn send(&mut self) -> bool
         ensures { Sends self.old result self.new }
@@ -150,14 +152,14 @@ impl<S: Stream + Drop> ServerWire<S> {
         }
     }
 
-    /// Whether it is to be let go: the server ended it, it failed, or the server takes too little.
+    /// Whether to close the connection: the server ended it, it failed, or the server takes too little.
     pub fn is_over(&self) -> bool
         ensures { result ≡ self.now.over }
     {
         self.wire.is_over
     }
 
-    /// How many bytes the server has still to take.
+    /// Returns the number of unsent bytes.
     pub fn unsent(&self) -> usize
         ensures { result ≡ length self.now.unsent }
     {

@@ -10,25 +10,25 @@ use sockets::TcpSocket;
 use std::alloc::Global;
 use upkeep::{Care, Pace, Vigil};
 
-// How many pieces a turn reads at most.
+// The most pieces that one turn reads.
 const PIECES: usize = 16;
 
-/// A connection to a server, and what is known of it.
+/// A connection to a server, and what is known about it.
 pub struct Session {
     wire: ServerWire<TcpSocket>,
     vigil: Vigil,
     pace: Pace,
-    // The lines that the process looks at.
+    // Reads the lines that the process looks at.
     pub(crate) cues: LineReader,
-    /// The bot's nick there: that of its configuration until the server says another.
+    /// The bot's nick on the server: that of its configuration until the server says another.
     pub nick: Text,
     /// Whether the server has welcomed the bot (001).
     pub is_welcomed: bool,
-    // How many other nicks were asked for.
+    // How many other nicks the bot has asked for.
     pub(crate) tried: usize,
 }
 
-// By hand, so that this is proved once, and not in each function in which a connection ends.
+// Written by hand, so that the drop is proved once, and not in each function that drops one.
 impl Drop for Session {
     fn drop(self) {
         let Session {
@@ -44,7 +44,7 @@ impl Drop for Session {
 }
 
 impl Session {
-    // A connection that begins at this second, under this nick. Takes no memory.
+    // A connection that begins at second `now`, under `nick`. Allocates nothing.
     pub(crate) fn new(alloc: Global, socket: TcpSocket, nick: Text, now: u64) -> Session {
         Session {
             wire: ServerWire::new(alloc, socket),
@@ -57,14 +57,14 @@ impl Session {
         }
     }
 
-    // An event has named it.
+    // Notes that an event has named the connection.
     pub(crate) fn wake(&mut self)
         ensures { self.new.wire ≡ named self.old.wire }
     {
         self.wire.wake();
     }
 
-    // Hears what has come. Whether there may be more at once: not where it has stalled.
+    // Reads what has arrived. Returns whether there may be more at once: false after a read that would block.
     pub(crate) fn read(&mut self, now: u64) -> Result<bool, NoMemory>
         ensures reads { OnOk result (ReadsAll self.old.wire self.new.wire) }
         ensures err { OnErr result ((answers : List Given) × HearsAll answers self.old.wire self.new.wire) }
@@ -79,7 +79,7 @@ impl Session {
         Ok(self.wire.may_give())
     }
 
-    // What was heard and is not taken yet. Takes no memory.
+    // Takes the bytes that were read and not taken yet. Allocates nothing.
     pub(crate) fn take_heard(&mut self, alloc: Global) -> Vec<u8>
         ensures all { result.items ≡ self.old.wire.heard }
         ensures none { self.new.wire ≡ handed self.old.wire }
@@ -87,7 +87,7 @@ impl Session {
         self.wire.take_heard(alloc)
     }
 
-    // Leaves a line for the server, which it counts as one of this second. Bytes that are no line go nowhere.
+    // Queues `line` for the server, and counts it as sent at second `now`. Ignores bytes that are not a line.
     pub(crate) fn tell(&mut self, alloc: Global, line: &[u8], now: u64) -> Result<(), NoMemory>
         ensures told { OnOk result (self.new.wire ≡ told line.now self.old.wire) }
         ensures err { OnErr result (self.new.wire ≡ self.old.wire) }
@@ -97,12 +97,12 @@ impl Session {
         Ok(())
     }
 
-    // Whether a line of the process's own may go at this second.
+    // Whether the process may send a line of its own at second `now`.
     pub(crate) fn may_tell(&self, now: u64) -> bool {
         self.is_welcomed && self.pace.may(now)
     }
 
-    // What is to be done about the connection at this second. That it is to be asked is told once.
+    // Returns what to do about the connection at second `now`. Returns `Ask` once for each silence.
     pub(crate) fn care(&mut self, now: u64) -> Care {
         let care = self.vigil.care(now, self.is_welcomed);
         if care == Care::Ask {
@@ -111,33 +111,33 @@ impl Session {
         care
     }
 
-    /// The second at which it began, from 1970-01-01 UTC on.
+    /// Returns the second at which the connection began, counted from 1970-01-01 UTC.
     pub fn began(&self) -> u64
         ensures { result ≡ self.now.vigil.began }
     {
         self.vigil.began
     }
 
-    // Whether it has held for long.
+    // Whether the connection has held for long.
     pub(crate) fn is_good(&self, now: u64) -> bool {
         self.is_welcomed && self.vigil.is_good(now)
     }
 
-    // Whether it is to be let go.
+    // Whether to close the connection.
     pub(crate) fn is_over(&self) -> bool
         ensures { result ≡ self.now.wire.over }
     {
         self.wire.is_over()
     }
 
-    /// How many bytes the server has still to take.
+    /// Returns the number of unsent bytes.
     pub fn unsent(&self) -> usize
         ensures { result ≡ length self.now.wire.unsent }
     {
         self.wire.unsent()
     }
 
-    // Offers the server what is unsent, once. Whether it may take more at once: not where it has all, or took nothing.
+    // Offers the server the unsent bytes, once. Returns whether it may take more at once: it took some, and not all.
     pub(crate) fn send(&mut self) -> bool
         ensures { SendsOn self.old.wire result self.new.wire }
     {

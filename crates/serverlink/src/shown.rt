@@ -3,8 +3,8 @@ use bstr::ByteSlice;
 use std::fmt;
 use std::fmt::Display;
 
-/// Bytes of a server or an operator as a log shows them: their spaces and letters as they are, control bytes and what is
-/// no UTF-8 by a backslash and a number.
+/// Bytes from a server or an operator as a log shows them: spaces and letters as they are, control bytes and invalid
+/// UTF-8 as a backslash and a number.
 #[derive(Clone, Copy)]
 pub struct Shown<'a>(
     /// The bytes.
@@ -23,7 +23,7 @@ impl Display for Shown<'_> {
     }
 }
 
-/// Writes words, and what follows them.
+/// Writes `words`, and then `shown`, to `f`.
 ///
 /// # Errors
 /// The formatter's.

@@ -15,23 +15,23 @@ use sockets::Registry;
 use std::alloc::Global;
 use std::net::Net;
 
-// Under which the connection to a server is watched.
+// The token under which the connection to a server is watched.
 const TOKEN: usize = 1;
 
-// The longest wait for a try, in seconds.
+// The longest wait before an attempt to connect, in seconds.
 const LONGEST_WAIT: u16 = 300;
 
-/// The connection to a server, if there is one, and what is kept over all of them.
+/// The connection to a server, if there is one, and what outlasts a connection.
 pub struct Uplink {
     pub(crate) session: Option<Session>,
     pub(crate) dialling: Dialling,
     /// The channels of the configuration.
     pub channels: Channels,
-    /// The lines of the process's own that wait. They are forgotten where the server is lost.
+    /// The queued lines of the process's own. They are dropped when the server is lost.
     pub own: OwnLines,
 }
 
-// By hand, so that this is proved once, and not in each function in which one ends.
+// Written by hand, so that the drop is proved once, and not in each function that drops one.
 impl Drop for Uplink {
     fn drop(self) {
         let Uplink {
@@ -49,10 +49,10 @@ impl Uplink {
     ghost use Rattle.dialling.specs.Dials.{lost};
     ghost use Rattle.serverlink.specs.Talks.{MayReadAll, MaySend, handed, heard_in, held, told, woken, talk_in};
 
-    /// No connection yet; a try is due at once.
+    /// Creates an uplink from `settings` without a connection; an attempt to connect is due at once.
     ///
     /// # Errors
-    /// `NoMemory` where room is refused: never where no channel is configured.
+    /// `NoMemory` if an allocation fails: never if no channel is configured.
     pub fn new(alloc: Global, settings: &Settings) -> Result<Uplink, NoMemory>
         requires some { 0 < length settings.now.servers }
         ensures memory { IfErr result (λ _. 0 < length settings.now.channels) }
@@ -66,34 +66,34 @@ impl Uplink {
         })
     }
 
-    /// The connection, if there is one. It may still come to nothing.
+    /// Returns the connection, if there is one. It may not be established yet.
     pub fn session(&self) -> Option<&Session>
         ensures { MatchOption result (self.now.session ≡ None) (λ session. self.now.session ≡ Some session.now) }
     {
         self.session.as_ref()
     }
 
-    /// The second at which the next try is due.
+    /// Returns the second at which the next attempt to connect is due.
     pub fn due(&self) -> u64
         ensures { result ≡ self.now.dialling.waits.due }
     {
         self.dialling.due()
     }
 
-    /// The place in the list of the server that is tried next, or is connected.
+    /// Returns the place in the list of the server that is tried next, or is connected.
     pub fn place(&self) -> usize
         ensures { result ≡ self.now.dialling.place }
     {
         self.dialling.place()
     }
 
-    /// Begins to connect where there is no connection and a try is due at this second. Whether a connection began, whose
-    /// server is then told its PASS, if it has one. Looks the server's name up first, and waits for the resolver. A try
-    /// that does not begin is logged, and the next server is due after a wait. The connection is watched under the token 1,
-    /// which is to be nobody else's.
+    /// Begins to connect to the next server of `settings` if there is no connection and an attempt is due at second
+    /// `now`. Returns whether a connection began; if it did, the server's PASS is queued, if it has one. Looks up the
+    /// server's name first, and waits for the resolver. An attempt that cannot begin is logged, and the next server is
+    /// due after a wait. `registry` watches the connection under the token 1, which nothing else may use.
     ///
     /// # Errors
-    /// `NoMemory` where room is refused: never where there is a connection. There is none then.
+    /// `NoMemory` if an allocation fails: never if there is a connection. The uplink has none then.
     pub fn connect<R: AllocGlobal + Net + Print>(
         &mut self,
         rt: &R,
@@ -145,7 +145,7 @@ impl Uplink {
         }
     }
 
-    // A connection begins. Its server is told its PASS, if it has one.
+    // Begins a connection, and queues its server's PASS, if it has one.
     fn begin(
         &mut self,
         alloc: Global,
@@ -163,8 +163,8 @@ impl Uplink {
         Ok(())
     }
 
-    /// The connection, where the tokens of a wait name it, may have something to give. A token may be of one before it: then
-    /// it stalls once more.
+    /// Notes that the connection may have something to read if `tokens`, those of a wait, name it. A token may be that
+    /// of an earlier connection: then the next read would block.
     pub fn wake(&mut self, tokens: &[usize])
         ensures { talk_in self.new.session ≡ woken (list_any (λ token. token == TOKEN) tokens.now) (talk_in self.old.session) }
     {
@@ -175,10 +175,11 @@ impl Uplink {
         }
     }
 
-    /// Hears what has come by this second, up to 16 pieces. Whether there may be more at once: not where it has stalled.
+    /// Reads what has arrived by second `now`, up to 16 pieces. Returns whether there may be more at once: false after
+    /// a read that would block.
     ///
     /// # Errors
-    /// `NoMemory` where room is refused: never without a connection. What was heard before stays.
+    /// `NoMemory` if an allocation fails: never without a connection. What was read before stays.
     pub fn read(&mut self, now: u64) -> Result<bool, NoMemory>
         ensures reads { OnOk result (MayReadAll (talk_in self.old.session) (talk_in self.new.session)) }
         ensures memory { IfErr result (λ _. self.old.session ≢ None) }
@@ -189,7 +190,7 @@ impl Uplink {
         }
     }
 
-    /// What was heard and is not taken yet, which then is. Takes no memory.
+    /// Takes the bytes that were read and not taken yet. Allocates nothing.
     pub fn take_heard(&mut self, alloc: Global) -> Vec<u8>
         ensures all { result.items ≡ heard_in (talk_in self.old.session) }
         ensures none { talk_in self.new.session ≡ option_map handed (talk_in self.old.session) }
@@ -200,11 +201,12 @@ impl Uplink {
         }
     }
 
-    /// Leaves a line for the server, where there is one, and counts it as one of this second. Bytes that are no line go
-    /// nowhere, and where more than 65,536 bytes would wait, the connection is over.
+    /// Queues `line` for the server, if one is connected, and counts it as sent at second `now`. Ignores bytes that
+    /// are not a line. If more than 65,536 bytes would wait, the connection is over. `settings` say whether to log the
+    /// line.
     ///
     /// # Errors
-    /// `NoMemory` where room is refused: never without a connection. Nothing is told then.
+    /// `NoMemory` if an allocation fails: never without a connection. Nothing is queued then.
     pub fn tell<R: AllocGlobal + Print>(
         &mut self,
         rt: &R,
@@ -226,7 +228,7 @@ impl Uplink {
         Ok(())
     }
 
-    /// Offers the server what is unsent, once. Whether it may take more at once: not where it has all, or took nothing.
+    /// Offers the server the unsent bytes, once. Returns whether it may take more at once: it took some, and not all.
     pub fn send(&mut self) -> bool
         ensures { MaySend (talk_in self.old.session) result (talk_in self.new.session) }
     {
@@ -236,7 +238,7 @@ impl Uplink {
         }
     }
 
-    /// Lets the server go at this second, where it is over.
+    /// Disconnects the server at second `now`, if the connection is over.
     pub fn let_go<R: Print>(&mut self, rt: &R, now: u64)
         requires moment { now < MOMENTS_END }
         ensures { self.new.session ≡ held self.old.session }
@@ -248,7 +250,8 @@ impl Uplink {
         }
     }
 
-    /// Lets the server go at this second, and forgets what waits for it. The next server is due after a wait.
+    /// Disconnects the server at second `now` because of `why`, and drops what waits for it. The next server is due
+    /// after a wait.
     pub fn lose<R: Print>(&mut self, rt: &R, why: Why, now: u64)
         requires moment { now < MOMENTS_END }
         ensures gone { self.new.session ≡ None }
@@ -263,7 +266,7 @@ impl Uplink {
     }
 }
 
-// A word and what follows it.
+// A word and the bytes that follow it.
 pub(crate) fn joined(alloc: Global, word: &[u8], rest: &[u8]) -> Result<Vec<u8>, NoMemory> {
     let mut line = Vec::from_slice(alloc, word)?;
     line.extend_from_slice(rest)?;

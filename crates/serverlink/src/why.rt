@@ -1,18 +1,19 @@
-// Why a server is let go.
+// Why the bot disconnects from a server.
 use upkeep::Loss;
 
-/// Why a server is let go.
+/// Why the bot disconnects from a server.
 #[derive(Clone, Copy)]
 pub enum Why {
-    /// It ended the connection, it never was one, or it takes too little of what it is told.
+    /// The server ended the connection, the connection was never established, or the server takes too little of what
+    /// is sent.
     Over,
-    /// It was silent for 150 seconds, or did not welcome the bot for 60.
+    /// The server was silent for 150 seconds, or did not welcome the bot within 60.
     Care(Loss),
-    /// An operator wants another.
+    /// An operator wants another server.
     Jump,
 }
 
-// The same in words.
+// The reason in words.
 pub(crate) fn why_text(why: Why) -> &'static str {
     match why {
         Why::Over => "the connection ended",

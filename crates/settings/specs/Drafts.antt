@@ -30,7 +30,7 @@ no_line = record {
   binds = [];
 }
 
--- a line that stands once is refused where one is there
+-- a line that may stand once is refused if there is one already
 abbrev pub once : Word → Bool → Option Advice
 once word false = None
 once word true = Some (Once word)

@@ -31,7 +31,7 @@ data_said rest = if is_empty rest then Wrong (Form data_word) else Data rest
 abbrev pub secret_said : List ℕ → Saying
 secret_said rest = if is_empty rest then Wrong (Form secret_word) else Secret rest
 
--- perform LINE: as long as a line may be
+-- perform LINE, which is at most as long as a line may be
 abbrev pub perform_said : List ℕ → Saying
 perform_said rest = if is_empty rest || nat_lt MAX_LINE (length rest) then Wrong (Form perform_word) else Perform rest
 
@@ -57,7 +57,7 @@ abbrev pub account_said : List ℕ → Saying
 account_said rest =
     if is_empty (rest_of rest) then Wrong (Form account_word) else Account (record { name = word_of rest; file = rest_of rest })
 
--- bot NUMBER of LEAVES: the number is at most LEAVES, and these are not too many
+-- bot NUMBER of LEAVES: the number is at most LEAVES, and LEAVES is not too high
 abbrev pub bot_numbered : Option ℕ → Option ℕ → Saying
 bot_numbered None leaves = Wrong (Form bot_word)
 bot_numbered (Some n) None = Wrong (Form bot_word)
@@ -91,7 +91,7 @@ listen_said rest =
     if is_empty (rest_of rest) || not (is_empty (rest_of (rest_of rest))) then Wrong (Form listen_word)
     else listen_found (word_of rest) (port_of (word_of (rest_of rest)))
 
--- server HOST PORT PASS, of which the PASS may be left out
+-- server HOST PORT PASS; the PASS may be left out
 abbrev pub pass_of : List ℕ → Option (List ℕ)
 pass_of rest = if is_empty rest then None else Some rest
 

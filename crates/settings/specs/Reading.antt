@@ -19,7 +19,7 @@ use Rattle.settings.specs.Drafts.{no_line, refusal_of, added}
 
 -- ---- line by line
 
--- the lines, which a line feed ends or divides each: after the last one stands an empty line
+-- the lines, split at each line feed: after a line feed at the end stands an empty line
 abbrev pub lines_of : List ℕ → List (List ℕ)
 lines_of bytes = slice_split (λ b. b == 10) bytes
 
@@ -28,7 +28,7 @@ abbrev pub unless : Option Advice → ℕ → Result Draft SettingsFault → Res
 unless None line later = later
 unless (Some advice) line later = Err (Line line advice)
 
--- the lines from this number on, after those before
+-- reads the lines from this number on, after those before
 unfoldable pub read_from : Draft → ℕ → List (List ℕ) → Result Draft SettingsFault
 read_from draft line [] = Ok draft
 read_from draft line (bytes ∷ lines) =
@@ -47,7 +47,7 @@ alone = record { number = 0; leaves = 0 }
 abbrev pub utc : TzText
 utc = fixed_rule (pos 0)
 
--- the first of two that there is
+-- the first lack of two, if there is one
 abbrev pub first_of_two : Option Lack → Option Lack → Option Lack
 first_of_two (Some lack) other = Some lack
 first_of_two None other = other
@@ -60,7 +60,8 @@ abbrev pub bars : Bool → Lack → Option Lack
 bars true lack = Some lack
 bars false lack = None
 
--- a leaf has a line hub, none listen, and a secret; a hub none hub, and with leaves a line listen and a secret
+-- a leaf has a line hub, no line listen, and a secret; a hub has no line hub, and with leaves a line listen and a
+-- secret
 abbrev pub role_lack : Station → Bool → Bool → Bool → Option Lack
 role_lack station hub listen secret =
     if nat_lt 0 station.number
@@ -69,7 +70,7 @@ role_lack station hub listen secret =
     then first_of_two (needs listen Listen) (first_of_two (bars hub HubOfHub) (needs secret Secret))
     else bars hub HubOfHub
 
--- the first that right lines lack together
+-- the first thing that right lines lack together
 abbrev pub lack_of : Draft → Option Lack
 lack_of draft =
     first_of_two (needs (is_some draft.folder) Data)
@@ -77,7 +78,7 @@ lack_of draft =
     (first_of_two (needs (nat_lt 0 (length draft.servers)) Server)
     (role_lack (unwrap_or draft.station alone) (is_some draft.hub) (is_some draft.listen) (is_some draft.secret))))
 
--- what they say where they lack nothing
+-- what lines say that lack nothing
 abbrev pub settings_of : Draft → Settings
 settings_of draft = record {
   folder = unwrap_or draft.folder [];
@@ -116,7 +117,7 @@ Answers said (Ok value) = said ≡ Ok value
 Answers said (Err (Refused fault)) = said ≡ Err fault
 Answers said (Err NoMemory) = Unit {0}
 
--- these bytes are read as this; no memory is wanted of a file that is too long
+-- these bytes are read as this; a file that is too long needs no memory
 abbrev pub ReadsAs : List ℕ → Result Settings (Failure SettingsFault) → Type 0
 ReadsAs bytes (Ok settings) = settings_in bytes ≡ Ok settings
 ReadsAs bytes (Err (Refused fault)) = settings_in bytes ≡ Err fault

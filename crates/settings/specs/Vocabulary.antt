@@ -25,6 +25,6 @@ abbrev pub all_words : List Word
 all_words =
     Account ∷ Bind ∷ Bot ∷ Channel ∷ Data ∷ Exclusive ∷ Hub ∷ Listen ∷ Log ∷ Nick ∷ Perform ∷ Secret ∷ Server ∷ Zone ∷ []
 
--- the word that is spelled so: no two are spelled alike
+-- the word with this spelling: no two are spelled alike
 abbrev pub word_named : List ℕ → Option Word
 word_named spelling = find (λ word. bytes_eq (spelling_of word) spelling) all_words

@@ -31,6 +31,6 @@ abbrev pub number_of : List ℕ → Option ℕ
 number_of [] = None
 number_of (b ∷ bs) = number_from 0 (b ∷ bs)
 
--- a port is no 0
+-- a port is a number other than 0
 abbrev pub port_of : List ℕ → Option ℕ
 port_of word = option_and_then (λ n. if n == 0 then None else Some n) (number_of word)

@@ -6,21 +6,21 @@ use std::fmt::Display;
 /// What to say instead of a line that breaks a rule.
 #[derive(Clone, Copy, Debug, PartialEq, Eq)]
 pub enum Advice {
-    /// The line is not formed as this word wants it.
+    /// The line does not have the form of this word.
     Form(Word),
-    /// A line before it has this word, which stands once.
+    /// An earlier line has this word, which may stand once.
     Once(Word),
     /// The bot's number is above the number of leaves, or these are above 1,000.
     Leaves,
-    /// The port is no number from 1 to 65,535.
+    /// The port is not a number from 1 to 65,535.
     Port,
-    /// The first word is none that there is.
+    /// The first word is unknown.
     Unknown,
-    /// A carriage return stands at the end.
+    /// The line ends in a carriage return.
     CarriageReturn,
-    /// A byte stands in it that shows nothing: below 32, or 127.
+    /// The line has a control byte: below 32, or 127.
     Control,
-    /// It begins with a byte order mark.
+    /// The line begins with a byte order mark.
     ByteOrderMark,
 }
 
@@ -34,7 +34,7 @@ impl Display for Advice {
     }
 }
 
-// What is said, without the word that is to stand once.
+// What is said, without the word that may stand once.
 fn words_of(advice: Advice) -> &'static str {
     match advice {
         Advice::Once(_) => " once: a line above has it",
@@ -49,7 +49,7 @@ fn words_of(advice: Advice) -> &'static str {
     }
 }
 
-// How a line of this word is formed.
+// The form of a line of this word.
 fn form_of(word: Word) -> &'static str {
     match word {
         Word::Account => "say account NAME FILE, as in account egg /etc/eggnet/password",

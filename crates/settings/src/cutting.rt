@@ -6,13 +6,13 @@ ghost use Rattle.settings.specs.Words.{is_space, is_letter, word_of, rest_of, af
 /// A word, and what follows it.
 #[derive(Clone, Copy)]
 pub struct Cut<'a> {
-    /// Up to the next space.
+    /// The bytes up to the next space.
     pub word: &'a [u8],
-    /// Without the spaces between.
+    /// What follows, without the spaces between.
     pub rest: &'a [u8],
 }
 
-/// The first word of a line, and the rest.
+/// Returns the first word of `line`, and the rest.
 pub fn cut_word(line: &[u8]) -> Cut<'_>
     ensures word { result.word.now ≡ word_of line.now }
     ensures rest { result.rest.now ≡ rest_of line.now }
@@ -24,7 +24,7 @@ pub fn cut_word(line: &[u8]) -> Cut<'_>
     }
 }
 
-/// A line without the spaces before its first word.
+/// Returns `line` without the spaces before its first word.
 pub fn after_spaces(line: &[u8]) -> &[u8]
     ensures { result.now ≡ after_spaces line.now }
 {

@@ -12,7 +12,7 @@ use bottimers::Zone;
 use bytetext::{NoMemory, Text, Texts};
 use std::alloc::Global;
 
-/// What the lines so far say; `None` and `false` where there is no such line.
+/// What the lines so far say; `None` and `false` if there is no such line.
 pub struct Draft {
     /// The bot's own folder.
     pub folder: Option<Text>,
@@ -28,13 +28,13 @@ pub struct Draft {
     pub hub: Option<Address>,
     /// Where the bot listens.
     pub listen: Option<Address>,
-    /// The file of what both ends of the link know.
+    /// The file of the secret that both ends of the link know.
     pub secret: Option<Text>,
-    /// Whom the bot authenticates as.
+    /// The account that the bot authenticates as.
     pub account: Option<Account>,
     /// How far its clock is ahead of UTC at each moment.
     pub zone: Option<Zone>,
-    /// Whether a text that a mask matched is none for keywords.
+    /// Whether `msg` and `pub` binds ignore a text for which a `msgm` or `pubm` proc was called.
     pub exclusive: bool,
     /// Whether lines are logged.
     pub log_lines: bool,
@@ -67,7 +67,7 @@ impl Drop for Draft {
 }
 
 impl Draft {
-    /// No line is read.
+    /// Creates the draft of a file of which no line was read.
     pub fn new(alloc: Global) -> Draft
         ensures { result ≡ no_line }
     {
@@ -89,7 +89,7 @@ impl Draft {
         }
     }
 
-    /// Why a line is refused after these, if it is.
+    /// Returns why `saying` is refused after the lines so far, if it is.
     pub fn refusal(&self, saying: &Saying) -> Option<Advice>
         ensures { result ≡ refusal_of self.now saying.now }
     {
@@ -113,7 +113,7 @@ impl Draft {
         }
     }
 
-    /// The settings of lines that lack nothing.
+    /// Returns the settings of lines that lack nothing.
     pub fn into_settings(self) -> Settings
         requires { lack_of self ≡ None }
         ensures { result ≡ settings_of self }
@@ -153,7 +153,7 @@ impl Draft {
     }
 }
 
-// What to say of a line that stands once, where one is there.
+// What to say of a line that may stand once, if there is one already.
 fn once(word: Word, is_there: bool) -> Option<Advice>
     ensures { result ≡ once word is_there }
 {

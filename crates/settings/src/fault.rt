@@ -9,7 +9,7 @@ pub enum SettingsFault {
     /// It has more than 65,536 bytes.
     #[error("write at most 65536 bytes")]
     TooLong,
-    /// A line breaks a rule, the first that does.
+    /// The first line that breaks a rule.
     #[error("line {line}: {advice}")]
     Line {
         /// The line's number, from 1.
@@ -17,12 +17,12 @@ pub enum SettingsFault {
         /// What to say instead.
         advice: Advice,
     },
-    /// Each line is right, and one is missing, or stands where it means nothing.
+    /// Each line is right, but one is missing, or stands where it means nothing.
     #[error("{0}")]
     Lacks(Lack),
 }
 
-/// What a file of right lines lacks, or has too much, in the order in which it is looked for.
+/// What a file of right lines lacks, or has too much, in the order of the checks.
 #[derive(Clone, Copy, Debug, PartialEq, Eq, Error)]
 pub enum Lack {
     /// No line `data`.
@@ -51,6 +51,6 @@ pub enum Lack {
     Secret,
 }
 
-/// Why [`Settings::read`](crate::Settings::read) gives no settings: the file is refused, or else a growth was refused
+/// Why [`Settings::read`](crate::Settings::read) returns no settings: the file is refused, or an allocation failed
 /// before a fault was seen.
 pub type SettingsError = Failure<SettingsFault>;

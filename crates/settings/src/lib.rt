@@ -1,29 +1,29 @@
 //! The configuration file of a bot.
 //!
-//! A file has one setting a line: a word, and the words that belong to it, with one space or more between. A last word in
-//! capitals below takes the rest of the line, and keeps its spaces. Spaces before the first word are skipped; empty lines
-//! and lines that begin with `#` say nothing. Lines end with a line feed alone.
+//! Each line has one setting: a word, and the words that belong to it, with one space or more between. A last word that
+//! the table shows in capitals takes the rest of the line, and keeps its spaces. Spaces before the first word are
+//! skipped. Empty lines and lines that begin with `#` are ignored. Lines end with a line feed alone.
 //!
 //! | Line | Times | Meaning |
 //! |---|---|---|
 //! | `data FOLDER` | once | the bot's own folder |
 //! | `nick` nick | once | the nick under which it connects |
 //! | `server` host port PASS | once or more | a server to try, in turn; the PASS may be left out |
-//! | `bot` number `of` leaves | once or not at all | which bot it is; 0 is the hub, and `bot 0 of 0` stands where there is no such line |
+//! | `bot` number `of` leaves | once or not at all | which bot it is; 0 is the hub; by default `bot 0 of 0` |
 //! | `hub` host port | a leaf: once | where its hub listens |
 //! | `listen` host port | a hub with leaves: once | where it listens |
-//! | `secret FILE` | once where there are leaves | the file of what both ends of the link know |
+//! | `secret FILE` | once if there are leaves | the file of the secret that both ends of the link know |
 //! | `channel` name | any | a channel to join, in order |
 //! | `bind` type flags proc MASK | any | a bind, in order |
 //! | `perform LINE` | any | a line of 1 to 510 bytes for the server, once after each registration |
-//! | `account` name FILE | once or not at all | whom it authenticates as, and the file of the password |
-//! | `zone` rule | once or not at all | its clock, by a rule of POSIX; UTC where there is no such line |
-//! | `exclusive` | once or not at all | a text that a `msgm` or `pubm` bind matched is none for `msg` and `pub` binds |
+//! | `account` name FILE | once or not at all | the account that it authenticates as, and the file of the password |
+//! | `zone` rule | once or not at all | its clock, by a rule of POSIX; UTC without such a line |
+//! | `exclusive` | once or not at all | `msg` and `pub` binds ignore a text that a `msgm` or `pubm` proc got |
 //! | `log lines` | once or not at all | each line from and to the server is logged |
 //!
-//! [`Settings::read`] answers what a file says, or its first faulty line with what to say instead, or what it lacks. Nothing
-//! is opened. A bind's type, flags and mask are for the table of binds to judge: a [`BindLine`] has its line's number, so
-//! that who makes the table can name it.
+//! [`Settings::read`] returns what a file says, or its first faulty line with what to say instead, or what it lacks. It
+//! opens nothing. The table of binds checks a bind's type, flags and mask. A [`BindLine`] has its line's number, so
+//! that the maker of the table can name the line.
 //!
 //! ```text
 //! let settings = Settings::read(alloc, b"data /var/lib/egg\nnick egg\nserver 127.0.0.1 6667\nchannel #egg\n")?;

@@ -5,7 +5,7 @@ ghost use Rattle.settings.specs.Names.{is_nick, is_nick_byte};
 
 use crate::MAX_NICK;
 
-/// Whether a bot can connect under this nick.
+/// Returns whether a bot can connect under `nick`.
 pub fn is_nick(nick: &[u8]) -> bool
     ensures { result ≡ is_nick nick.now }
 {

@@ -3,7 +3,7 @@ ghost use Rattle.std.specs.Prelude.{◌≡◌, ◌<◌};
 ghost use Rattle.bytetext.specs.Numerals.{digit_onto, is_digit};
 ghost use Rattle.settings.specs.Words.{number_of, port_of};
 
-/// The number that a word of digits means, where it is below 65,536.
+/// Returns the number that `word` spells in digits, if it is below 65,536.
 pub fn number(word: &[u8]) -> Option<u16>
     ensures { result ≡ number_of word.now }
 {
@@ -17,7 +17,7 @@ pub fn number(word: &[u8]) -> Option<u16>
     Some(value)
 }
 
-// The number that one digit more makes of a number, where it is below 65,536.
+// The number that one more digit makes of `value`, if it is below 65,536.
 fn digit_onto(value: u16, byte: u8) -> Option<u16>
     ensures { result ≡ digit_onto value byte }
 {
@@ -32,7 +32,7 @@ fn digit_onto(value: u16, byte: u8) -> Option<u16>
     }
 }
 
-/// A number that is a port.
+/// Returns the port that `word` spells: a number other than 0.
 pub fn port(word: &[u8]) -> Option<u16>
     ensures { result ≡ port_of word.now }
 {

@@ -22,11 +22,12 @@ impl Settings {
     ghost use Rattle.std.specs.Prelude.{◌≡◌, ◌<◌, length};
     ghost use Rattle.settings.specs.Reading.{ReadsAs};
 
-    /// What these bytes say as a file.
+    /// Reads `bytes` as a configuration file.
     ///
     /// # Errors
-    /// `Refused` with `TooLong` above 65,536 bytes, else with the first line that breaks a rule, else with the first thing
-    /// that the file lacks; `NoMemory` where room is refused before a fault is seen, which is not for the length.
+    /// `Refused` with `TooLong` above 65,536 bytes, else with the first line that breaks a rule, else with the first
+    /// thing that the file lacks; `NoMemory` if an allocation fails before a fault is seen. The check of the length
+    /// does not allocate.
     pub fn read(alloc: Global, bytes: &[u8]) -> Result<Settings, SettingsError>
         ensures reads { ReadsAs bytes.now result }
         ensures too_long { MAX_FILE < length bytes.now → result ≡ Err (Failure.Refused SettingsFault.TooLong) }
@@ -66,7 +67,7 @@ fn draft_of(alloc: Global, lines: &[&[u8]]) -> Result<Draft, SettingsError>
     Ok(draft)
 }
 
-// The settings of right lines, where they lack nothing.
+// The settings, if lines without a fault lack nothing.
 fn complete(draft: Draft) -> Result<Settings, SettingsError>
     ensures { Answers (completed (lack_of draft) draft) result }
 {
@@ -76,7 +77,7 @@ fn complete(draft: Draft) -> Result<Settings, SettingsError>
     }
 }
 
-// What right lines lack.
+// What lines without a fault lack.
 fn lack_of(draft: &Draft) -> Option<Lack>
     ensures { result ≡ lack_of draft.now }
 {
@@ -97,7 +98,7 @@ fn lack_of(draft: &Draft) -> Option<Lack>
     )
 }
 
-// What a bot of this number among so many lacks.
+// What a bot at this station lacks.
 fn role_lack(station: Station, hub: bool, listen: bool, secret: bool) -> Option<Lack>
     ensures { result ≡ role_lack station hub listen secret }
 {

@@ -18,13 +18,13 @@ use bytetext::{NoMemory, Text};
 use rfccase::is_channel_name;
 use std::alloc::Global;
 
-/// What a line says by itself, whatever stands before it.
+/// What a line says by itself, whatever lines stand before it.
 pub enum Saying {
-    /// Nothing: it is empty or begins with `#`.
+    /// Nothing: the line is empty or begins with `#`.
     Nothing,
-    /// It breaks a rule: what to say instead.
+    /// The line breaks a rule: what to say instead.
     Wrong(Advice),
-    /// Whom the bot authenticates as.
+    /// The account that the bot authenticates as.
     Account(Account),
     /// A bind.
     Bind(BindWords),
@@ -34,7 +34,7 @@ pub enum Saying {
     Channel(Text),
     /// The bot's own folder.
     Data(Text),
-    /// A text that a mask matched is none for keywords.
+    /// `msg` and `pub` binds ignore a text for which a `msgm` or `pubm` proc was called.
     Exclusive,
     /// Where the hub listens.
     Hub(Address),
@@ -46,7 +46,7 @@ pub enum Saying {
     Nick(Text),
     /// A line for the server.
     Perform(Text),
-    /// The file of what both ends of the link know.
+    /// The file of the secret that both ends of the link know.
     Secret(Text),
     /// A server to try.
     Server(Server),
@@ -82,7 +82,7 @@ impl Saying {
     ghost use Rattle.std.specs.Prelude.{◌≡◌, OnOk};
     ghost use Rattle.settings.specs.Drafts.{added};
 
-    /// Adds to a draft what the line of this number says.
+    /// Adds to `draft` what the line of number `line` says.
     pub fn add_to(self, line: u64, draft: &mut Draft) -> Result<(), NoMemory>
         ensures { OnOk result (draft.new ≡ added line draft.old self) }
     {
@@ -107,7 +107,7 @@ impl Saying {
     }
 }
 
-/// What a line says.
+/// Returns what `line` says.
 pub fn saying_of(alloc: Global, line: &[u8]) -> Result<Saying, NoMemory>
     ensures { IfOk result (λ saying. saying ≡ saying_of line.now) }
 {
@@ -118,7 +118,7 @@ pub fn saying_of(alloc: Global, line: &[u8]) -> Result<Saying, NoMemory>
     saying_by_words(alloc, line)
 }
 
-// The same of a line that begins with a byte, which is no space or #.
+// What a line says that begins with a byte other than a space or `#`.
 #[tactic(auto, unfolding(crate::specs::Grammar::saying_by_words))]
 fn saying_by_words(alloc: Global, line: &[u8]) -> Result<Saying, NoMemory>
     ensures { IfOk result (λ saying. saying ≡ saying_by_words line.now) }
@@ -160,7 +160,7 @@ fn has_mark(line: &[u8]) -> bool
     line.len() >= 3 && line[0] == 0xef && line[1] == 0xbb && line[2] == 0xbf
 }
 
-// What follows each word.
+// What the rest of a line says after each word.
 fn said_of(alloc: Global, word: Option<Word>, rest: &[u8]) -> Result<Saying, NoMemory>
     ensures { IfOk result (λ saying. saying ≡ said_of word rest.now) }
 {
@@ -272,7 +272,7 @@ fn bot_said(rest: &[u8]) -> Saying
     bot_of(cut.word, cut.rest)
 }
 
-// of LEAVES, after a number
+// `of LEAVES`, after a number.
 fn bot_of(numeral: &[u8], rest: &[u8]) -> Saying
     ensures { result ≡ bot_of numeral.now rest.now }
 {
@@ -357,7 +357,7 @@ fn zone_said(rest: &[u8]) -> Saying
     }
 }
 
-// A PASS; none where it is left out.
+// The PASS, or `None` if it is left out.
 fn pass_of(alloc: Global, rest: &[u8]) -> Result<Option<Text>, NoMemory>
     ensures { IfOk result (λ pass. pass ≡ pass_of rest.now) }
 {

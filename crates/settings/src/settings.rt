@@ -17,19 +17,19 @@ pub struct Settings {
     pub servers: Servers,
     /// Where the hub listens; a leaf has it, and no other bot.
     pub hub: Option<Address>,
-    /// Where it listens; a hub with leaves has it, and no leaf.
+    /// Where the bot listens; a hub with leaves has it, and no leaf.
     pub listen: Option<Address>,
-    /// The file of what both ends of the link know. A bot of a net of several has it.
+    /// The file of the secret that both ends of the link know. A bot of a net of several has it.
     pub secret: Option<Text>,
-    /// Whom it authenticates as.
+    /// The account that it authenticates as.
     pub account: Option<Account>,
     /// How far its clock is ahead of UTC at each moment.
     pub zone: Zone,
-    /// Whether a text for which a `msgm` or `pubm` proc was called is no event for `msg` or `pub` binds.
+    /// Whether `msg` and `pub` binds ignore a text for which a `msgm` or `pubm` proc was called.
     pub exclusive: bool,
     /// Whether each line from and to the server is logged.
     pub log_lines: bool,
-    /// Lines of 1 to 510 bytes for the server, once after each registration, in order.
+    /// Lines of 1 to 510 bytes that it sends to the server once after each registration, in order.
     pub performs: Texts,
     /// The binds, in order.
     pub binds: BindLines,
@@ -57,7 +57,7 @@ impl Drop for Settings {
     }
 }
 
-/// A bot's number among all, and how many leaves there are.
+/// A bot's number in its net, and the number of leaves.
 #[derive(Clone, Copy, Debug, PartialEq, Eq)]
 pub struct Station {
     /// 0 is the hub; the leaves are 1 to `leaves`.
@@ -87,7 +87,7 @@ impl Drop for Address {
 pub struct Server {
     /// Where it is.
     pub address: Address,
-    /// What it is told by PASS, if it wants that.
+    /// The password that the bot sends with PASS, if there is one.
     pub pass: Option<Text>,
 }
 
@@ -104,7 +104,7 @@ impl Drop for Server {
 /// Servers, in order.
 pub type Servers = Seq<Server>;
 
-/// Whom a bot authenticates as.
+/// The account that a bot authenticates as.
 #[derive(Debug)]
 pub struct Account {
     /// The account's name.
@@ -120,8 +120,8 @@ impl Drop for Account {
     }
 }
 
-/// The words of a bind. None is empty; whether there is such a kind, and whether flags and mask are of a good shape, is
-/// not looked at.
+/// The words of a bind. None is empty. Nothing has checked that such a type exists, or that flags and mask are well
+/// formed.
 #[derive(Debug, Drop)]
 pub struct BindWords {
     /// The type, as the table of binds names it.
@@ -134,7 +134,7 @@ pub struct BindWords {
     pub mask: Text,
 }
 
-/// A bind, and the line that has it.
+/// A bind, and the line on which it stands.
 #[derive(Debug)]
 pub struct BindLine {
     /// The line's number, from 1.

@@ -2,10 +2,10 @@
 ghost use Rattle.std.specs.Prelude.{◌≡◌};
 ghost use Rattle.settings.specs.Vocabulary.{spelling_of, word_named};
 
-/// The first word of a line that says something.
+/// The first word of a line with a setting.
 #[derive(Clone, Copy, Debug, PartialEq, Eq)]
 pub enum Word {
-    /// Whom the bot authenticates as.
+    /// The account that the bot authenticates as.
     Account,
     /// A bind.
     Bind,
@@ -15,7 +15,7 @@ pub enum Word {
     Channel,
     /// The bot's own folder.
     Data,
-    /// Whether a text that a mask matched is none for keywords.
+    /// Whether `msg` and `pub` binds ignore a text for which a `msgm` or `pubm` proc was called.
     Exclusive,
     /// Where the hub listens.
     Hub,
@@ -27,7 +27,7 @@ pub enum Word {
     Nick,
     /// A line for the server.
     Perform,
-    /// The file of what both ends of the link know.
+    /// The file of the secret that both ends of the link know.
     Secret,
     /// A server to try.
     Server,
@@ -54,7 +54,7 @@ const ALL: [Word; 14] = [
 ];
 
 impl Word {
-    /// As files spell it.
+    /// Returns the word as files spell it.
     pub fn spelling(self) -> &'static str
         ensures { result.now ≡ spelling_of self }
     {
@@ -76,7 +76,7 @@ impl Word {
         }
     }
 
-    /// The word that is spelled so, byte for byte.
+    /// Returns the word that `spelling` spells, byte for byte.
     pub fn named(spelling: &[u8]) -> Option<Word>
         ensures { result ≡ word_named spelling.now }
     {

@@ -1,4 +1,4 @@
--- What reading a packet's body answers.
+-- What reading a packet's body returns.
 use Rattle.std.specs.Prelude.{ℕ, nat_le, List}
 use Rattle.std.specs.Int.{w16, w32}
 use Rattle.usercodec.specs.Fields.{Reading, ◌>>=◌, checked, byte_at, bytes_at, number_at}
@@ -27,7 +27,7 @@ bot_text_at bytes = checked is_bot_text (long_text_at bytes)
 unfoldable pub part_records_at : List ℕ → Reading (List Record)
 part_records_at bytes = counted_at MAX_PART_RECORDS (λ held after. record_at after) bytes
 
--- a layout that is said: layout 1 never is
+-- a layout in a hello: never layout 1
 unfoldable pub layout_at : List ℕ → Reading ℕ
 layout_at bytes = checked (λ layout. nat_le 2 layout) (byte_at bytes)
 

@@ -15,11 +15,11 @@ use Rattle.sharewire.specs.Kinds.{kind_byte, kind_of}
 use Rattle.usercodec.specs.FaultBytes.{fault_byte}
 use Rattle.sharewire.specs.Texts.{is_bot_text}
 
--- a text that one bot tells another: its length in two bytes, and its bytes
+-- a text from one bot to another: its length in two bytes, and its bytes
 abbrev pub long_text : List ℕ → List ℕ
 long_text bytes = number w16 (length bytes) ++ bytes
 
--- a hello says its layout, but for layout 1, which has a kind of its own
+-- a hello has its layout in the body, except for layout 1, which has a kind of its own
 abbrev pub hello_body : ℕ → ℕ → ℕ → List ℕ
 hello_body layout leaf version =
     if layout == 1 then number w16 leaf ++ number w32 version else layout ∷ (number w16 leaf ++ number w32 version)
@@ -40,12 +40,12 @@ inside packet = kind_byte (kind_of packet) ∷ body_of packet
 abbrev pub frame : Packet → List ℕ
 frame packet = number w16 (length (inside packet)) ++ inside packet
 
--- the records of one part: few, each one that has a spelling
+-- the records of one part: not too many, each with a spelling
 abbrev pub HoldsPart : List Record → Type 0
 HoldsPart records = (nat_le (length records) MAX_PART_RECORDS ≡ true) × AllByRecursion IsGoodRecord records
 
--- what a packet must hold to be written: a layout from 1 on, a change of good shape, the records of one part, a text that may be
--- told
+-- what a packet must hold to be written: a layout from 1 on, a change of good shape, the records of one part, a text
+-- that a bot may send
 abbrev pub CanBeWritten : Packet → Type 0
 CanBeWritten (Hello layout leaf version) = 0 < layout
 CanBeWritten (Change n origin request change) = bad_shape change ≡ None
@@ -55,7 +55,7 @@ CanBeWritten (Accepted leaf request n) = Unit {0}
 CanBeWritten (Refused leaf request fault) = Unit {0}
 CanBeWritten (BotText from to text) = is_bot_text text ≡ true
 
--- a packet that has a frame: it can be written, and its numbers have room
+-- a packet that has a frame: it can be written, and its numbers are in range
 abbrev pub IsGoodPacket : Packet → Type 0
 IsGoodPacket (Hello layout leaf version) = (0 < layout) × ((layout < 2 ^ 8) × ((leaf < 2 ^ 16) × (version < 2 ^ 32)))
 IsGoodPacket (Change n origin request change) = (n < 2 ^ 32) × ((origin < 2 ^ 16) × ((request < 2 ^ 32) × IsGoodChange change))

@@ -15,7 +15,7 @@ kind_byte refused = 6
 kind_byte bot_text = 7
 kind_byte later_hello = 8
 
--- the kind of a byte, where it is one
+-- the kind of a byte, if it is one
 abbrev pub kind_from : ℕ → Option Kind
 kind_from byte =
     if byte == 1 then Some hello

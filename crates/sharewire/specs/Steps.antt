@@ -1,4 +1,4 @@
--- What the steps of reading a stream answer.
+-- What the steps of reading a stream return.
 use Rattle.std.specs.Prelude.{◌≡◌, List, ℕ, ◌∷◌, ◌++◌, length, Option, Some, None, Result, Ok, Err}
 use Rattle.std.specs.List.{flat_map, AllByRecursion}
 use Rattle.std.specs.Int.{w16}
@@ -25,7 +25,7 @@ IsFront bytes (Ok None) = IsUnfinished bytes
 IsFront bytes (Ok (Some found)) = IsFrame bytes found.kind found.body.now found.rest.now
 IsFront bytes (Err fault) = HasFault fault bytes
 
--- the packet of the kind and the body, or that no packet has them, unless memory ran out
+-- the packet of the kind and the body, or that no packet has them, unless memory runs out
 abbrev pub ReadsBody : Kind → List ℕ → Result (Option Packet) NoMemory → Type 0
 ReadsBody kind body (Ok (Some packet)) = IsGoodPacket packet × (inside packet ≡ kind_byte kind ∷ body)
 ReadsBody kind body (Ok None) = (packet : Packet) → IsGoodPacket packet → inside packet ≡ kind_byte kind ∷ body → ⊥
@@ -36,7 +36,7 @@ abbrev pub IsNext : List ℕ → Next → Type 0
 IsNext bytes (Whole packet rest) = (bytes ≡ frame packet ++ rest.now) × IsGoodPacket packet
 IsNext bytes (End fault) = Ends bytes (ended bytes fault)
 
--- the bytes are the frames of these packets, and a rest that ends so
+-- the bytes are the frames of these packets, and a rest with this ending
 pub record IsRead (bytes : List ℕ) (frames : Frames) : Type 0 where
   pub parts : bytes ≡ flat_map frame frames.packets.items ++ frames.rest.now
   pub good : AllByRecursion IsGoodPacket frames.packets.items

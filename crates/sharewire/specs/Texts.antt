@@ -1,4 +1,4 @@
--- Which texts one bot may tell another.
+-- Which texts one bot may send to another.
 use Rattle.std.specs.Prelude.{ℕ, List, Bool, not, ◌&&◌, nat_le, ◌==◌, length}
 use Rattle.std.specs.List.{list_all}
 use Rattle.userfile.specs.Shapes.{is_line_byte}

@@ -151,7 +151,7 @@ fn bot_text_packet(alloc: Global, reader: &mut Reader<'_>) -> Result<Packet, Cod
 
 ghost use Rattle.sharewire.specs.Steps.{ReadsBody};
 
-// The packet of this kind whose body these bytes are, all of them, if they are one's.
+// Returns the packet of this kind whose body is all of `body`, or `None` if it is no packet's body.
 pub(crate) fn read_body(alloc: Global, kind: Kind, body: &[u8]) -> Result<Option<Packet>, NoMemory>
     ensures { ReadsBody kind body.now result }
 {

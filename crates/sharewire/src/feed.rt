@@ -1,10 +1,10 @@
-// What a piece of a stream tells.
+// What a piece of a stream adds.
 use crate::fault::WireFault;
 use crate::packet::Packet;
 use bytetext::{NoMemory, Seq, TryCopy};
 use std::alloc::Global;
 
-/// What a piece of a stream tells, beside what was told before.
+/// What a piece of a stream adds to what came before it.
 #[derive(Debug, Drop)]
 pub struct Feed {
     /// The packets whose frames end in the piece, in order.

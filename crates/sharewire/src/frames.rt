@@ -9,14 +9,14 @@ use crate::packet::Packet;
 use bytetext::NoMemory;
 use std::alloc::Global;
 
-// What stands at the front: a whole packet, or nothing more but the begin of a frame or a fault.
+// What stands at the front: a whole packet, or just the beginning of a frame or a fault.
 #[derive(Drop)]
 pub(crate) enum Next<'a> {
     Whole { packet: Packet, rest: &'a [u8] },
     End { fault: Option<WireFault> },
 }
 
-// Packets, what stands after them, and the fault if it has one.
+// Packets, what stands after them, and the fault if there is one.
 #[derive(Drop)]
 pub(crate) struct Frames<'a> {
     pub(crate) packets: Vec<Packet>,
@@ -49,7 +49,7 @@ pub(crate) fn read_frames(alloc: Global, bytes: &[u8]) -> Result<Frames<'_>, NoM
     }
 }
 
-// How many whole frames stand at the front, as far as their lengths and kinds tell.
+// Counts the whole frames at the front, as far as their lengths and kinds show.
 fn whole_frames(bytes: &[u8]) -> usize
     ensures { result ≤ length bytes.now }
 {

@@ -1,4 +1,4 @@
-// The front of a stream, as far as a frame's length and kind tell.
+// The front of a stream, as far as a frame's length and kind show.
 ghost use Rattle.sharewire.specs.Steps.{IsFront};
 
 use crate::fault::WireFault;
@@ -13,7 +13,7 @@ pub(crate) struct Inside<'a> {
     pub(crate) rest: &'a [u8],
 }
 
-// The frame at the front, if it is whole.
+// Returns the frame at the front, if it is whole.
 pub(crate) fn front(bytes: &[u8]) -> Result<Option<Inside<'_>>, WireFault>
     ensures { IsFront bytes.now result }
 {

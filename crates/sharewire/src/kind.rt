@@ -7,7 +7,7 @@ use crate::packet::Packet;
 #[derive(Clone, Copy, Debug)]
 pub(crate) enum Kind {
     Hello,
-    // A hello of a later layout than 1, which says it.
+    // A hello of a later layout than 1, with the layout in its body.
     LaterHello,
     Change,
     Part,

@@ -5,19 +5,20 @@ ghost use Rattle.sharewire.specs.declared.packet.Packet.{Packet};
 ghost use Rattle.sharewire.specs.Frames.{frame, IsGoodPacket};
 ghost use Rattle.sharewire.specs.Streams.{Ending, Tells, AreBytes};
 
-/// No frame begins another: of bytes that begin with a packet's frame, the packet and the bytes after it are known.
+/// No frame is the beginning of another: bytes that begin with a packet's frame determine that packet and the bytes
+/// after it.
 pub fn frames_are_apart()
     ensures { (a b : Packet) (x y : List ℕ) → IsGoodPacket a → IsGoodPacket b → frame a ++ x ≡ frame b ++ y
         → (a ≡ b) × (x ≡ y) }
 {}
 
-/// What was written is told, and nothing is left of it.
+/// A stream of written frames holds just their packets, and nothing is left over.
 pub fn written_is_told()
     ensures { (packets : List Packet) → AllByRecursion IsGoodPacket packets
         → Tells (flat_map frame packets) packets (Ok []) }
 {}
 
-/// Each stream tells packets and an end, and no others: so it does not matter who reads it, or how it is cut.
+/// Each stream holds one sequence of packets and one ending. So it does not matter who reads it, or how it is cut.
 pub fn a_stream_tells_one_thing()
     ensures some { (stream : List ℕ) → AreBytes stream
         → (packets : List Packet) × ((ending : Ending) × Tells stream packets ending) }

@@ -15,10 +15,10 @@
 //! | 7 | [`Packet::BotText`] | from (2), to (2), the text's length (2), the text |
 //! | 8 | [`Packet::Hello`] of a later layout | layout (1, at least 2), leaf (2), version (4) |
 //!
-//! [`write_packet`] writes a packet's one frame. A [`WireReader`] is fed the pieces of a stream, cut anywhere, and
-//! tells each packet once, in order, as soon as its frame is whole. It keeps no more than one frame that is not. The
+//! [`write_packet`] writes a packet's one frame. A [`WireReader`] takes the pieces of a stream, cut anywhere, and
+//! returns each packet once, in order, as soon as its frame is whole. It keeps no more than one incomplete frame. The
 //! first [`WireFault`] ends the stream: with the second byte of a frame if its length is bad, with the third if its
-//! kind is, with the last if its body is. The packets before it are given.
+//! kind is, with the last if its body is. The reader returns the packets before it.
 //!
 //! ```text
 //! let frame = write_packet(alloc, &Packet::Hello { layout: 2, leaf: 1, version: 2 })?;    // 0008 08 02 0001 00000002
@@ -28,8 +28,8 @@
 //! reader.feed(alloc, b"\x00\x00")?;              // K3: a length of 0
 //! ```
 //!
-//! What a stream tells is `Tells` in `specs/Streams.antt`, by its frames alone; [`a_stream_tells_one_thing`] says that
-//! it is one thing. [`read_pieces`] is the whole way from pieces to packets.
+//! `Tells` in `specs/Streams.antt` defines what a stream holds, by its frames alone; [`a_stream_tells_one_thing`]
+//! states that this is unique. [`read_pieces`] goes all the way from pieces to packets.
 #![tactic(auto)]
 
 mod body;

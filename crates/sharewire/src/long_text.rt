@@ -1,4 +1,4 @@
-// The text that one bot tells another: its length in two bytes, and its bytes.
+// The text that one bot sends to another: its length in two bytes, and its bytes.
 ghost use Rattle.std.specs.Prelude.{◌≡◌, ◌++◌, OnOk, true};
 ghost use Rattle.usercodec.specs.Answers.{Gives, Makes};
 ghost use Rattle.sharewire.specs.Texts.{is_bot_text};

@@ -7,7 +7,7 @@ use userfile::{Change, ChangeFault};
 /// One packet of the sharing link. Bot 0 is the hub, and leaves are numbered from 1.
 #[derive(Debug)]
 pub enum Packet {
-    /// A leaf tells the hub the layout of its records, and the version that it is at.
+    /// A leaf's hello to the hub: the layout of its journal, and its version.
     Hello {
         /// The layout in which the leaf keeps its journal, from 1: layout 0 has no frame.
         layout: u8,
@@ -16,7 +16,7 @@ pub enum Packet {
         /// The leaf's version.
         version: u32,
     },
-    /// The hub tells a leaf an accepted change.
+    /// The hub sends a leaf an accepted change.
     Change {
         /// The change's number, from 1.
         number: u32,
@@ -27,7 +27,7 @@ pub enum Packet {
         /// The change itself.
         change: Change,
     },
-    /// The hub tells a leaf a part of its records at a version.
+    /// The hub sends a leaf a part of its records at a version.
     Part {
         /// The version of the records.
         version: u32,
@@ -42,7 +42,7 @@ pub enum Packet {
     Request {
         /// The leaf's number.
         leaf: u16,
-        /// The leaf's number of this request.
+        /// The leaf's number for this request.
         request: u32,
         /// The change that it asks for.
         change: Change,
@@ -51,27 +51,27 @@ pub enum Packet {
     Accepted {
         /// The leaf's number.
         leaf: u16,
-        /// The leaf's number of its request.
+        /// The leaf's number for its request.
         request: u32,
         /// The number that the change got.
         number: u32,
     },
-    /// The hub tells a leaf that its request was refused.
+    /// The hub tells a leaf that its request was rejected.
     Refused {
         /// The leaf's number.
         leaf: u16,
-        /// The leaf's number of its request.
+        /// The leaf's number for its request.
         request: u32,
         /// Why the userfile refused the change.
         fault: ChangeFault,
     },
-    /// A bot tells another bot a text.
+    /// A bot sends a text to another bot.
     BotText {
-        /// The bot that says it.
+        /// The bot that sends it.
         from: u16,
-        /// The bot that it is said to.
+        /// The bot that gets it.
         to: u16,
-        /// What is said: see [`is_bot_text`](crate::is_bot_text).
+        /// The text: see [`is_bot_text`](crate::is_bot_text).
         text: Text,
     },
 }

@@ -8,11 +8,11 @@ use crate::reader::WireReader;
 use bytetext::{NoMemory, Seq, Text};
 use std::alloc::Global;
 
-/// The packets of a stream that came in these pieces, in order, and its fault if it has one. They are the same however
-/// the stream was cut.
+/// Reads the packets of a stream that came in the pieces `pieces`, in order, and its fault if it has one. They are the
+/// same however the stream was cut.
 ///
 /// # Errors
-/// `NoMemory` where room for a piece or a packet is refused: never where there are no pieces.
+/// `NoMemory` if it cannot allocate room for a piece or a packet; never if there are no pieces.
 pub fn read_pieces(alloc: Global, pieces: &[Text]) -> Result<Feed, NoMemory>
     ensures told { IfOk result (λ told. (begun : List ℕ)
         × Tells (flat_map (λ (piece : List ℕ). piece) pieces.now) told.packets (ended begun told.fault)) }

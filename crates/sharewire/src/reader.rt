@@ -12,10 +12,10 @@ use bytetext::{NoMemory, Seq, TryCopy};
 use std::alloc::Global;
 use std::marker::Model;
 
-/// The packets of a stream, which is fed in pieces, cut anywhere.
+/// Reads the packets of a stream that comes in pieces, cut anywhere.
 ///
-/// Contracts see how the stream ends so far: in the begin of a frame, whose bytes are kept, or at a fault. No more is
-/// kept than one frame that is not whole, in room that the next piece uses again.
+/// Contracts see how the stream ends so far: in the beginning of a frame, whose bytes the reader keeps, or at a fault.
+/// The reader keeps no more than one incomplete frame, in room that the next piece uses again.
 ///
 /// ```text
 /// let mut reader = WireReader::new(alloc);
@@ -43,7 +43,7 @@ impl Model for WireReader {
 }
 
 impl WireReader {
-    /// A reader at the begin of a stream. Takes no memory.
+    /// Creates a reader at the beginning of a stream. Allocates nothing.
     pub fn new(alloc: Global) -> WireReader
         ensures empty { result ≡ Ok [] }
         ensures told { Tells [] [] result }
@@ -54,19 +54,19 @@ impl WireReader {
         }
     }
 
-    /// The packets whose frames end in this piece of the stream, and the fault after them if there is one. After a
-    /// fault each further piece tells [`WireFault::Failed`] alone, and takes no memory.
+    /// Returns the packets whose frames end in `piece`, the next piece of the stream, and the fault after them if there
+    /// is one. After a fault each further piece yields only [`WireFault::Failed`], and allocates nothing.
     ///
     /// # Errors
-    /// `NoMemory` where room for the piece or a packet is refused: never where no bytes come. The reader is as before,
-    /// and the piece can be fed again.
+    /// `NoMemory` if it cannot allocate room for the piece or a packet; never if no bytes come. The reader is as
+    /// before, and the piece can be fed again.
     pub fn feed(&mut self, alloc: Global, piece: &[u8]) -> Result<Feed, NoMemory>
-        // Of any stream that has told these packets so far, the packets go on with those of the answer.
+        // For any stream that has given these packets so far, the result's packets come next.
         ensures told { (stream : List ℕ) (packets : List Packet) → Tells stream packets self.old
             → IfOk result (λ feed. Tells (stream ++ piece.now) (packets ++ feed.packets) self.new) }
         ensures fault { IfOk result (λ feed. feed.fault ≡ fault_told self.old self.new) }
         ensures few { IfOk self.new (λ begun. length begun ≤ MAX_LENGTH + 1) }
-        // A reader that has failed takes no memory, and stays so.
+        // A reader that has failed allocates nothing, and stays so.
         ensures failed { IsErr self.old → IsOk result }
         ensures stays { IsErr self.old → self.new ≡ self.old }
         ensures unchanged { OnErr result (self.new ≡ self.old) }
@@ -109,7 +109,7 @@ impl TryCopy for WireReader {
     }
 }
 
-// Takes the frames off the bytes that are held: the begin of a frame is left, and nothing after a fault.
+// Takes the whole frames off the bytes that are held. Leaves the beginning of a frame, or nothing after a fault.
 fn take_frames(alloc: Global, held: &mut Vec<u8>) -> Result<Feed, NoMemory>
     ensures told { IfOk result (λ feed. Tells held.old.items feed.packets (ended held.new.items feed.fault)) }
     ensures few { IfOk result (λ _. length held.new.items ≤ MAX_LENGTH + 1) }
@@ -128,7 +128,7 @@ fn take_frames(alloc: Global, held: &mut Vec<u8>) -> Result<Feed, NoMemory>
     })
 }
 
-// Keeps so many of the last bytes, in the room that they have.
+// Keeps the last `count` bytes, in the room that they have.
 fn keep_last(held: &mut Vec<u8>, count: usize)
     requires { count ≤ length held.old.items }
     ensures { held.new.items ≡ drop (length held.old.items - count) held.old.items }

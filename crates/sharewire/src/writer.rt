@@ -9,14 +9,15 @@ use bytetext::NoMemory;
 use std::alloc::Global;
 use usercodec::{byte_of_fault, put_change, put_u16, put_u32};
 
-// Most frames have no more bytes.
+// Most frames have at most this number of bytes.
 const USUAL: usize = 64;
 
-/// The one spelling of a packet, its frame. Its layout is not 0, its change of good shape (see [`userfile::shape`]), its text
-/// one that may be told (see [`is_bot_text`](crate::is_bot_text)), its records are at most eight, as a userfile holds them.
+/// Returns the one spelling of `packet`, its frame. Its layout is not 0, its change has a good shape (see
+/// [`userfile::shape`]), its text is one that a bot may send (see [`is_bot_text`](crate::is_bot_text)), and it has at
+/// most eight records, such as a userfile holds.
 ///
 /// # Errors
-/// `NoMemory` where room for it is refused.
+/// `NoMemory` if it cannot allocate room for it.
 pub fn write_packet(alloc: Global, packet: &Packet) -> Result<Vec<u8>, NoMemory>
     requires { CanBeWritten packet.now }
     ensures { IfOk result (λ bytes. bytes.items ≡ frame packet.now) }
@@ -32,7 +33,7 @@ pub fn write_packet(alloc: Global, packet: &Packet) -> Result<Vec<u8>, NoMemory>
     Ok(frame)
 }
 
-// Puts a packet's body after some bytes.
+// Appends a packet's body to `out`.
 fn put_body(out: &mut Vec<u8>, packet: &Packet) -> Result<(), NoMemory>
     requires { CanBeWritten packet.now }
     ensures { OnOk result (out.new.items ≡ out.old.items ++ body_of packet.now) }

@@ -1,4 +1,4 @@
-// What one call of a socket answers.
+// What the answer of one socket call means.
 ghost use Rattle.std.specs.Prelude.{◌≡◌, ◌<◌, length, IfSome};
 ghost use Rattle.streams.specs.Calls.{FitsIn, IsFrontOf};
 ghost use Rattle.sockets.specs.Answers.{given_by, taken_by};
@@ -7,7 +7,7 @@ use std::io;
 use std::io::{ErrorKind, Read, Write};
 use streams::{Given, Taken};
 
-// Asks a socket until it is not interrupted. It failed where it is interrupted 2 ^ 64 - 1 times.
+// Reads from a socket, again after each interruption. Returns `Fault` after 2 ^ 64 - 1 interruptions.
 pub(crate) fn ask<S: Read>(socket: &mut S, buffer: &mut [u8]) -> Given
     requires { 0 < length buffer.old }
     ensures { FitsIn buffer.new result }
@@ -20,7 +20,7 @@ pub(crate) fn ask<S: Read>(socket: &mut S, buffer: &mut [u8]) -> Given
     Given::Fault
 }
 
-// Asks a socket once. `None` where it was interrupted.
+// Reads from a socket once. Returns `None` if the call was interrupted.
 fn ask_once<S: Read>(socket: &mut S, buffer: &mut [u8]) -> Option<Given>
     requires { 0 < length buffer.old }
     ensures { IfSome result (FitsIn buffer.new) }
@@ -28,7 +28,7 @@ fn ask_once<S: Read>(socket: &mut S, buffer: &mut [u8]) -> Option<Given>
     given_by(socket.read(buffer))
 }
 
-// What a reading means. `None` where it was interrupted.
+// What the result of a read means; `None` if it was interrupted.
 fn given_by(answer: io::Result<usize>) -> Option<Given>
     ensures { result ≡ given_by answer }
 {
@@ -43,7 +43,7 @@ fn given_by(answer: io::Result<usize>) -> Option<Given>
     }
 }
 
-// Offers a socket bytes until it is not interrupted. It failed where it is interrupted 2 ^ 64 - 1 times.
+// Offers a socket bytes, again after each interruption. Returns `Fault` after 2 ^ 64 - 1 interruptions.
 pub(crate) fn offer<S: Write>(socket: &mut S, bytes: &[u8]) -> Taken
     requires { 0 < length bytes.now }
     ensures { IsFrontOf bytes.now result }
@@ -56,7 +56,7 @@ pub(crate) fn offer<S: Write>(socket: &mut S, bytes: &[u8]) -> Taken
     Taken::Fault
 }
 
-// Offers a socket bytes once. `None` where it was interrupted.
+// Offers a socket bytes once. Returns `None` if the call was interrupted.
 fn offer_once<S: Write>(socket: &mut S, bytes: &[u8]) -> Option<Taken>
     requires { 0 < length bytes.now }
     ensures { IfSome result (IsFrontOf bytes.now) }
@@ -64,7 +64,7 @@ fn offer_once<S: Write>(socket: &mut S, bytes: &[u8]) -> Option<Taken>
     taken_by(socket.write(bytes))
 }
 
-// What a writing means. `None` where it was interrupted.
+// What the result of a write means; `None` if it was interrupted.
 fn taken_by(answer: io::Result<usize>) -> Option<Taken>
     ensures { result ≡ taken_by answer }
 {

@@ -1,10 +1,10 @@
-//! Sockets that never wait: connections as streams, listeners, and the wait for any of them.
+//! Sockets that never block: connections as streams, listeners, and the wait for any of them.
 //!
-//! A [`TcpSocket`] is a connection over TCP and a [`UnixSocket`] one over a path of this machine. Both give and take
-//! bytes as a [`Stream`](streams::Stream) does: a call that would have to wait answers
-//! [`Given::Stall`](streams::Given::Stall) or [`Taken::Nothing`](streams::Taken::Nothing), and so does one while the
-//! connection is still being made. A [`TcpDoor`] and a [`UnixDoor`] let in who connects. A [`Watch`] waits until one
-//! of them has something to say, and names it by the token under which it was opened.
+//! A [`TcpSocket`] is a connection over TCP, and a [`UnixSocket`] one at a path of this machine. Both give and take
+//! bytes as a [`Stream`](streams::Stream) does: a call that would block returns [`Given::Stall`](streams::Given::Stall)
+//! or [`Taken::Nothing`](streams::Taken::Nothing), and so does a call while the connection is still being made. A
+//! [`TcpDoor`] and a [`UnixDoor`] accept connections. A [`Watch`] waits until one of them is ready, and names it by the
+//! token under which it was opened.
 //!
 //! ```text
 //! let mut watch = Watch::new(&rt, 256)?;
@@ -16,9 +16,9 @@
 //! }
 //! ```
 //!
-//! An event is a hint, and comes when something changes: so a socket is asked until it stalls, or is asked again
-//! without a wait. What a socket gives and takes no contract says beforehand; its account says what it gave and took.
-//! A socket that is dropped is closed, and no wait names it any more.
+//! An event is a hint, and comes when something changes. So a program asks a socket until it stalls, or asks it again
+//! without a wait. No contract says beforehand what a socket gives and takes; its account says what it gave and took. A
+//! dropped socket is closed, and no wait names it any more.
 #![tactic(auto)]
 
 mod answers;

@@ -9,12 +9,12 @@ use std::io;
 use std::io::{Read, Write};
 use streams::{Account, Given, Stream, Taken, WriteFault};
 
-/// A connection that never waits, with the account of what it gave and took. It is a [`TcpSocket`](crate::TcpSocket)
-/// or a [`UnixSocket`](crate::UnixSocket), and closed where it is dropped.
+/// A connection that never blocks, with an account of what it gave and took. It is a [`TcpSocket`](crate::TcpSocket) or
+/// a [`UnixSocket`](crate::UnixSocket). It is closed when it is dropped.
 ///
-/// A call that would have to wait answers [`Given::Stall`] or [`Taken::Nothing`]; so does one while the connection is
-/// still being made, since nothing is to be had of it yet. After an interruption the system is asked again. Each
-/// other error is a fault: where a connection is refused, the first call that hears of it.
+/// A call that would block returns [`Given::Stall`] or [`Taken::Nothing`]. So does a call while the connection is still
+/// being made. An interrupted call is repeated. Each other error is a fault; if the connection is refused, the first
+/// call that learns of it returns the fault.
 pub struct Socket<S> {
     stream: S,
     account: Account,
@@ -31,7 +31,7 @@ impl<S: Drop> Drop for Socket<S> {
 }
 
 impl<S> Socket<S> {
-    // The connection over a socket of the system that was asked nothing yet, watched under a token.
+    // Watches `stream`, a socket of the system that was asked nothing yet, under `token`.
     pub(crate) fn watched(registry: &Registry, token: usize, stream: S) -> io::Result<Socket<S>>
     where
         S: Source + Drop,

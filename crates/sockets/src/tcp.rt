@@ -9,15 +9,15 @@ use mio::{Interest, Registry, Token};
 use std::io;
 use std::net::{Net, SocketAddr};
 
-/// A connection over TCP. Small writes go at once where the system can do that.
+/// A connection over TCP. Small writes are sent at once if the system can do that.
 pub type TcpSocket = Socket<TcpStream>;
 
 impl Socket<TcpStream> {
-    /// Begins to connect to an address, and returns at once. The connection is watched under this token.
+    /// Begins to connect to `address`, and returns at once. `registry` watches the connection under `token`.
     ///
     /// # Errors
-    /// Those of the system where it does not even begin: no way leads to the address, or it has no more sockets. That
-    /// nobody listens there shows later, as a fault of the stream.
+    /// The system's, if the connection can't even begin: no route leads to the address, or the system has no more
+    /// sockets. That nobody listens there shows later, as a fault of the stream.
     pub fn connect<R: Net>(
         rt: &R,
         registry: &Registry,
@@ -30,7 +30,7 @@ impl Socket<TcpStream> {
     }
 }
 
-// The connection that is watched, and whose small writes go at once.
+// Watches a connection whose small writes are sent at once.
 fn watch_at_once(registry: &Registry, token: usize, stream: TcpStream) -> io::Result<TcpSocket>
     ensures { IfOk result (λ socket. socket.account.past ≡ nothing_yet) }
 {
@@ -55,11 +55,11 @@ impl Drop for TcpDoor {
 }
 
 impl TcpDoor {
-    /// Listens on an address, whose port the system chooses where it is 0. Who comes shows under this token. A
-    /// program that ended a moment ago does not keep the address.
+    /// Listens on `address`; the system chooses the port if it is 0. `registry` watches the listener, so that new
+    /// connections show under `token`. A program that ended a moment ago does not block the address.
     ///
     /// # Errors
-    /// `InUse`, `NotHere`, `Barred` and `Closed` as they say.
+    /// `InUse`, `NotHere`, `Barred` and `Closed`, as [`DoorFault`] describes them.
     pub fn open<R: Net>(
         rt: &R,
         registry: &Registry,
@@ -72,13 +72,13 @@ impl TcpDoor {
         }
     }
 
-    /// Where it listens, if the system tells.
+    /// Returns the address on which the door listens, if the system reports it.
     pub fn address(&self) -> Option<SocketAddr> {
         self.listener.local_addr().ok()
     }
 
-    /// The next connection that waits, which is then watched under this token; none where nobody waits. At the limit of
-    /// open files nobody seems to wait: who asks again later lets them in then.
+    /// Accepts the next waiting connection, which `registry` then watches under `token`. Returns `None` if none waits.
+    /// At the limit of open files no connection seems to wait; a later call accepts it.
     pub fn let_in(&self, registry: &Registry, token: usize) -> Option<TcpSocket>
         ensures { IfSome result (λ socket. socket.account.past ≡ nothing_yet) }
     {
@@ -87,7 +87,7 @@ impl TcpDoor {
     }
 }
 
-// A listener that is watched under a token.
+// Opens a listener that is watched under `token`.
 fn listen<R: Net>(
     rt: &R,
     registry: &Registry,

@@ -14,11 +14,11 @@ use std::rt::Files;
 pub type UnixSocket = Socket<UnixStream>;
 
 impl Socket<UnixStream> {
-    /// Connects to who listens at a path. The connection is watched under this token.
+    /// Connects to the listener at `path`. `registry` watches the connection under `token`.
     ///
     /// # Errors
-    /// Those of the system: `NotFound` where there is nothing at the path, `ConnectionRefused` where nobody listens
-    /// there, `WouldBlock` where too many wait already, and others.
+    /// The system's: `NotFound` if nothing exists at the path, `ConnectionRefused` if nobody listens there,
+    /// `WouldBlock` if too many connections wait already, and others.
     pub fn connect_path<R: Net>(
         rt: &R,
         registry: &Registry,
@@ -31,7 +31,7 @@ impl Socket<UnixStream> {
     }
 }
 
-/// A listener at a path, where it makes a file. The file stays when the listener ends.
+/// A listener at a path. It creates a file there, which stays when the listener is dropped.
 pub struct UnixDoor {
     listener: UnixListener,
 }
@@ -44,11 +44,11 @@ impl Drop for UnixDoor {
 }
 
 impl UnixDoor {
-    /// Listens at a path. Who comes shows under this token. A file that is there already, as of a program that was
-    /// killed, has to be taken away before.
+    /// Listens at `path`. `registry` watches the listener, so that new connections show under `token`. A file that
+    /// exists there already, such as that of a killed program, must be removed first.
     ///
     /// # Errors
-    /// `InUse` where a file is there, `Barred` and `Closed` as they say.
+    /// `InUse` if a file exists there; `Barred` and `Closed`, as [`DoorFault`] describes them.
     pub fn open<R: Net + Files>(
         rt: &R,
         registry: &Registry,
@@ -61,8 +61,8 @@ impl UnixDoor {
         }
     }
 
-    /// The next connection that waits, which is then watched under this token; none where nobody waits. At the limit of
-    /// open files nobody seems to wait: who asks again later lets them in then.
+    /// Accepts the next waiting connection, which `registry` then watches under `token`. Returns `None` if none waits.
+    /// At the limit of open files no connection seems to wait; a later call accepts it.
     pub fn let_in(&self, registry: &Registry, token: usize) -> Option<UnixSocket>
         ensures { IfSome result (λ socket. socket.account.past ≡ nothing_yet) }
     {
@@ -71,7 +71,7 @@ impl UnixDoor {
     }
 }
 
-// A listener that is watched under a token.
+// Opens a listener that is watched under `token`.
 fn listen<R: Net + Files>(
     rt: &R,
     registry: &Registry,

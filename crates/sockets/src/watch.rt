@@ -9,14 +9,14 @@ use std::marker::Model;
 use std::net::Net;
 use std::time::Duration;
 
-/// Waits for sockets and doors, and tells which have something to say. Contracts see it as a
+/// Waits for sockets and doors, and names those that are ready. Contracts see it as a
 /// `Rattle.sockets.specs.Watching.Watching`.
 pub struct Watch {
     poll: Poll,
     events: Events,
-    // Those of the last wait.
+    // The tokens of the last wait.
     tokens: Vec<usize>,
-    // Each event of a wait has room.
+    // Each event of a wait has room in `tokens`.
     ghost fits: { events_capacity events ≤ vec_capacity tokens },
     ghost few: { vec_len tokens ≤ events_capacity events },
 }
@@ -44,11 +44,11 @@ impl Model for Watch {
 impl Watch {
     ghost use Rattle.std.specs.Prelude.{IfOk, OnErr};
 
-    /// A watch of nothing yet, that tells of so many events a wait. What more there is it tells at the next wait. All
-    /// its memory is taken here.
+    /// Creates a watch of nothing yet. Each wait reports at most `room` events; the next wait reports the others. All
+    /// memory is allocated here.
     ///
     /// # Errors
-    /// `OutOfMemory` where memory is refused, and those of the system where it has no more files.
+    /// `OutOfMemory` if an allocation fails, and those of the system if it has no more files.
     pub fn new<R: Net + AllocGlobal>(rt: &R, room: usize) -> io::Result<Watch>
         ensures tokens { IfOk result (λ watch. watch.tokens ≡ []) }
         ensures room { IfOk result (λ watch. watch.room ≡ room) }
@@ -60,16 +60,16 @@ impl Watch {
         })
     }
 
-    /// Where sockets and doors are opened.
+    /// Returns the registry, with which sockets and doors are opened.
     pub fn registry(&self) -> &Registry {
         self.poll.registry()
     }
 
-    /// Waits until something can be read, written or let in, or so many milliseconds have passed. A signal ends it
-    /// early. Takes no memory.
+    /// Waits until something can be read, written or accepted, or until `milliseconds` have passed. A signal ends the
+    /// wait early. Does not allocate.
     ///
     /// # Errors
-    /// Those of the system. There is no token then.
+    /// Those of the system. The watch has no token then.
     pub fn wait(&mut self, milliseconds: u64) -> io::Result<()>
         ensures few { length self.new.tokens ≤ self.new.room }
         ensures room { self.new.room ≡ self.old.room }
@@ -82,8 +82,7 @@ impl Watch {
         Ok(())
     }
 
-    /// The tokens of what had something to say at the last wait, an event each. A socket that has ended since may be
-    /// among them.
+    /// Returns the tokens of the last wait, one for each event. A socket that has ended since may be among them.
     pub fn tokens(&self) -> &[usize]
         ensures { result.now ≡ self.now.tokens }
     {
@@ -91,7 +90,7 @@ impl Watch {
     }
 }
 
-// The token of each event, in order.
+// Appends the token of each event, in order.
 fn put_tokens(tokens: &mut Vec<usize>, events: &Events)
     requires none { tokens.old.items ≡ [] }
     requires room { length (items events.now) ≤ vec_capacity tokens.old }

@@ -4,7 +4,7 @@ use Rattle.std.proofs.Common.{inl, inr, arith}
 use Rattle.storage.specs.Events.{Event, Images, LeftSince}
 use Rattle.storage.specs.State.{State, may_leave, moment, left_since}
 
--- what a read gives may be left
+-- a crash may leave what a read gives
 pub images_seen : (events : List Event) (seen : List ℕ) → Images events seen seen
 images_seen [] seen = refl
 images_seen (event ∷ past) seen = inl refl
@@ -12,7 +12,7 @@ images_seen (event ∷ past) seen = inl refl
 pub seen_is_left : (disk : State) → may_leave disk disk.seen
 seen_is_left disk = images_seen disk.events disk.seen
 
--- this moment is one of those since an earlier one
+-- the present moment is one of those since an earlier one
 left_now : (events : List Event) (seen : List ℕ) (t : ℕ) (image : List ℕ) → t ≤ length events → Images events seen image → LeftSince events seen t image
 left_now [] seen t image le left = left
 left_now (event ∷ past) seen t image le left = inl left
@@ -20,7 +20,7 @@ left_now (event ∷ past) seen t image le left = inl left
 pub counts_now : (disk : State) (t : ℕ) (image : List ℕ) → t ≤ moment disk → may_leave disk image → left_since disk t image
 counts_now disk t image le left = left_now disk.events disk.seen t image le left
 
--- since this moment there is no other
+-- the present moment is the only one since itself
 left_only : (events : List Event) (seen image : List ℕ) → LeftSince events seen (length events) image → Images events seen image
 left_only [] seen image left = left
 left_only (event ∷ past) seen image (inl now) = now

@@ -1,4 +1,4 @@
--- A disk as contracts see it: what a read gives, and what happened to it, which says what a crash may leave.
+-- A disk as contracts see it: what a read gives, and the disk's history, which says what a crash may leave.
 use Rattle.std.specs.Prelude.{◌≡◌, ◌⊎◌, ◌<◌, ◌-◌, ◌^◌, ◌≤◌, ℕ, List, length}
 use Rattle.storage.specs.Events.{Event, Images, LeftSince}
 
@@ -13,23 +13,23 @@ pub record State : Type 0 where
 abbrev pub may_leave : State → List ℕ → Type 0
 may_leave disk image = Images disk.events disk.seen image
 
--- the moment, as a number that doesn't fall
+-- the moment, as a number that never falls
 abbrev pub moment : State → ℕ
 moment disk = length disk.events
 
--- what a crash at some moment from that one on might have left
+-- what a crash at some moment since that one might have left
 abbrev pub left_since : State → ℕ → List ℕ → Type 0
 left_since disk t image = LeftSince disk.events disk.seen t image
 
--- a crash leaves what a read gives, and nothing else: nothing is pending
+-- nothing is pending: a crash leaves what a read gives, and nothing else
 abbrev pub IsSettled : State → Type 0
 IsSettled disk = (image : List ℕ) → may_leave disk image → image ≡ disk.seen
 
--- the number of failures rose; at its last value it stays, which counts as a rise
+-- the number of failures rose, or stayed at its greatest value, which counts as a rise
 abbrev pub Rose : ℕ → ℕ → Type 0
 Rose before now = (before < now) ⊎ (now ≡ 2 ^ 64 - 1)
 
--- a crash at any moment since old leaves an image that has P
+-- a crash at any moment since `old` leaves an image that has `P`
 pub record LeavesOnly (old new : State) (P : List ℕ → Type 0) : Type 0 where
   pub later : moment old ≤ moment new
   pub each : (image : List ℕ) → left_since new (moment old) image → P image

@@ -7,8 +7,8 @@ use std::marker::{Model, PhantomData};
 
 /// The writes, syncs and openings of a disk, the newest first, each with the bytes that a read gave before it.
 ///
-/// Contracts see them; at run time there is nothing, so no memory is taken. A disk notes each of them in it, and what a
-/// crash may leave is then what the definitions say of the noted events.
+/// Only contracts see them: at run time a history holds nothing and allocates nothing. A disk notes each event here,
+/// and the definitions derive from the noted events what a crash may leave.
 #[derive(Drop)]
 pub struct History {
     marker: PhantomData<u8>,
@@ -20,7 +20,7 @@ impl Model for History {
 }
 
 impl History {
-    /// A history of no events.
+    /// Creates a history of no events.
     pub fn new() -> History
         ensures { result.events ≡ [] }
     {
@@ -29,8 +29,8 @@ impl History {
         }
     }
 
-    /// Notes an event: the numbers say whether it is a write (1), a sync (0) or an opening (2), where, and how many
-    /// bytes; `_before` is what a read gave before it.
+    /// Notes an event. `_numbers` says whether it is a write (1), a sync (0) or an opening (2), at which offset, and
+    /// how many bytes long; `_before` is what a read gave before the event.
     pub fn note(&mut self, _numbers: &[u64], _before: &[u8])
         ensures { self.new.events ≡ event_of _numbers.now _before.now ∷ self.old.events }
     {}

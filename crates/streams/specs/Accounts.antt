@@ -24,7 +24,7 @@ with_taken past answer bytes = record past { taking = after_take past.taking ans
 abbrev pub with_flush : {E : Type 0} → Past → Result Unit E → Past
 with_flush past answer = record past { taking = after_flush past.taking answer }
 
--- the event of this number, with how many of these bytes it gave or took
+-- the event with this number; `count` of these bytes were given or taken
 abbrev pub noted_as : ℕ → ℕ → List ℕ → Past → Past
 noted_as event count bytes past =
     if event == 0 then with_given past (gives_bytes count) bytes
@@ -37,6 +37,6 @@ noted_as event count bytes past =
     else (if event == 7 then with_flush {E = ℕ} past (Ok tt)
     else with_flush {E = ℕ} past (Err 0))))))))
 
--- an event as two numbers, and bytes
+-- an event: its number and its count, and the bytes
 abbrev pub noted : List ℕ → List ℕ → Past → Past
 noted numbers bytes past = noted_as (slice_index numbers 0) (slice_index numbers 1) bytes past

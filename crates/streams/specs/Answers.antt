@@ -9,13 +9,13 @@ use Rattle.streams.specs.declared.stream.Given.TheVariants.{Bytes as gives_bytes
 use Rattle.streams.specs.declared.stream.Taken.{Taken}
 use Rattle.streams.specs.declared.stream.Taken.TheVariants.{Bytes as takes_bytes, Nothing, Fault as fails_to_take}
 
--- an interruption is no answer
+-- an interrupted call has no answer
 abbrev pub given_at : ErrorKind → Option Given
 given_at Interrupted = None
 given_at WouldBlock = Some Stall
 given_at _ = Some fails_to_give
 
--- no byte is the end
+-- a read of no byte is the end
 abbrev pub given_by : Result ℕ Error → Option Given
 given_by (Ok n) = if n == 0 then Some End else Some (gives_bytes n)
 given_by (Err e) = given_at (error_kind e)

@@ -1,7 +1,7 @@
 -- A stream as contracts see it: what it gives, and what it takes.
 use Rattle.std.specs.Prelude.{ℕ, List, [], Option}
 
--- what a stream was asked for and gave, since it was made
+-- what a stream was asked for and gave, since it was created
 pub record Giving : Type 0 where
   pub given : List ℕ  -- the bytes that it gave
   pub asked : ℕ  -- how often it was asked for bytes
@@ -9,7 +9,7 @@ pub record Giving : Type 0 where
   pub stalls : ℕ  -- how often it then had none to give yet
   pub failures : ℕ  -- how often it then failed
 
--- what a stream was offered and took, since it was made
+-- what a stream was offered and took, since it was created
 pub record Taking : Type 0 where
   pub taken : List ℕ  -- the bytes that it took
   pub flushed : List ℕ  -- those that it had taken when it was last flushed
@@ -26,7 +26,7 @@ pub record Sink : Type 0 where
   pub holds : Option (List ℕ)  -- the bytes that stand where it writes, where they are known
   pub past : Taking
 
--- of a stream that was just made
+-- for a stream that was just created
 abbrev pub nothing_given : Giving
 nothing_given = record { given = []; asked = 0; ends = 0; stalls = 0; failures = 0 }
 

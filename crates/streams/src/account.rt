@@ -6,9 +6,10 @@ ghost use Rattle.streams.specs.Accounts.{Past, nothing_yet, noted, with_given, w
 use crate::stream::{Given, Taken, WriteFault};
 use std::marker::{Model, PhantomData};
 
-/// What a stream was asked and answered since it was made, for whoever implements [`Stream`](crate::Stream).
+/// A record of what a stream was asked and what it answered since it was created, for implementers of
+/// [`Stream`](crate::Stream).
 ///
-/// Contracts see it; at run time there is nothing, so no memory is taken.
+/// Only contracts see it. At run time it is empty, so it allocates nothing.
 #[derive(Drop)]
 pub struct Account {
     marker: PhantomData<u8>,
@@ -20,7 +21,7 @@ impl Model for Account {
 }
 
 impl Account {
-    /// The account of a stream that was asked nothing yet.
+    /// Creates the account of a stream that was asked nothing yet.
     pub fn new() -> Account
         ensures { result.past ≡ nothing_yet }
     {
@@ -29,7 +30,8 @@ impl Account {
         }
     }
 
-    /// Notes what the stream answered when it was asked for bytes; those that it gave stand in the buffer's front.
+    /// Notes `answer`, the stream's answer when it was asked for bytes. The bytes that it gave are at the front of
+    /// `buffer`.
     pub fn note_given(&mut self, answer: Given, buffer: &[u8])
         ensures { self.new.past ≡ with_given self.old.past answer buffer.now }
     {
@@ -41,7 +43,7 @@ impl Account {
         }
     }
 
-    /// Notes what the stream answered when it was offered these bytes.
+    /// Notes `answer`, the stream's answer when it was offered `bytes`.
     pub fn note_taken(&mut self, answer: Taken, bytes: &[u8])
         ensures { self.new.past ≡ with_taken self.old.past answer bytes.now }
     {
@@ -52,7 +54,7 @@ impl Account {
         }
     }
 
-    /// Notes what came of a flush.
+    /// Notes `answer`, the outcome of a flush.
     pub fn note_flush(&mut self, answer: Result<(), WriteFault>)
         ensures { self.new.past ≡ with_flush self.old.past answer }
     {
@@ -62,8 +64,8 @@ impl Account {
         }
     }
 
-    // Notes an event: the numbers say which (0 to 3 for the answers of a stream that is asked, 4 to 6 of one that is
-    // offered bytes, 7 and 8 of a flush), and how many of the bytes it gave or took.
+    // Notes an event. The first of `_numbers` is its kind: 0 to 3 for the answers when a stream is asked for bytes, 4
+    // to 6 when it is offered bytes, 7 and 8 for a flush. The second is how many of `_bytes` the stream gave or took.
     fn note(&mut self, _numbers: &[u64], _bytes: &[u8])
         ensures { self.new.past ≡ noted _numbers.now _bytes.now self.old.past }
     {}

@@ -8,7 +8,7 @@ use crate::stream::{Given, Taken};
 use std::io;
 use std::io::{ErrorKind, Read, Write};
 
-// Asks a reader until it is not interrupted. It failed where it is interrupted 2 ^ 64 - 1 times.
+// Asks `reader` until a call is not interrupted. Answers `Fault` if 2 ^ 64 - 1 calls are interrupted.
 pub(crate) fn ask<R: Read>(reader: &mut R, buffer: &mut [u8]) -> Given
     requires { 0 < length buffer.old }
     ensures fits { FitsIn buffer.new result }
@@ -23,7 +23,7 @@ pub(crate) fn ask<R: Read>(reader: &mut R, buffer: &mut [u8]) -> Given
     Given::Fault
 }
 
-// Asks a reader once. `None` where it was interrupted.
+// Asks `reader` once. Returns `None` if the call was interrupted.
 fn ask_once<R: Read>(reader: &mut R, buffer: &mut [u8]) -> Option<Given>
     requires { 0 < length buffer.old }
     ensures fits { IfSome result (FitsIn buffer.new) }
@@ -35,7 +35,7 @@ fn ask_once<R: Read>(reader: &mut R, buffer: &mut [u8]) -> Option<Given>
     given_by(reader.read(buffer))
 }
 
-// What a reader's answer means. `None` where it was interrupted.
+// Returns what a reader's `answer` means, or `None` if the call was interrupted.
 fn given_by(answer: io::Result<usize>) -> Option<Given>
     ensures { result ≡ given_by answer }
 {
@@ -50,7 +50,7 @@ fn given_by(answer: io::Result<usize>) -> Option<Given>
     }
 }
 
-// Offers a writer bytes until it is not interrupted. It failed where it is interrupted 2 ^ 64 - 1 times.
+// Offers `bytes` to `writer` until a call is not interrupted. Answers `Fault` if 2 ^ 64 - 1 calls are interrupted.
 pub(crate) fn offer<W: Write>(writer: &mut W, bytes: &[u8]) -> Taken
     requires { 0 < length bytes.now }
     ensures front { IsFrontOf bytes.now result }
@@ -64,7 +64,7 @@ pub(crate) fn offer<W: Write>(writer: &mut W, bytes: &[u8]) -> Taken
     Taken::Fault
 }
 
-// Offers a writer bytes once. `None` where it was interrupted.
+// Offers `bytes` to `writer` once. Returns `None` if the call was interrupted.
 fn offer_once<W: Write>(writer: &mut W, bytes: &[u8]) -> Option<Taken>
     requires { 0 < length bytes.now }
     ensures front { IfSome result (IsFrontOf bytes.now) }
@@ -75,7 +75,7 @@ fn offer_once<W: Write>(writer: &mut W, bytes: &[u8]) -> Option<Taken>
     taken_by(writer.write(bytes))
 }
 
-// What a writer's answer means. `None` where it was interrupted.
+// Returns what a writer's `answer` means, or `None` if the call was interrupted.
 fn taken_by(answer: io::Result<usize>) -> Option<Taken>
     ensures { result ≡ taken_by answer }
 {

@@ -7,25 +7,26 @@ use crate::answers::{ask, offer};
 use crate::stream::{Given, Stream, Taken, WriteFault};
 use std::io::{Read, Write};
 
-/// Any reader and any writer as one stream. Either may be lent: `Duplex::new(&mut reader, &mut writer)`.
+/// Any reader and any writer as one stream. Either may be borrowed: `Duplex::new(&mut reader, &mut writer)`.
 ///
-/// A reader's `WouldBlock` is a [`Given::Stall`]; a writer's, as a write of no byte, is [`Taken::Nothing`]. After
-/// `Interrupted` they are asked again. Each other error is a fault, and so is one of a flush.
+/// A reader's `WouldBlock` becomes a [`Given::Stall`]. A writer's `WouldBlock`, or a write of no bytes, becomes
+/// [`Taken::Nothing`]. After `Interrupted` the call is made again. Any other error is a fault, and so is any error of a
+/// flush.
 ///
 /// ```text
 /// let mut stream = Duplex::new(file, Vec::new(alloc));
 /// ```
 #[derive(Drop)]
 pub struct Duplex<R, W> {
-    /// What gives.
+    /// The side that gives bytes.
     pub reader: R,
-    /// What takes.
+    /// The side that takes bytes.
     pub writer: W,
     account: Account,
 }
 
 impl<R: Read, W: Write> Duplex<R, W> {
-    /// A stream of this reader and this writer. Takes no memory.
+    /// Creates a stream that reads from `reader` and writes to `writer`. Allocates nothing.
     pub fn new(reader: R, writer: W) -> Duplex<R, W>
         ensures reader { result.reader ≡ reader }
         ensures writer { result.writer ≡ writer }

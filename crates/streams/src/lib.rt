@@ -1,15 +1,15 @@
-//! Streams as this repository uses them: what gives and takes bytes, and an account of what it was asked and answered.
+//! Streams as this repository uses them: sources and sinks of bytes, with an account of each call and its answer.
 //!
-//! A [`Stream`] says of each call exactly what it adds to what the stream has given and taken, so that whoever drives one
-//! can say that it asked, how often, what came of it, and that what was taken was flushed. This is known of each stream,
-//! also of a socket, whose bytes no contract can know beforehand.
+//! The contract of each [`Stream`] call says exactly what the call adds to what the stream has given and taken. A
+//! caller can therefore prove that it asked, how often, what the stream answered, and that everything taken was
+//! flushed. This holds for every stream, even for a socket, whose bytes no contract can know beforehand.
 //!
-//! [`Duplex`] makes one of any reader and any writer, and [`Memory`] one of bytes that are all there. [`write_all`],
-//! [`write_out`] and [`read_up_to`] are the loops over them.
+//! [`Duplex`] makes a stream of any reader and any writer, and [`Memory`] makes one of bytes that are all in memory.
+//! [`write_all`], [`write_out`] and [`read_up_to`] are the loops over them.
 //!
 //! ```text
 //! let mut stream = Duplex::new(reader, writer);
-//! let bytes = read_up_to(alloc, &mut stream, 4_096)?;     // to the end, or so many
+//! let bytes = read_up_to(alloc, &mut stream, 4_096)?;     // to the end, or 4,096 bytes
 //! write_out(&mut stream, bytes.as_slice())?;              // and flushed
 //! ```
 #![tactic(auto)]

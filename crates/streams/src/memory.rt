@@ -1,27 +1,27 @@
-// Bytes that are all there as a stream.
+// Bytes in memory as a stream.
 ghost use Rattle.std.specs.Prelude.{◌≡◌, Some};
 ghost use Rattle.streams.specs.Accounts.{nothing_yet};
 
 use crate::account::Account;
 use crate::stream::{Given, Stream, Taken, WriteFault};
 
-/// Bytes that are all there, and a `Vec` that takes bytes after those that it has. It never stalls, never fails to give
-/// and is never without room but for want of memory, where it fails.
+/// A stream that gives the bytes of a slice, and appends the bytes that it takes to a `Vec`. It never stalls, never
+/// fails to give bytes and never answers [`Taken::Nothing`]. It fails to take bytes only if memory runs out.
 ///
 /// ```text
 /// let mut stream = Memory::new(b"PING :a\r\n", &mut unsent);
 /// ```
 #[derive(Drop)]
 pub struct Memory<'a> {
-    /// What it has left to give.
+    /// The bytes that are left to give.
     pub bytes: &'a [u8],
-    /// What it holds.
+    /// The bytes that it holds.
     pub taken: &'a mut Vec<u8>,
     account: Account,
 }
 
 impl<'a> Memory<'a> {
-    /// A stream that gives these bytes. Takes no memory.
+    /// Creates a stream that gives `bytes` and appends what it takes to `taken`. Allocates nothing.
     pub fn new(bytes: &'a [u8], taken: &'a mut Vec<u8>) -> Memory<'a>
         ensures bytes { result.bytes.now ≡ bytes.now }
         ensures past { result.account.past ≡ nothing_yet }
@@ -37,7 +37,7 @@ impl<'a> Memory<'a> {
 impl Stream for Memory<'_> {
     ghost use Rattle.std.specs.Prelude.{Some};
 
-    // It has never stalled and never failed.
+    // A `Memory` never stalls and never fails to give.
     ghost source = { λ stream. record {
       left = Some stream.bytes.now;
       past = record stream.account.past.giving { stalls = 0; failures = 0 };

@@ -13,10 +13,10 @@ const PIECE: usize = 4096;
 /// Why bytes were not read.
 #[derive(Clone, Copy, Debug, PartialEq, Eq, Error)]
 pub enum ReadError {
-    /// The stream failed, or would have to wait.
+    /// The stream failed, or would block.
     #[error("the stream gives no more: connect again")]
     Fault,
-    /// A growth was refused. What was read is lost.
+    /// An allocation failed. The bytes read so far are lost.
     #[error("out of memory: free some and try again")]
     NoMemory,
 }
@@ -31,11 +31,11 @@ impl From<NoMemory> for ReadError {
     }
 }
 
-/// Reads until a stream is at its end, or has given so many bytes.
+/// Reads from `stream` until it is at its end or has given `most` bytes.
 ///
 /// # Errors
-/// `Fault` where it fails or would have to wait, and `NoMemory` where a growth is refused. What was read before is lost.
-/// Neither where no bytes are asked for.
+/// Returns `Fault` if the stream fails or would block, and `NoMemory` if an allocation fails. The bytes read before are
+/// lost. Returns neither if `most` is 0.
 pub fn read_up_to<S: Stream>(
     alloc: Global,
     stream: &mut S,
@@ -57,7 +57,7 @@ pub fn read_up_to<S: Stream>(
     Ok(bytes)
 }
 
-// Asks a stream once, for so many bytes in all at most, and puts those that it gives after these.
+// Asks `stream` once and appends the bytes that it gives to `bytes`, up to `most` bytes in all.
 fn read_piece<S: Stream>(
     stream: &mut S,
     bytes: &mut Vec<u8>,

@@ -1,4 +1,4 @@
-// What gives and takes bytes.
+// A stream: it gives bytes and takes bytes.
 ghost use Rattle.std.specs.Prelude.{◌≡◌, ◌<◌, length};
 ghost use Rattle.streams.specs.State.{Source, Sink};
 ghost use Rattle.streams.specs.Calls.{Gives, Takes, Flushes};
@@ -8,24 +8,24 @@ use thiserror::Error;
 /// What a stream answers when it is asked for bytes.
 #[derive(Clone, Copy, Debug, PartialEq, Eq)]
 pub enum Given {
-    /// So many bytes, one or more, which stand in the buffer's front.
+    /// This many bytes, at least one, at the front of the buffer.
     Bytes(usize),
-    /// None: it is at its end.
+    /// No bytes: the stream is at its end.
     End,
-    /// None yet: it would have to wait for them.
+    /// No bytes yet: the stream would block.
     Stall,
-    /// None: it failed.
+    /// No bytes: the stream failed.
     Fault,
 }
 
 /// What a stream answers when it is offered bytes.
 #[derive(Clone, Copy, Debug, PartialEq, Eq)]
 pub enum Taken {
-    /// It took so many of the first, one or more.
+    /// The stream took this many bytes from the front, at least one.
     Bytes(usize),
-    /// It took none, and did not fail: it has no room, or would have to wait for it.
+    /// The stream took no bytes and did not fail: it has no room, or would block.
     Nothing,
-    /// It took none: it failed.
+    /// The stream took no bytes: it failed.
     Fault,
 }
 
@@ -34,31 +34,33 @@ pub enum Taken {
 #[error("the stream takes no more: connect again")]
 pub struct WriteFault;
 
-/// What gives bytes and takes bytes, and keeps account of both.
+/// A source and a sink of bytes, with an account of both.
 ///
-/// No call takes up the other side: what is asked for changes nothing that was taken, and the other way round.
+/// The two sides are independent: giving bytes changes nothing on the side that takes, and taking changes nothing on
+/// the side that gives.
 pub trait Stream {
-    /// What it has left to give, where that is known, and what it was asked and gave so far.
+    /// What the stream has left to give, if that is known, and what it was asked for and gave so far.
     ghost source: { Self → Source };
-    /// What stands where it writes, where that is known, and what it was offered and took so far.
+    /// What the destination holds, if that is known, and what the stream was offered and took so far.
     ghost sink: { Self → Sink };
 
-    /// Asks it for bytes, once. An interruption is no answer: whoever implements this asks again.
+    /// Asks the stream once for bytes, and puts them at the front of `buffer`. An interruption is no answer: an
+    /// implementation must ask again.
     fn give(&mut self, buffer: &mut [u8]) -> Given
         requires { 0 < length buffer.old }
         ensures gives { Gives (source self.old) result buffer.new (source self.new) }
         ensures other { sink self.new ≡ sink self.old };
 
-    /// Offers it bytes, once. An interruption is no answer: whoever implements this offers them again.
+    /// Offers `bytes` to the stream once. An interruption is no answer: an implementation must offer them again.
     fn take(&mut self, bytes: &[u8]) -> Taken
         requires { 0 < length bytes.now }
         ensures takes { Takes (sink self.old) result bytes.now (sink self.new) }
         ensures other { source self.new ≡ source self.old };
 
-    /// Has what it took go on to where it is to go.
+    /// Sends the bytes that the stream took on to their destination.
     ///
     /// # Errors
-    /// Where it fails. Its bytes may have gone on or not.
+    /// Returns `WriteFault` if the stream fails. The bytes may or may not have been sent on.
     fn flush(&mut self) -> Result<(), WriteFault>
         ensures flushes { Flushes (sink self.old) result (sink self.new) }
         ensures other { source self.new ≡ source self.old };

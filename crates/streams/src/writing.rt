@@ -4,10 +4,11 @@ ghost use Rattle.streams.specs.Transfers.{Writes, WritesFront, WritesOut};
 
 use crate::stream::{Stream, Taken, WriteFault};
 
-/// Has a stream take bytes whole. It is not flushed.
+/// Writes all of `bytes` to `stream`, without a flush.
 ///
 /// # Errors
-/// Where it fails, or takes none of the bytes that are left. It has then taken those before them.
+/// Returns `WriteFault` if the stream fails, or takes none of the bytes that are left. It has then taken the bytes
+/// before them.
 pub fn write_all<S: Stream>(stream: &mut S, bytes: &[u8]) -> Result<(), WriteFault>
     ensures ok { OnOk result (Writes (S.sink stream.old) bytes.now (S.sink stream.new)) }
     ensures err { OnErr result (WritesFront (S.sink stream.old) bytes.now (S.sink stream.new)) }
@@ -23,11 +24,11 @@ pub fn write_all<S: Stream>(stream: &mut S, bytes: &[u8]) -> Result<(), WriteFau
     Ok(())
 }
 
-/// Has a stream take bytes whole, and flushes it.
+/// Writes all of `bytes` to `stream` and flushes it.
 ///
 /// # Errors
-/// Where it fails, takes none of the bytes that are left, or fails to flush. It has then taken those before them, all where
-/// only the flush failed.
+/// Returns `WriteFault` if the stream fails, takes none of the bytes that are left, or fails to flush. It has then
+/// taken the bytes before those, or all bytes if only the flush failed.
 pub fn write_out<S: Stream>(stream: &mut S, bytes: &[u8]) -> Result<(), WriteFault>
     ensures ok { OnOk result (WritesOut (S.sink stream.old) bytes.now (S.sink stream.new)) }
     ensures err { OnErr result (WritesFront (S.sink stream.old) bytes.now (S.sink stream.new)) }

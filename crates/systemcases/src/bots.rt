@@ -13,10 +13,10 @@ use std::fs::{DirBuilder, File};
 use std::os::unix::fs::DirBuilderExt;
 use std::rt::Files;
 
-// The folder.
+// The folder's name.
 const BOT: &str = "bot";
 
-/// Makes a bot's journal in a folder, with starts that are stopped before, and starts beside one another.
+/// Makes a bot's journal in a folder: after starts that are stopped, and beside other starts.
 pub fn bot_folders<R: AllocGlobal + Files<File = File>>(rt: &R, seen: &mut Seen) {
     refused_folders(rt, seen);
     seen.note("a bot is read before it is made", read(rt));
@@ -27,7 +27,7 @@ pub fn bot_folders<R: AllocGlobal + Files<File = File>>(rt: &R, seen: &mut Seen)
     missing_files(rt, seen);
 }
 
-// Folders that are none for a bot.
+// Tries folders that a bot can't use.
 fn refused_folders<R: AllocGlobal + Files<File = File>>(rt: &R, seen: &mut Seen) {
     seen.note("a bot's folder below none", taken(rt, "none/bot"));
     let long =
@@ -39,7 +39,7 @@ fn refused_folders<R: AllocGlobal + Files<File = File>>(rt: &R, seen: &mut Seen)
     seen.note("removed", done(fs::remove_dir(rt, BOT).is_ok()));
 }
 
-// Starts that are stopped while they make the journal: after each the next one begins anew.
+// Stops starts while they make the journal; after each, the next start begins from the beginning.
 fn stopped_starts<R: AllocGlobal + Files<File = File>>(rt: &R, seen: &mut Seen) {
     seen.note("a start", started(rt));
     seen.note("after one that made two empty files", started(rt));
@@ -68,7 +68,7 @@ fn stopped_starts<R: AllocGlobal + Files<File = File>>(rt: &R, seen: &mut Seen) 
     seen.note("a bot is read before it is named", read(rt));
 }
 
-// A start that makes the journal whole, and another beside it.
+// Makes the whole journal in one start, with another start beside it.
 fn whole_start<R: AllocGlobal + Files<File = File>>(rt: &R, seen: &mut Seen) {
     match BotFolder::take(rt, BOT) {
         Ok(folder) => {
@@ -83,7 +83,7 @@ fn whole_start<R: AllocGlobal + Files<File = File>>(rt: &R, seen: &mut Seen) {
     }
 }
 
-// Starts that find the journal.
+// Starts again, and finds the journal.
 fn later_starts<R: AllocGlobal + Files<File = File>>(rt: &R, seen: &mut Seen) {
     seen.note("a later start", started(rt));
     seen.note("its journal is the one that was made", yes(is_found(rt)));
@@ -106,7 +106,7 @@ fn later_starts<R: AllocGlobal + Files<File = File>>(rt: &R, seen: &mut Seen) {
     }
 }
 
-// The socket that a bot left.
+// Removes the socket that a bot left.
 fn controls<R: AllocGlobal + Files<File = File>>(rt: &R, seen: &mut Seen) {
     seen.note(
         "a socket's file left",
@@ -125,7 +125,7 @@ fn controls<R: AllocGlobal + Files<File = File>>(rt: &R, seen: &mut Seen) {
     }
 }
 
-// A journal that lacks a file.
+// Starts with a journal that lacks a file.
 fn missing_files<R: AllocGlobal + Files<File = File>>(rt: &R, seen: &mut Seen) {
     seen.note(
         "the second file removed",
@@ -139,7 +139,7 @@ fn missing_files<R: AllocGlobal + Files<File = File>>(rt: &R, seen: &mut Seen) {
     );
 }
 
-// How a folder is taken.
+// Takes the folder, and returns how that ends.
 fn taken<R: AllocGlobal + Files<File = File>>(rt: &R, folder: &str) -> &'static str {
     match BotFolder::take(rt, folder) {
         Ok(_) => "done",
@@ -147,7 +147,7 @@ fn taken<R: AllocGlobal + Files<File = File>>(rt: &R, folder: &str) -> &'static 
     }
 }
 
-// What a start finds, which then ends.
+// Starts, ends at once, and returns what the start finds.
 fn started<R: AllocGlobal + Files<File = File>>(rt: &R) -> &'static str {
     match begun(rt) {
         Ok(Begun::Found(_)) => "finds a journal",
@@ -161,7 +161,7 @@ fn begun<R: AllocGlobal + Files<File = File>>(rt: &R) -> Result<Begun, FolderErr
     folder.begin(rt)
 }
 
-// Whether a start makes a journal, and names it if it is to.
+// Starts, makes a journal, and names it if `is_named`. Returns whether that worked.
 fn made<R: AllocGlobal + Files<File = File>>(rt: &R, is_named: bool) -> bool {
     match BotFolder::take(rt, BOT) {
         Ok(folder) => is_made(rt, &folder, is_named),
@@ -183,7 +183,7 @@ fn is_made<R: AllocGlobal + Files<File = File>>(
     }
 }
 
-// Whether the journal that a start finds is the one that was made.
+// Returns whether the journal that a start finds is the one that was made.
 fn is_found<R: AllocGlobal + Files<File = File>>(rt: &R) -> bool {
     match BotFolder::take(rt, BOT) {
         Ok(folder) => match folder.begin(rt) {
@@ -203,7 +203,7 @@ fn is_base<R: AllocGlobal>(rt: &R, disks: Pair) -> bool
     }
 }
 
-// What is read of a bot that does not run.
+// Reads the bot while it does not run, and returns what is found.
 fn read<R: AllocGlobal + Files<File = File>>(rt: &R) -> &'static str {
     match read_stopped(rt, BOT) {
         Ok(copies) => copied(rt, copies),

@@ -8,12 +8,12 @@ use std::io;
 use std::net::{Ipv4Addr, Net, SocketAddr};
 use streams::Stream;
 
-// The tokens of the door, and of who connects to it.
+// The token of the door, and below it that of the caller who connects to it.
 const DOOR: usize = 7;
 
 const CALLER: usize = 8;
 
-/// Connects to a door, tells bytes both ways, ends, and connects where nobody listens.
+/// Connects to a door, sends bytes both ways, closes, and connects where nobody listens.
 pub fn connections<R: AllocGlobal + Net>(rt: &R, seen: &mut Seen) -> io::Result<()> {
     let mut watch = Watch::new(rt, 8)?;
     let here = SocketAddr::from((Ipv4Addr::LOCALHOST, 0));
@@ -44,7 +44,7 @@ fn is_unreadable(fault: Option<DialFault>) -> bool {
     matches!(fault, Some(DialFault::Unreadable))
 }
 
-// Lets the caller in, and has both tell something.
+// Lets the caller in, and has both ends send something.
 fn meet(seen: &mut Seen, watch: &mut Watch, door: &TcpDoor, caller: TcpSocket) -> io::Result<()> {
     let mut caller = caller;
     watch.wait(10_000)?;
@@ -77,7 +77,7 @@ fn meet(seen: &mut Seen, watch: &mut Watch, door: &TcpDoor, caller: TcpSocket) -
     Ok(())
 }
 
-// Connects where nobody listens any more.
+// Connects to `address`, where nobody listens any more.
 fn refused<R: AllocGlobal + Net>(
     rt: &R,
     seen: &mut Seen,

@@ -1,4 +1,4 @@
-// Descriptors: one that is closed under a disk, and one that is a standard stream's.
+// Descriptors: one that is closed under a disk, and one that belongs to a standard stream.
 use crate::seen::{Seen, word_of, yes};
 use crate::writes::{put, synced};
 use disks::FileDisk;
@@ -8,7 +8,7 @@ use std::os::fd::AsRawFd;
 use std::rt::Files;
 use storage::Disk;
 
-/// Two disks whose descriptors are closed: what goes to the file is refused.
+/// Closes the descriptors of two disks, which then refuse what goes to the file.
 pub fn closed_under<R: AllocGlobal + Files<File = File>>(rt: &R, seen: &mut Seen) {
     match closed_disk(rt) {
         Some(disk) => write_under(disk, seen),
@@ -39,7 +39,7 @@ fn sync_under(disk: FileDisk, seen: &mut Seen) {
     seen.note("a read when it was opened again", yes(read));
 }
 
-// A disk whose file is closed.
+// Opens a disk and closes its file.
 fn closed_disk<R: AllocGlobal + Files<File = File>>(rt: &R) -> Option<FileDisk> {
     let mut options = OpenOptions::new();
     options.read(true).write(true);
@@ -50,7 +50,7 @@ fn closed_disk<R: AllocGlobal + Files<File = File>>(rt: &R) -> Option<FileDisk> 
     Some(disk)
 }
 
-/// A disk that is opened where standard input is closed leaves that descriptor free.
+/// Opens a disk while standard input is closed, which leaves that descriptor free.
 pub fn low_descriptor<R: AllocGlobal + Files<File = File>>(rt: &R, seen: &mut Seen) {
     libc::close(0);
     let disk = FileDisk::open(rt, "first");

@@ -6,7 +6,7 @@ use sockets::{TcpDoor, Watch};
 use std::io;
 use std::net::{Ipv4Addr, Net, SocketAddr};
 
-/// Opens doors, and one where none can be.
+/// Opens doors, and tries to open one at an address that is not this machine's.
 pub fn doors<R: AllocGlobal + Net>(rt: &R, seen: &mut Seen) -> io::Result<()> {
     let watch = Watch::new(rt, 8)?;
     let here = SocketAddr::from((Ipv4Addr::LOCALHOST, 0));
@@ -27,7 +27,7 @@ pub fn doors<R: AllocGlobal + Net>(rt: &R, seen: &mut Seen) -> io::Result<()> {
     Ok(())
 }
 
-// A second door at the address of a first.
+// Opens a second door at the address of the first.
 fn second_door<R: AllocGlobal + Net>(rt: &R, seen: &mut Seen, watch: &Watch, here: SocketAddr) {
     let Ok(door) = TcpDoor::open(rt, watch.registry(), 1, here) else {
         return;

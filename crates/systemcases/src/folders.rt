@@ -24,7 +24,7 @@ pub fn whole_folder<R: AllocGlobal + Files<File = File>>(rt: &R, seen: &mut Seen
     seen.note("the journal is as it was made", yes(is_found(rt)));
 }
 
-// Makes the journal, and names its folder while it is used.
+// Makes the journal, and names its folder while the journal is in use.
 fn name_journal<R: AllocGlobal + Files<File = File>>(rt: &R, seen: &mut Seen) {
     let journal = new_journal(rt);
     seen.note("a journal in it", yes(journal.is_some()));
@@ -50,7 +50,7 @@ fn named_opened<R: AllocGlobal + Files<File = File>>(rt: &R) -> &'static str {
     pair_opened(rt, "bot/journal/first", "bot/journal/second")
 }
 
-// Whether the journal under its name is the one that was made.
+// Returns whether the journal under its name is the one that was made.
 fn is_found<R: AllocGlobal + Files<File = File>>(rt: &R) -> bool {
     match Pair::open(rt, "bot/journal/first", "bot/journal/second") {
         Ok(pair) => match Journal::open(rt.alloc(), pair.first, pair.second) {

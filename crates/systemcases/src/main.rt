@@ -1,19 +1,19 @@
-//! Plays cases of what the system gives: of disks in files, in the folder where it runs, and of sockets of this machine. It
-//! prints what is seen of each.
+//! Plays cases of what the system gives: of disks in files, in the folder where it runs, and of sockets of this
+//! machine. It prints what it sees of each.
 //!
-//! What a file holds no contract can say, so these cases look: what is written is read back by another opening of the
-//! file; a second disk finds it in use; an opening changes the time of the last writing; and a disk whose descriptor was
-//! closed under it refuses a write and a sync, since both go to the file. Of a making of a journal that is stopped at
-//! each call of its disks, with five ways of tearing, it prints what the next start does. Of a bot's folder it prints
+//! No contract can say what a file holds, so these cases look. Another opening of the file reads back what was written.
+//! A second disk finds the file in use. An opening changes the time of the last writing. A disk whose descriptor was
+//! closed under it refuses a write and a sync, since both go to the file. The program stops the making of a journal at
+//! each call of its disks, with five ways of tearing, and prints what the next start does. For a bot's folder it prints
 //! what a start finds after one that was stopped at each step of its making, beside one that runs, and after one that
 //! ended.
 //!
-//! What a socket gives and takes no contract can say either. Of those it prints that bytes which one end is told come out
-//! of the other in order; that who waits is let in; that the watch names the token that has something to say; and that a
-//! refusal shows as a fault of the stream, and an end as its end. They use 127.0.0.1 and a path in the folder where the
-//! program runs, and no name server.
+//! No contract can say either what a socket gives and takes. The program prints that the bytes that one end sends come
+//! out of the other in order; that a waiting caller is let in; that the watch names the token of a socket that has
+//! something to say; and that a refusal shows as a fault of the stream, and an end as its end. These cases use
+//! 127.0.0.1 and a path in the folder where the program runs, and no name server.
 //!
-//! The crate's file `stdout` was worked out by hand. The program ends with status 0 where all lines could be printed.
+//! The crate's file `stdout` was worked out by hand. The program ends with status 0 if it could print all lines.
 #![tactic(auto)]
 
 mod bots;

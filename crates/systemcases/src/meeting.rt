@@ -4,15 +4,15 @@ use std::io;
 use std::io::{Read, Write};
 use streams::{Given, Stream};
 
-/// How often something is waited for, and how long at a time, in milliseconds.
+/// How often to wait for something, at most; `TURN` is how long each time, in milliseconds.
 const TURNS: u32 = 100;
 
 const TURN: u64 = 100;
 
-/// The token of whoever is let in.
+/// The token of a guest who is let in.
 pub const GUEST: usize = 9;
 
-/// The next who comes to a door.
+/// Waits for the next guest at `door`. Returns `None` if nobody comes.
 pub fn guest_of(watch: &mut Watch, door: &TcpDoor) -> io::Result<Option<TcpSocket>> {
     for _turn in 0..TURNS {
         if let Some(socket) = door.let_in(watch.registry(), GUEST) {
@@ -23,7 +23,7 @@ pub fn guest_of(watch: &mut Watch, door: &TcpDoor) -> io::Result<Option<TcpSocke
     Ok(None)
 }
 
-/// What a socket answers once it has something to say; its bytes stand in the piece's front.
+/// Waits until `socket` has something to say, and returns it; its bytes are at the start of `piece`.
 pub fn heard<S: Read + Write>(
     watch: &mut Watch,
     socket: &mut Socket<S>,
@@ -40,7 +40,7 @@ pub fn heard<S: Read + Write>(
     Ok(Given::Stall)
 }
 
-/// Whether a socket gives just this text next.
+/// Returns whether the next bytes that `socket` gives are just `text`.
 pub fn hears<S: Read + Write>(
     watch: &mut Watch,
     socket: &mut Socket<S>,

@@ -6,7 +6,7 @@ use std::fs::File;
 use std::os::unix::fs::MetadataExt;
 use std::rt::Files;
 
-/// Files that are missing, made, and in use.
+/// Opens files that are missing, makes them, and opens them while they are in use.
 pub fn names<R: AllocGlobal + Files<File = File>>(rt: &R, seen: &mut Seen) {
     seen.note("opened where there is none", opened(rt, "first"));
     seen.note(
@@ -21,7 +21,7 @@ pub fn names<R: AllocGlobal + Files<File = File>>(rt: &R, seen: &mut Seen) {
     seen.note("made beside its disk", made(rt, "second"));
 }
 
-/// One file alone, empty or not.
+/// Tries to make a pair of files when one alone exists, empty or not.
 pub fn lone_files<R: AllocGlobal + Files<File = File>>(rt: &R, seen: &mut Seen) {
     seen.note("the second removed", removed(rt, "second"));
     seen.note("two made where the first is empty", pair_made(rt));
@@ -33,7 +33,7 @@ pub fn lone_files<R: AllocGlobal + Files<File = File>>(rt: &R, seen: &mut Seen) 
     seen.note("the first removed", removed(rt, "first"));
 }
 
-/// How it ends that two files are opened.
+/// Opens the files `first` and `second`, and returns how that ends.
 pub fn pair_opened<R: AllocGlobal + Files<File = File>>(
     rt: &R,
     first: &str,
@@ -58,7 +58,7 @@ fn removed<R: Files>(rt: &R, path: &str) -> &'static str {
     done(fs::remove_file(rt, path).is_ok())
 }
 
-/// Whether these may read and write a file or a folder, and nobody else.
+/// Returns whether the permission bits of the file or folder at `path` are just `mode`.
 pub fn is_mode<R: Files>(rt: &R, path: &str, mode: u32) -> bool {
     match fs::metadata(rt, path) {
         Ok(found) => found.mode() & 0o777 == mode,
@@ -66,7 +66,7 @@ pub fn is_mode<R: Files>(rt: &R, path: &str, mode: u32) -> bool {
     }
 }
 
-/// Takes away what a run leaves.
+/// Removes what a run leaves.
 pub fn tidy<R: Files>(rt: &R) {
     for file in [
         "first",

@@ -39,7 +39,7 @@ fn is_missing(connected: io::Result<UnixSocket>) -> bool {
     }
 }
 
-// Connects, is let in, and tells both ways.
+// Connects, is let in, and sends both ways.
 fn meet<R: AllocGlobal + Net>(
     rt: &R,
     seen: &mut Seen,

@@ -3,7 +3,7 @@ use bytetext::{Failure, NoMemory};
 use disks::{FileDiskError, FileFault};
 use std::alloc::Global;
 
-/// The lines so far. A refused growth is remembered and told at the end.
+/// The lines so far. A failed allocation is remembered and reported at the end.
 #[derive(Drop)]
 pub struct Seen {
     bytes: Vec<u8>,
@@ -11,7 +11,7 @@ pub struct Seen {
 }
 
 impl Seen {
-    /// No line yet. Takes no memory.
+    /// Starts with no line. Allocates nothing.
     pub fn new(alloc: Global) -> Seen {
         Seen {
             bytes: Vec::new(alloc),
@@ -19,7 +19,7 @@ impl Seen {
         }
     }
 
-    /// Notes what was looked at, and what was seen.
+    /// Notes `what` was looked at, and the `word` for what was seen.
     pub fn note(&mut self, what: &str, word: &str) {
         self.put(what.as_bytes());
         self.put(b": ");
@@ -27,10 +27,10 @@ impl Seen {
         self.put(b"\n");
     }
 
-    /// All lines.
+    /// Returns all lines.
     ///
     /// # Errors
-    /// `NoMemory` where a growth was refused.
+    /// `NoMemory` if an allocation failed.
     pub fn into_bytes(self) -> Result<Vec<u8>, NoMemory> {
         match self.refused {
             true => Err(NoMemory),
@@ -45,17 +45,17 @@ impl Seen {
     }
 }
 
-/// Whether something is so.
+/// Returns `yes` if `is`, else `no`.
 pub fn yes(is: bool) -> &'static str {
     if is { "yes" } else { "no" }
 }
 
-/// Whether a call did what it was asked for.
+/// Returns `done` if `is`, else `refused`.
 pub fn done(is: bool) -> &'static str {
     if is { "done" } else { "refused" }
 }
 
-/// How an opening ended.
+/// Returns the word for how an opening `ended`.
 pub fn word_of<T>(ended: &Result<T, FileDiskError>) -> &'static str {
     match ended {
         Ok(_) => "done",

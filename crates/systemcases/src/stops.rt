@@ -1,4 +1,4 @@
-// A making of a journal that is stopped.
+// Making a journal, with stops.
 ghost use Rattle.std.specs.Prelude.{◌<◌};
 ghost use Rattle.storage.specs.State.{IsSettled};
 ghost use Rattle.disks.specs.Memory.{state_of};
@@ -11,7 +11,7 @@ use journalstart::was_never_made;
 use std::alloc::Global;
 use storage::Disk;
 
-/// What a crash leaves of what was not kept.
+/// What a crash leaves of the bytes that were not kept.
 const TEARS: [Tear; 5] = [
     Tear::Old,
     Tear::New,
@@ -54,7 +54,7 @@ fn stop_first(alloc: Global, seen: &mut Seen, call: u64, what: &str)
     }
 }
 
-// An empty disk whose calls fail from one on.
+// Creates an empty disk whose calls fail from the stated one on.
 fn stopped_at(alloc: Global, call: u64, tear: Tear) -> MemDisk
     requires { 0 < call }
     ensures { IsSettled (state_of result) }
@@ -64,7 +64,7 @@ fn stopped_at(alloc: Global, call: u64, tear: Tear) -> MemDisk
     disk
 }
 
-// What a start does on the disks that a stopped making left.
+// Returns what a start does on the disks that a stopped making left.
 fn next_start(alloc: Global, first: MemDisk, second: MemDisk) -> &'static str
     requires first { IsSettled (state_of first) }
     requires second { IsSettled (state_of second) }
@@ -75,7 +75,7 @@ fn next_start(alloc: Global, first: MemDisk, second: MemDisk) -> &'static str
     }
 }
 
-// The disks as the stop left them.
+// Returns the disks as the stop left them.
 fn crashed(disks: Disks<MemDisk>) -> Disks<MemDisk>
     ensures first { IsSettled (state_of result.first) }
     ensures second { IsSettled (state_of result.second) }
@@ -86,7 +86,7 @@ fn crashed(disks: Disks<MemDisk>) -> Disks<MemDisk>
     disks
 }
 
-// Makes the journal anew, or opens it.
+// Makes the journal again if none was ever made, or opens it.
 fn started(alloc: Global, disks: Disks<MemDisk>) -> &'static str
     requires first { IsSettled (state_of disks.first) }
     requires second { IsSettled (state_of disks.second) }

@@ -2,7 +2,7 @@
 use sockets::DoorFault;
 use streams::{Given, Taken};
 
-/// What a stream answered when it was asked.
+/// Returns the word for the `answer` of a stream to a read.
 pub fn given(answer: Given) -> &'static str {
     match answer {
         Given::Bytes(_) => "bytes",
@@ -12,7 +12,7 @@ pub fn given(answer: Given) -> &'static str {
     }
 }
 
-/// What a stream answered when it was offered bytes.
+/// Returns the word for the `answer` of a stream that was offered bytes.
 pub fn taken(answer: Taken) -> &'static str {
     match answer {
         Taken::Bytes(_) => "bytes",
@@ -21,7 +21,7 @@ pub fn taken(answer: Taken) -> &'static str {
     }
 }
 
-/// Whether a door was opened.
+/// Returns the word for whether `door` was opened.
 pub fn opened<D>(door: &Result<D, DoorFault>) -> &'static str {
     match door {
         Ok(_) => "done",

@@ -30,7 +30,7 @@ fn write_twice<R: AllocGlobal + Files<File = File>>(rt: &R, disk: FileDisk, seen
     seen.note("synced", synced(&mut disk));
 }
 
-// Opens the disk on the file, whose last writing seems to be long ago.
+// Opens the disk on the file, whose time of last writing was set to 0.
 fn open_again<R: AllocGlobal + Files<File = File>>(rt: &R, seen: &mut Seen) {
     seen.note("its time set to 0", yes(set_back(rt) && is_time_0(rt)));
     match FileDisk::open(rt, "first") {
@@ -41,7 +41,7 @@ fn open_again<R: AllocGlobal + Files<File = File>>(rt: &R, seen: &mut Seen) {
     seen.note("its time is 0", yes(is_time_0(rt)));
 }
 
-/// Writes where the disk has room.
+/// Writes `text` at the offset `at`, if `disk` has room, and returns the word for how that ends.
 pub fn put(disk: &mut FileDisk, at: usize, text: &[u8]) -> &'static str {
     let Some(end) = at.checked_add(text.len()) else {
         return "too long";
@@ -56,7 +56,7 @@ pub fn put(disk: &mut FileDisk, at: usize, text: &[u8]) -> &'static str {
     done(disk.write_at(at, text).is_ok())
 }
 
-/// Waits until what was written is kept.
+/// Syncs `disk`, and returns the word for how that ends.
 pub fn synced(disk: &mut FileDisk) -> &'static str {
     match disk.reserve(0, 1) {
         Ok(()) => done(disk.sync().is_ok()),
@@ -64,7 +64,7 @@ pub fn synced(disk: &mut FileDisk) -> &'static str {
     }
 }
 
-// Whether the file holds this text.
+// Returns whether the file holds just `text`.
 fn holds<R: AllocGlobal + Files<File = File>>(rt: &R, text: &str) -> bool {
     match fs::read_to_string(rt, "first") {
         Ok(found) => found.as_str() == text,

@@ -1,4 +1,4 @@
--- What two clocks read as.
+-- What two clocks read as one second.
 use Rattle.std.specs.Prelude.{ℕ, ◌+◌, ◌-◌, ◌==◌, min, nat_lt, if◌then◌else◌}
 use Rattle.bytetext.specs.declared.moment.TheConstants.{MOMENTS_END}
 
@@ -7,11 +7,11 @@ pub record Readings : Type 0 where
   pub last : ℕ
   pub mark : ℕ
 
--- the wall clock's second; where that is below the last reading, the last and the seconds that have passed since
+-- the wall clock's second; if that is below the last reading, the last reading plus the seconds that have passed since
 abbrev pub seconds_of : Readings → ℕ → ℕ → ℕ
 seconds_of line wall monotonic = if nat_lt wall line.last then line.last + (monotonic - line.mark) else wall
 
--- the last moment, where that is past all moments
+-- this second, but at most the last moment
 abbrev pub reading : Readings → ℕ → ℕ → ℕ
 reading line wall monotonic = min (seconds_of line wall monotonic) (MOMENTS_END - 1)
 

@@ -1,12 +1,12 @@
 //! The seconds that a bot reads from the clocks of its machine.
 //!
-//! A bot takes no reading below its last one. The wall clock of a machine can be set back, so a bot that read it alone
-//! would be deaf until it has caught up. A [`Timeline`] reads two clocks: its reading is the wall clock's second, but
-//! where that is below the last reading it goes on from the last one by the seconds that the monotonic clock has counted
-//! since. So readings never go back, and they don't stop. All of them are moments: seconds from 1970-01-01 UTC on, below
-//! [`MOMENTS_END`](bytetext::MOMENTS_END), at whose last second they stay.
+//! A bot never accepts a reading below its last one. The wall clock of a machine can be set back, so a bot that read
+//! only that clock would be deaf until the clock caught up. A [`Timeline`] reads two clocks. It returns the wall
+//! clock's second; if that is below the last reading, it returns the last reading plus the seconds that the monotonic
+//! clock has counted since. So readings never go back, and they don't stop. Each of them is a moment: seconds since
+//! 1970-01-01 UTC, below [`MOMENTS_END`](bytetext::MOMENTS_END). At the last such second the readings stay.
 //!
-//! A wall clock that is set ahead takes the readings with it, and once it is set right they go on from there.
+//! If the wall clock is set ahead, the readings follow it. Once it is set right, they go on from there.
 //!
 //! ```text
 //! let mut timeline = Timeline::begin(0);

@@ -1,4 +1,4 @@
-// Two clocks to one second.
+// One second from two clocks.
 use bytetext::MOMENTS_END;
 use std::io;
 use std::marker::Model;
@@ -28,7 +28,8 @@ impl Timeline {
     ghost use Rattle.bytetext.specs.declared.moment.TheConstants.{MOMENTS_END};
     ghost use Rattle.timeline.specs.Readings.{after, reading};
 
-    /// No reading yet, which counts as one of second 0. `monotonic` is what the monotonic clock shows, in seconds.
+    /// Creates a timeline without a reading, which counts as one of second 0. `monotonic` is what the monotonic clock
+    /// shows, in seconds.
     pub fn begin(monotonic: u64) -> Timeline
         ensures { result ≡ record { last = 0; mark = monotonic } }
     {
@@ -38,8 +39,8 @@ impl Timeline {
         }
     }
 
-    /// The next reading: `wall` is the wall clock's second from 1970-01-01 UTC on, `monotonic` the monotonic clock's from
-    /// anywhere on. A monotonic clock that went back counts as one that stands.
+    /// Returns the next reading. `wall` is the wall clock's second since 1970-01-01 UTC, and `monotonic` the monotonic
+    /// clock's second, counted from any start. A monotonic clock that went back counts as one that stands still.
     pub fn read(&mut self, wall: u64, monotonic: u64) -> u64
         ensures value { result ≡ reading self.old wall monotonic }
         ensures after { self.new ≡ after self.old result monotonic }
@@ -61,10 +62,10 @@ impl Timeline {
         moment
     }
 
-    /// The next reading of this machine's clocks.
+    /// Reads this machine's clocks through `rt` and returns the next reading.
     ///
     /// # Errors
-    /// What reading a clock answers; the timeline is then as before.
+    /// The error of the clock that could not be read; the timeline is then unchanged.
     pub fn read_clocks(&mut self, rt: &impl Clock) -> io::Result<u64>
         ensures never_back { IfOk result (λ second. self.old.last ≤ second) }
         ensures moment { IfOk result (λ second. second < MOMENTS_END) }

@@ -17,16 +17,16 @@ use userfile::Change;
 /// What a bot hears in one turn.
 #[derive(Drop)]
 pub struct Heard {
-    /// Whether a connection to the server began. Then the bytes are its first.
+    /// Whether there is a new connection to the server. The bytes are then its first.
     pub connected: bool,
     /// What the server sent.
     pub bytes: Vec<u8>,
-    /// The packets of the other bots, in the order in which they are to be taken, as `Inbox::take` of the crate `inbox`
-    /// gives them. The records of a part are of good shape, as those that are read are.
+    /// The packets of the other bots, in the order in which the bot takes them, as `Inbox::take` of the crate `inbox`
+    /// returns them. The records of a part are well-formed, as those of a decoded packet are.
     pub packets: Vec<Packet>,
-    /// The changes that commands ask for, in order. The note of each stands in its report.
+    /// The changes that commands ask for, in order. The report of each has its note.
     pub changes: Vec<Change>,
-    /// What the clock reads, in seconds from 1970-01-01 UTC on.
+    /// The reading of the clock, in seconds since 1970-01-01 UTC.
     pub now: u64,
     /// Whether a pump is due.
     pub pump: bool,
@@ -39,34 +39,34 @@ pub struct Heard {
 pub enum TurnEnd {
     /// All its steps are made.
     Done,
-    /// A growth was refused. The steps before it stand, and their reports are told.
+    /// An allocation failed. The steps before it are kept, and their reports are returned.
     NoMemory,
 }
 
-/// What a turn tells.
+/// The result of a turn.
 pub struct Told {
     /// How it ended.
     pub end: TurnEnd,
-    /// What its steps report, in order.
+    /// The reports of its steps, in order.
     pub reports: Seq<Report>,
 }
 
-// By hand, so that this is proved once, and not in each function in which one ends.
+// Written by hand, so that it is proved once and not in each function that drops one.
 impl Drop for Told {
     fn drop(self) {
         let Told { end: _, reports: _ } = self;
     }
 }
 
-/// Makes the steps of a turn, in this order: a connection that began, each line that its bytes end, the reading, each
-/// packet, each change, a pump and a compaction.
+/// Makes the steps of what `bot` has `heard` in a turn, with the procs of `store`, in this order: a new connection,
+/// each line that its bytes complete, the reading, each packet, each change, a pump and a compaction.
 ///
-/// A connection that began also begins a new line: what `lines` holds of the one before is forgotten. A reading that is
-/// no moment is refused in its report, as every refusal is, and the turn goes on.
+/// A new connection also starts a new line: the call discards the part of a line that `lines` held before. If the
+/// reading is after the year 2999, its report has the refusal, as with every refusal, and the turn continues.
 ///
-/// Out of memory, a front of these steps is made, and their reports are told; the step at which it ran out leaves the
-/// bot as it was, but for what happened to its disks. The bytes may be taken in by `lines` then or not: connect
-/// anew, or end.
+/// Out of memory, only the first of these steps are made, and the call returns their reports. The step at which memory
+/// ran out leaves the bot as it was, except for what happened to its disks. `lines` may have taken the bytes in or
+/// not: connect again, or end the process.
 pub fn take_turn<P: Promise, D: Disk, B: Run>(
     alloc: Global,
     bot: &mut Bot<D>,
@@ -97,7 +97,7 @@ pub fn take_turn<P: Promise, D: Disk, B: Run>(
     }
 }
 
-// Makes a step of each event, in order. Out of memory the first of them are made.
+// Makes a step of each event, in order. Out of memory, only the first of them are made.
 fn step_all<P: Promise, D: Disk, B: Run>(
     alloc: Global,
     bot: &mut Bot<D>,
@@ -117,8 +117,8 @@ fn step_all<P: Promise, D: Disk, B: Run>(
     Ok(())
 }
 
-// Makes a step, and keeps what it reports. Out of memory nothing is kept, and the bot is as it was, since no restart is
-// made.
+// Makes a step, and keeps its report. Out of memory, it keeps nothing, and the bot is as it was, since no step is a
+// restart.
 fn step_one<P: Promise, D: Disk, B: Run>(
     alloc: Global,
     bot: &mut Bot<D>,

@@ -7,11 +7,11 @@ use Rattle.ircline.specs.Sources.{Source, Nobody, Server, Person, source_of}
 use Rattle.upkeep.specs.declared.cue.Cue.{Cue}
 use Rattle.upkeep.specs.declared.cue.Cue.TheVariants.{Welcomed, Renamed, Joined, Parted, Kicked, Barred, NickRefused, Refused, Nothing}
 
--- a parameter by its place; empty where there is none
+-- the parameter at a place, empty if the message has fewer
 abbrev pub param : Message → ℕ → List ℕ
 param message place = unwrap_or (slice_get message.params place) []
 
--- a person of this nick
+-- the source is a person with this nick
 abbrev pub is_from : Source → List ℕ → Bool
 is_from Nobody own = false
 is_from (Server name) own = false

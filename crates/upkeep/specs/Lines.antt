@@ -1,9 +1,9 @@
--- What may go to a server, and when a journal is written anew.
+-- Which lines may go to a server, and when a journal is rewritten.
 use Rattle.std.specs.Prelude.{ℕ, ◌-◌, ◌==◌, ◌&&◌, not, nat_le, Bool, List, length}
 use Rattle.std.specs.List.{list_all}
 use Rattle.upkeep.specs.declared.line.TheConstants.{MAX_LINE, A_BASE}
 
--- no NUL, LF and CR
+-- any byte but NUL, LF and CR
 abbrev pub is_of_line : ℕ → Bool
 is_of_line b = not (b == 0) && (not (b == 10) && not (b == 13))
 

@@ -1,12 +1,12 @@
--- Other nicks, where a server does not take the bot's own.
+-- Other nicks for a server that rejects the bot's own.
 use Rattle.std.specs.Prelude.{ℕ, ◌+◌, ◌-◌, ◌^◌, ◌||◌, min, nat_lt, nat_le, List, ◌++◌, length, take, replicate, Option, None, Some, if◌then◌else◌}
 use Rattle.upkeep.specs.declared.nicks.TheConstants.{SHORT_NICK}
 
--- a nick of nine bytes at most, whose last so many are underscores
+-- the first nine bytes of a nick, the last `underscores` of them replaced by underscores
 abbrev pub cut_nick : List ℕ → ℕ → List ℕ
 cut_nick nick underscores = take (min SHORT_NICK (length nick) - underscores) nick ++ replicate underscores 95
 
--- a long nick is first cut alone
+-- a long nick is first cut, without any underscore
 abbrev pub place_of : ℕ → ℕ → ℕ
 place_of len tried = if nat_lt SHORT_NICK len then tried else min (tried + 1) (2 ^ 64 - 1)
 

@@ -1,9 +1,9 @@
--- A server's timer: never before the clock, and two seconds on with each line.
+-- A server's timer: never before the clock after a line, and two seconds on with each line.
 use Rattle.std.specs.Prelude.{ℕ, ◌+◌, ◌-◌, ◌^◌, min, max, nat_lt, Bool}
 use Rattle.upkeep.specs.declared.pace.TheConstants.{COST, AHEAD}
 use Rattle.upkeep.specs.declared.pace.Pace.{Pace}
 
--- the largest number of 64 bits
+-- the largest 64-bit number
 abbrev pub most : ℕ
 most = 2 ^ 64 - 1
 

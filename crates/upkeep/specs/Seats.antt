@@ -1,11 +1,11 @@
--- A channel of the bot's configuration, and when the bot joins it again.
+-- A channel of the bot's configuration, and when the bot rejoins it.
 use Rattle.std.specs.Prelude.{ℕ, ◌-◌, ◌&&◌, nat_le, Bool, true, false, List}
 use Rattle.redial.specs.declared.redial.TheConstants.{FIRST_WAIT}
 use Rattle.redial.specs.Waits.{Waits, lost}
 use Rattle.upkeep.specs.declared.seat.TheConstants.{LONGEST_WAIT}
 use Rattle.upkeep.specs.declared.vigil.TheConstants.{GOOD}
 
--- its name; whether the bot is on it; whether it was kicked or barred and has not tried again; since when it is on it
+-- its name; whether the bot is on it; whether it was kicked or barred and has not tried again; when it last joined
 pub record Seated : Type 0 where
   pub channel : List ℕ
   pub on : Bool
@@ -28,7 +28,7 @@ joined seat now = record seat { on = true; barred = false; since = now }
 abbrev pub parted : Seated → Seated
 parted seat = record seat { on = false; barred = false }
 
--- who has stayed for long waits as after a good connection
+-- a bot that has stayed for long waits as after a good connection
 abbrev pub kicked : Seated → ℕ → Seated
 kicked seat now = record seat { on = false; barred = true; waits = lost seat.waits now (nat_le GOOD (now - seat.since)) }
 

@@ -1,4 +1,4 @@
--- When a silent server is asked whether it is there, and when it is let go.
+-- When the process pings a silent server, and when it disconnects it.
 use Rattle.std.specs.Prelude.{ℕ, ◌-◌, nat_le, Bool, true, false, not, ◌&&◌, if◌then◌else◌}
 use Rattle.upkeep.specs.declared.vigil.TheConstants.{QUIET, DEAD, UNWELCOMED, GOOD}
 use Rattle.upkeep.specs.declared.vigil.Vigil.{Vigil}
@@ -16,7 +16,7 @@ heard vigil now = record vigil { heard = now; asked = false }
 abbrev pub asked : Vigil → Vigil
 asked vigil = record vigil { asked = true }
 
--- silence first, then a welcome that is missing; a silent server is asked once
+-- first the silence, then the missing welcome; a silent server is pinged once
 abbrev pub care_of : Vigil → ℕ → Bool → Care
 care_of vigil now is_welcomed =
     if nat_le DEAD (now - vigil.heard) then LetGo Silent

@@ -5,30 +5,30 @@ ghost use Rattle.upkeep.specs.Cues.{cue_of, is_by, is_numeric_fault, is_to, nume
 use ircline::{Message, Source, source};
 use rfccase::same;
 
-/// What a message means for a bot of some nick.
+/// What a message means for a bot with a given nick.
 #[derive(Clone, Copy, Debug, PartialEq, Eq)]
 pub enum Cue {
     /// The server has welcomed the bot under the nick that is the first parameter (001).
     Welcomed,
-    /// The bot has another nick now, the first parameter.
+    /// The bot's nick is now the first parameter.
     Renamed,
     /// The bot is on the channel that is the first parameter.
     Joined,
-    /// The bot has left that channel.
+    /// The bot has left the channel that is the first parameter.
     Parted,
-    /// The bot was kicked off that channel.
+    /// The bot was kicked off the channel that is the first parameter.
     Kicked,
-    /// The bot may not join the channel that is the second parameter (471, 473, 474, 475).
+    /// The server does not let the bot join the channel that is the second parameter (471, 473, 474, 475).
     Barred,
-    /// The server does not take a nick (432, 436, 437).
+    /// The server rejects a nick (432, 436, 437).
     NickRefused,
-    /// The server refuses something else, or ends the connection (another number from 400 to 599, ERROR).
+    /// The server rejects something else, or ends the connection (another number from 400 to 599, ERROR).
     Refused,
     /// Nothing.
     Nothing,
 }
 
-/// What a message means for a bot of this nick. Takes no memory.
+/// Returns what `message` means for a bot whose nick is `own`. Allocates nothing.
 pub fn cue_of(message: &Message, own: &[u8]) -> Cue
     ensures { result ≡ cue_of message.now own.now }
 {
@@ -48,7 +48,7 @@ pub fn cue_of(message: &Message, own: &[u8]) -> Cue
     }
 }
 
-// What a number means.
+// What a numeric command means.
 fn numeric_cue(command: &[u8]) -> Cue
     ensures { result ≡ numeric_cue command.now }
 {
@@ -73,7 +73,7 @@ fn is_numeric_fault(command: &[u8]) -> bool
     command.len() == 3 && (command[0] == b'4' || command[0] == b'5')
 }
 
-// Whether a message comes from who has this nick.
+// Whether the sender of a message has this nick.
 fn is_by(message: &Message, own: &[u8]) -> bool
     ensures { result ≡ is_by message.now own.now }
 {
@@ -90,7 +90,7 @@ fn is_to(message: &Message, own: &[u8]) -> bool
     same(param(message, 1), own)
 }
 
-/// A parameter of a message, by its place from 0; empty where there is none.
+/// Returns the parameter of `message` at `place`, counted from 0, or an empty slice if the message has fewer.
 pub fn param(message: &Message, place: usize) -> &[u8]
     ensures { result.now ≡ param message.now place }
 {

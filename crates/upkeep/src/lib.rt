@@ -1,13 +1,14 @@
-//! What a bot's process looks after for its connection, as decisions alone: nothing here touches a socket or a clock.
+//! The upkeep of a bot's connections, as decisions alone: nothing here touches a socket or a clock.
 //!
-//! - [`Vigil`] says when a server that is silent is asked whether it is there, and when it is let go.
-//! - [`Pace`] counts all lines that went to a server as it counts them, so that lines of the process's own are few at once.
-//! - [`cue_of`] says what a message means for the bot's registration and its channels.
-//! - [`Seat`] is a channel of the bot's configuration, and when the bot joins it again.
-//! - [`other_nick`] is the nick that is tried where a server does not take the bot's own.
-//! - [`is_line`] says what may go to a server, and [`is_base_due`] when a journal is written anew.
+//! - [`Vigil`] decides when to ping a silent server, and when to disconnect it.
+//! - [`Pace`] counts all lines sent to a server as the server does, and so limits the lines that the process adds to
+//!   the bot's.
+//! - [`cue_of`] returns what a message means for the bot's registration and its channels.
+//! - [`Seat`] is a channel of the bot's configuration, and decides when the bot rejoins it.
+//! - [`other_nick`] returns the nick to try next when a server rejects the bot's own.
+//! - [`is_line`] checks a line for a server, and [`is_base_due`] decides when to rewrite a journal.
 //!
-//! Seconds are those that a bot's clock reads, from 1970-01-01 UTC on.
+//! Seconds are read from the bot's clock and count from 1970-01-01 UTC.
 //!
 //! ```text
 //! let mut vigil = Vigil::new(1_000);

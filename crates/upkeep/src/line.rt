@@ -1,4 +1,4 @@
-// What may go to a server, and when a journal is written anew.
+// Which lines may go to a server, and when a journal is rewritten.
 ghost use Rattle.std.specs.Prelude.{◌≡◌};
 ghost use Rattle.std.specs.List.{list_all};
 ghost use Rattle.upkeep.specs.Lines.{is_base_due, is_line, is_of_line};
@@ -6,10 +6,10 @@ ghost use Rattle.upkeep.specs.Lines.{is_base_due, is_line, is_of_line};
 /// The most bytes of a line for a server, without its CR and LF (RFC 2812 section 2.3).
 pub const MAX_LINE: usize = 510;
 
-/// After so many changes a journal is written anew.
+/// A journal is rewritten after this many changes.
 pub const A_BASE: u32 = 200;
 
-/// Whether these bytes may go to a server as a line: 1 to 510, none of them NUL, CR or LF.
+/// Whether `bytes` may go to a server as a line: 1 to 510 bytes, none of them NUL, CR or LF.
 pub fn is_line(bytes: &[u8]) -> bool
     ensures { result ≡ is_line bytes.now }
 {
@@ -28,7 +28,7 @@ fn is_of_line(byte: u8) -> bool
     byte != 0 && byte != b'\n' && byte != b'\r'
 }
 
-/// Whether a journal that was last written anew at one version is written anew at another.
+/// Whether a journal that was last rewritten at version `base` is to be rewritten at `version`.
 pub fn is_base_due(base: u32, version: u32) -> bool
     ensures { result ≡ is_base_due base version }
 {

@@ -1,20 +1,20 @@
-// Other nicks, where a server does not take the bot's own.
+// Other nicks for a server that rejects the bot's own.
 ghost use Rattle.std.specs.Prelude.{◌≡◌, ◌≢◌, ◌<◌, None, IfOk, IfErr, length};
 ghost use Rattle.upkeep.specs.Nicks.{cut_nick, other_nick, place_of};
 
 use bytetext::{NoMemory, Text};
 use std::alloc::Global;
 
-/// The most bytes of a nick that each server takes (RFC 2812 section 1.2.1).
+/// The most bytes of a nick that every server accepts (RFC 2812 section 1.2.1).
 pub const SHORT_NICK: usize = 9;
 
-/// The nick that is tried after so many others of this function, where a server takes neither the bot's own nor those.
+/// Returns the next nick to try after a server has rejected the bot's own, `nick`, and the first `tried` of these.
 ///
-/// The first is the own one cut to nine bytes, where it is longer. The next ones end in more and more underscores, in
-/// place of its last bytes. There is none more where all would be underscores.
+/// If `nick` is longer than nine bytes, the first nick to try is its first nine bytes. All others end in more and more
+/// underscores, which replace their last bytes. Returns `None` once all bytes would be underscores.
 ///
 /// # Errors
-/// `NoMemory` where room is refused: never where there is none more.
+/// `NoMemory` if an allocation fails: never when there is no further nick.
 pub fn other_nick(alloc: Global, nick: &[u8], tried: usize) -> Result<Option<Text>, NoMemory>
     ensures found { IfOk result (λ found. found ≡ other_nick nick.now tried) }
     ensures memory { IfErr result (λ _. other_nick nick.now tried ≢ None) }
@@ -37,7 +37,7 @@ fn place_of(len: usize, tried: usize) -> usize
     }
 }
 
-// A nick cut to nine bytes, the last of them underscores.
+// The first nine bytes of a nick, the last of them replaced by underscores.
 fn cut_nick(alloc: Global, nick: &[u8], underscores: usize) -> Result<Text, NoMemory>
     requires few { underscores < SHORT_NICK }
     requires within { underscores < length nick.now }

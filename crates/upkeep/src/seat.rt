@@ -6,18 +6,18 @@ use bytetext::Text;
 use redial::Redial;
 use std::marker::Model;
 
-/// The longest wait before a channel is joined again, in seconds.
+/// The longest wait before the bot rejoins a channel, in seconds.
 pub const LONGEST_WAIT: u16 = 300;
 
-/// A channel of the bot's configuration: whether the bot is on it, and when it joins it again after it was kicked or was
-/// not let in. Each time it waits longer, from 2 to 300 seconds, until it has stayed for two minutes.
+/// A channel of the bot's configuration: whether the bot is on it, and when it rejoins after a KICK or after the
+/// server did not let it in. The wait grows from 2 to 300 seconds, until the bot has stayed for two minutes.
 #[derive(Drop)]
 pub struct Seat {
     channel: Text,
     is_on: bool,
-    // Whether it was kicked or barred, and has not tried again since.
+    // Whether the bot was kicked or barred, and has not tried again since.
     is_barred: bool,
-    // When it last joined.
+    // The second at which the bot last joined.
     since: u64,
     redial: Redial,
 }
@@ -40,7 +40,8 @@ impl Seat {
     ghost use Rattle.std.specs.Prelude.{◌≡◌, ◌<◌};
     ghost use Rattle.bytetext.specs.declared.moment.TheConstants.{MOMENTS_END};
 
-    /// A channel on which the bot is not yet, and which it joins by itself when it is welcomed.
+    /// Creates the seat of `channel` for the bot numbered `number`. The bot is not on it yet, and joins by itself when
+    /// it is welcomed.
     pub fn new(channel: Text, number: u16) -> Seat
         ensures { result ≡ begun channel number }
     {
@@ -53,21 +54,21 @@ impl Seat {
         }
     }
 
-    /// The channel's name.
+    /// Returns the channel's name.
     pub fn channel(&self) -> &[u8]
         ensures { result.now ≡ self.now.channel }
     {
         self.channel.as_bytes()
     }
 
-    /// Whether the bot is on it.
+    /// Whether the bot is on the channel.
     pub fn is_on(&self) -> bool
         ensures { result ≡ self.now.on }
     {
         self.is_on
     }
 
-    /// The bot joined it at this second.
+    /// Notes that the bot joined the channel at second `now`.
     pub fn join(&mut self, now: u64)
         ensures { self.new ≡ joined self.old now }
     {
@@ -76,7 +77,7 @@ impl Seat {
         self.since = now;
     }
 
-    /// The bot left it, or lost its server: it does not join it again by this.
+    /// Notes that the bot left the channel or lost its server. This alone makes no rejoin due.
     pub fn part(&mut self)
         ensures { self.new ≡ parted self.old }
     {
@@ -84,7 +85,7 @@ impl Seat {
         self.is_barred = false;
     }
 
-    /// The bot was kicked off it at this second.
+    /// Notes that the bot was kicked off the channel at second `now`.
     pub fn kick(&mut self, now: u64)
         requires { now < MOMENTS_END }
         ensures { self.new ≡ kicked self.old now }
@@ -95,7 +96,7 @@ impl Seat {
         self.is_barred = true;
     }
 
-    /// The bot was not let in at this second.
+    /// Notes that the server did not let the bot in at second `now`.
     pub fn bar(&mut self, now: u64)
         requires { now < MOMENTS_END }
         ensures { self.new ≡ not_let_in self.old now }
@@ -105,14 +106,14 @@ impl Seat {
         self.is_barred = true;
     }
 
-    /// Whether the bot is to join it again at this second.
+    /// Whether the bot is due to rejoin the channel at second `now`.
     pub fn is_due(&self, now: u64) -> bool
         ensures { result ≡ is_due self.now now }
     {
         self.is_barred && self.redial.is_due(now)
     }
 
-    /// The bot tries to join it again: it waits for what the server says.
+    /// Notes that the bot tries to rejoin the channel. No rejoin is due until the server answers.
     pub fn retry(&mut self)
         ensures { self.new ≡ retried self.old }
     {

@@ -2,51 +2,51 @@
 ghost use Rattle.std.specs.Prelude.{◌≡◌};
 ghost use Rattle.upkeep.specs.Vigils.{begun, heard, asked, care_of, is_good};
 
-/// After so many seconds without a byte the server is asked whether it is there.
+/// The process pings a server that has sent no byte for this many seconds.
 pub const QUIET: u64 = 90;
 
-/// After so many seconds without a byte it is let go.
+/// The process disconnects a server that has sent no byte for this many seconds.
 pub const DEAD: u64 = 150;
 
-/// After so many seconds without a welcome (001) it is let go.
+/// The process disconnects a server that has not welcomed the bot (001) within this many seconds.
 pub const UNWELCOMED: u64 = 60;
 
-/// A connection that has held for so many seconds is a good one.
+/// A connection that has held for this many seconds is a good one.
 pub const GOOD: u64 = 120;
 
-/// What is to be done about a connection.
+/// What to do about a connection.
 #[derive(Clone, Copy, Debug, PartialEq, Eq)]
 pub enum Care {
     /// Nothing.
     Wait,
-    /// The server is to be asked whether it is there.
+    /// Ping the server.
     Ask,
-    /// It is to be let go.
+    /// Disconnect the server.
     LetGo(Loss),
 }
 
-/// Why a server is let go.
+/// Why the process disconnects a server.
 #[derive(Clone, Copy, Debug, PartialEq, Eq)]
 pub enum Loss {
-    /// It said nothing for 150 seconds.
+    /// The server sent nothing for 150 seconds.
     Silent,
-    /// It did not welcome the bot for 60 seconds.
+    /// The server did not welcome the bot within 60 seconds.
     Unwelcomed,
 }
 
-/// When a connection began, when its server was last heard, and whether it was asked since whether it is there.
+/// When a connection began, when its server last sent a byte, and whether the process has pinged it since.
 #[derive(Clone, Copy, Debug, PartialEq, Eq)]
 pub struct Vigil {
-    /// The second at which it began.
+    /// The second at which the connection began.
     pub began: u64,
-    /// The second at which a byte came last, and at first that of the beginning.
+    /// The second at which the last byte came; before the first byte, the second at which the connection began.
     pub heard: u64,
-    /// Whether it was asked since.
+    /// Whether the process has pinged the server since.
     pub asked: bool,
 }
 
 impl Vigil {
-    /// A connection that begins at this second.
+    /// Starts the watch of a connection that begins at second `now`.
     pub fn new(now: u64) -> Vigil
         ensures { result ≡ begun now }
     {
@@ -57,7 +57,7 @@ impl Vigil {
         }
     }
 
-    /// A byte came at this second.
+    /// Notes that a byte came at second `now`.
     pub fn hear(&mut self, now: u64)
         ensures { self.new ≡ heard self.old now }
     {
@@ -65,14 +65,14 @@ impl Vigil {
         self.asked = false;
     }
 
-    /// The server was asked.
+    /// Notes that the process pinged the server.
     pub fn ask(&mut self)
         ensures { self.new ≡ asked self.old }
     {
         self.asked = true;
     }
 
-    /// What is to be done at this second, where the server has welcomed the bot or not.
+    /// Returns what to do at second `now`. `is_welcomed` says whether the server has welcomed the bot.
     pub fn care(&self, now: u64, is_welcomed: bool) -> Care
         ensures { result ≡ care_of self.now now is_welcomed }
     {
@@ -88,7 +88,7 @@ impl Vigil {
         }
     }
 
-    /// Whether the connection has held for long at this second.
+    /// Whether the connection has held for two minutes at second `now`.
     pub fn is_good(&self, now: u64) -> bool
         ensures { result ≡ is_good self.now now }
     {

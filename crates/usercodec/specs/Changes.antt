@@ -1,4 +1,4 @@
--- The one spelling of a change, and what reading one answers.
+-- The one spelling of a change, and what reading one returns.
 use Rattle.std.specs.Prelude.{◌≡◌, ℕ, ◌<◌, ◌^◌, ◌==◌, nat_le, Bool, ◌&&◌, List, ◌∷◌, ◌++◌, None, Ok, Err, if◌then◌else◌}
 use Rattle.std.specs.Int.{w64}
 use Rattle.userfile.specs.Apply.{bad_shape, new_ban}
@@ -12,11 +12,11 @@ use Rattle.usercodec.specs.Fields.{handle_at, hostmask_at, channel_at, ban_chann
 
 -- ---- spellings
 
--- the fields of a ban that is added
+-- the fields of a ban that a change adds
 abbrev pub ban_bytes : Ban → List ℕ
 ban_bytes ban = text ban.channel ++ (text ban.mask ++ (text ban.creator ++ (number w64 ban.expires ++ text ban.comment)))
 
--- a change: a byte that is its tag, and its fields
+-- a change: its tag in one byte, and its fields
 abbrev pub change_bytes : Change → List ℕ
 change_bytes (AddUser handle) = 1 ∷ text handle
 change_bytes (DelUser handle) = 2 ∷ text handle
@@ -31,7 +31,7 @@ change_bytes (DelBan channel mask) = 9 ∷ (text channel ++ text mask)
 change_bytes (SetInfo handle info) = 10 ∷ (text handle ++ text info)
 change_bytes (SetSticky channel mask on) = 11 ∷ (text channel ++ (text mask ++ mark on))
 
--- flags are of letters, and a moment has eight bytes
+-- flags have only bits of letters, and a moment fits in eight bytes
 abbrev pub HasRoom : Change → Type 0
 HasRoom (AddUser handle) = Unit {0}
 HasRoom (DelUser handle) = Unit {0}
@@ -45,7 +45,7 @@ HasRoom (DelBan channel mask) = Unit {0}
 HasRoom (SetInfo handle info) = Unit {0}
 HasRoom (SetSticky channel mask on) = Unit {0}
 
--- a change that has a spelling: its shape is good, as the userfile says
+-- a change that has a spelling: its shape is good by the userfile's rules
 pub record IsGoodChange (change : Change) : Type 0 where
   pub shape : bad_shape change ≡ None
   pub room : HasRoom change
@@ -59,7 +59,7 @@ both first second bytes = do
   b ← second a.1
   Ok ((a.0, b.0), b.1)
 
--- what is made of a value
+-- what a function makes of the value that is read
 abbrev pub made : {A B : Type 0} → (A → B) → Reading A → Reading B
 made value_of reading = do
   x ← reading

@@ -1,4 +1,4 @@
--- The byte that tells why the userfile refused a change: the number of its letter U.
+-- The byte that says why the userfile refused a change: the number of the refusal's U code.
 use Rattle.std.specs.Prelude.{ℕ, ◌==◌, List, Option, Some, None, Ok, Err, if◌then◌else◌}
 use Rattle.userfile.specs.declared.error.ChangeFault.{ChangeFault}
 use Rattle.userfile.specs.declared.error.ChangeFault.TheVariants.{BadHandle, BadMask, BadChannel, BadComment, NoSuchUser, UserExists, MaskExists}
@@ -19,7 +19,7 @@ fault_byte NoSuchBan = 9
 fault_byte BadComment = 10
 fault_byte Full = 11
 
--- the fault of a byte, where it is one
+-- the fault that a byte stands for, if there is one
 unfoldable pub fault_from : ℕ → Option ChangeFault
 fault_from byte =
     if byte == 1 then Some BadHandle
@@ -35,7 +35,7 @@ fault_from byte =
     else (if byte == 11 then Some Full
     else None))))))))))
 
--- a value that a byte must be
+-- the value that was read must be a known one
 abbrev pub known : {A : Type 0} → Option A → List ℕ → Reading A
 known (Some x) bytes = Ok (x, bytes)
 known None bytes = Err NotCanonical

@@ -1,5 +1,6 @@
--- How each field is spelled as bytes, and what reading it at the front of some bytes answers (our own choice throughout).
--- A fault of a field is told as soon as the field is whole, and before any fault of the bytes after it.
+-- How each field is spelled as bytes, and what reading it at the front of some bytes returns (our own choice
+-- throughout). A read reports a fault of a field as soon as the field is complete, before any fault of the bytes
+-- after it.
 use Rattle.std.specs.Prelude.{ℕ, ◌^◌, ◌==◌, nat_lt, nat_le, Bool, List, [], ◌∷◌, length, take, drop, Result, Ok, Err, if◌then◌else◌}
 use Rattle.std.specs.List.{flat_map}
 use Rattle.std.specs.Int.{Width, w64, byte_len, from_be_bytes, to_be_bytes}
@@ -14,7 +15,7 @@ use Rattle.usercodec.specs.declared.fault.CodecFault.TheVariants.{Short, NotCano
 abbrev pub number : Width → ℕ → List ℕ
 number width n = to_be_bytes width n
 
--- a text: a byte that is its length, and its bytes
+-- a text: its length in one byte, and its bytes
 abbrev pub text : List ℕ → List ℕ
 text bytes = length bytes ∷ bytes
 
@@ -22,11 +23,11 @@ text bytes = length bytes ∷ bytes
 abbrev pub flags : ℕ → List ℕ
 flags bits = number w64 bits
 
--- a mark: 1 where it is set, else 0
+-- a mark: 1 if it is set, else 0
 abbrev pub mark : Bool → List ℕ
 mark on = (if on then 1 else 0) ∷ []
 
--- items: a byte that is their count, and each of them
+-- items: their count in one byte, and each of them
 abbrev pub counted : {A : Type 0} → (A → List ℕ) → List A → List ℕ
 counted spelling items = length items ∷ flat_map spelling items
 
@@ -36,17 +37,17 @@ counted spelling items = length items ∷ flat_map spelling items
 abbrev pub Reading : Type 0 → Type 0
 Reading A = Result (A × List ℕ) CodecFault
 
--- what is read next, unless there is a fault before it
+-- one read and then the next, unless the first returns a fault
 infixl 10 ◌>>=◌
 abbrev pub ◌>>=◌ : {A B : Type 0} → Result A CodecFault → (A → Result B CodecFault) → Result B CodecFault
 (Ok x) >>= next = next x
 (Err fault) >>= next = Err fault
 
--- a value that is whole has to pass a test
+-- a complete value must pass a test
 abbrev pub checked : {A : Type 0} → (A → Bool) → Reading A → Reading A
 checked test reading = reading >>= λ x. if test x.0 then Ok x else Err NotCanonical
 
--- so many bytes
+-- the next `count` bytes
 unfoldable pub bytes_at : ℕ → List ℕ → Reading (List ℕ)
 bytes_at count bytes = if nat_lt (length bytes) count then Err Short else Ok (take count bytes, drop count bytes)
 
@@ -65,11 +66,11 @@ text_at bytes = do
   count ← byte_at bytes
   bytes_at count.0 count.1
 
--- a count of at most so many items
+-- a count, at most `most`
 unfoldable pub count_at : ℕ → List ℕ → Reading ℕ
 count_at most bytes = checked (λ n. nat_le n most) (byte_at bytes)
 
--- flags of letters alone: no bit above 51 is set
+-- flags of letters only: no bit above 51 is set
 unfoldable pub flags_at : List ℕ → Reading ℕ
 flags_at bytes = checked (λ bits. nat_lt bits (2 ^ 52)) (number_at w64 bytes)
 

@@ -1,4 +1,4 @@
--- Texts whose length is one byte.
+-- Texts whose length fits in one byte.
 use Rattle.std.specs.Prelude.{ℕ, ◌<◌, List, length}
 use Rattle.userfile.specs.declared.change.Change.{Change}
 use Rattle.userfile.specs.declared.change.Change.TheVariants.{AddUser, DelUser, AddHost, DelHost, SetGlobal, SetChan, SetBot, AddBan, DelBan}

@@ -1,4 +1,4 @@
--- The spellings of layout 1, which had no info texts and no sticky bans, and what reading one answers.
+-- The spellings of layout 1, which had no info texts and no sticky bans, and what reading one returns.
 use Rattle.std.specs.Prelude.{◌≡◌, ℕ, ◌==◌, nat_le, Bool, false, ◌&&◌, ◌||◌, List, [], ◌∷◌, Err, if◌then◌else◌}
 use Rattle.userfile.specs.declared.change.Change.{Change}
 use Rattle.userfile.specs.declared.change.Change.TheVariants.{AddUser, DelUser, AddHost, DelHost, SetGlobal, SetChan, SetBot, AddBan, DelBan}
@@ -16,7 +16,7 @@ use Rattle.usercodec.specs.Records.{plain_user_bytes, IsGoodRecord, items_at, pl
 abbrev pub change_bytes_old : Change → List ℕ
 change_bytes_old change = change_bytes change
 
--- layout 1 had all changes but those of info texts and sticky bans
+-- layout 1 had all changes except those of info texts and sticky bans
 abbrev pub IsOldChange : Change → Type 0
 IsOldChange (AddUser handle) = Unit {0}
 IsOldChange (DelUser handle) = Unit {0}
@@ -49,7 +49,7 @@ change_at_old bytes = do
 
 -- ---- records
 
--- a record: a byte that is its tag, and its fields
+-- a record: its tag in one byte, and its fields
 abbrev pub record_bytes_old : Record → List ℕ
 record_bytes_old (records.User user) = 1 ∷ plain_user_bytes user
 record_bytes_old (records.Ban ban) = 2 ∷ ban_bytes ban
@@ -79,6 +79,6 @@ record_at_old bytes = do
   tag ← byte_at bytes
   record_fields_at_old tag.0 tag.1
 
--- so many records, one after the other
+-- `count` records, one after the other
 abbrev pub so_many_records_at_old : ℕ → List ℕ → Reading (List Record)
 so_many_records_at_old count bytes = items_at (λ held after. record_at_old after) count [] bytes

@@ -1,4 +1,4 @@
--- The one spelling of a record, and what reading one answers.
+-- The one spelling of a record, and what reading one returns.
 use Rattle.std.specs.Prelude.{◌≡◌, ℕ, zero, suc, ◌<◌, ◌^◌, ◌==◌, nat_lt, Bool, true, false, not, ◌||◌, List, [], ◌∷◌, ◌++◌, Ok, Err, if◌then◌else◌}
 use Rattle.std.specs.List.{list_any, list_all}
 use Rattle.rfccase.specs.Casemapping.{is_same}
@@ -36,17 +36,18 @@ user_bytes user = plain_user_bytes user ++ text user.info
 abbrev pub held_ban_bytes : Ban → List ℕ
 held_ban_bytes ban = ban_bytes ban ++ mark ban.sticky
 
--- a record: a byte that is its tag, and its fields
+-- a record: its tag in one byte, and its fields
 abbrev pub record_bytes : Record → List ℕ
 record_bytes (records.User user) = 3 ∷ user_bytes user
 record_bytes (records.Ban ban) = 4 ∷ held_ban_bytes ban
 
--- the shape of a record is good, as the userfile says
+-- the shape of a record is good by the userfile's rules
 abbrev pub HasShape : Record → Type 0
 HasShape (records.User user) = (is_user user ≡ true) × (repeats_mask user.masks ≡ false) × (is_over user ≡ false)
 HasShape (records.Ban ban) = is_good_ban ban ≡ true
 
--- masks are hostmasks, flags are of letters, and a moment has eight bytes: the types of a user and a ban say so
+-- masks are hostmasks, flags have only bits of letters, and a moment fits in eight bytes: the types of a user and a ban
+-- say so
 abbrev pub HasFields : Record → Type 0
 HasFields (records.User user) =
     (list_all is_hostmask user.masks ≡ true) × (user.global < 2 ^ 52)
@@ -60,31 +61,31 @@ pub record IsGoodRecord (value : Record) : Type 0 where
 
 -- ---- reading
 
--- so many items after those that are held, each read in view of all before it
+-- a number of items after those that are held; the read of each one knows all items before it
 unfoldable pub items_at : {A : Type 0} → (List A → List ℕ → Reading A) → ℕ → List A → List ℕ → Reading (List A)
 items_at item_at zero held bytes = Ok (held, bytes)
 items_at item_at (suc more) held bytes = do
   item ← item_at held bytes
   items_at item_at more (held ++ item.0 ∷ []) item.1
 
--- a count of at most so many, and the items
+-- a count, at most `most`, and the items
 abbrev pub counted_at : {A : Type 0} → ℕ → (List A → List ℕ → Reading A) → List ℕ → Reading (List A)
 counted_at most item_at bytes = do
   count ← count_at most bytes
   items_at item_at count.0 [] count.1
 
--- a hostmask that is not there yet, by casemapping
+-- a hostmask that is not among those held, by casemapping
 unfoldable pub mask_at : List (List ℕ) → List ℕ → Reading (List ℕ)
 mask_at held bytes = checked (λ mask. not (has_mask mask held)) (hostmask_at bytes)
 
 unfoldable pub masks_at : List ℕ → Reading (List (List ℕ))
 masks_at bytes = counted_at MAX_MASKS mask_at bytes
 
--- whether there is an entry of the channel, by casemapping
+-- whether one of the entries is of the channel, by casemapping
 abbrev pub has_channel : List ℕ → List ChannelFlags → Bool
 has_channel channel entries = list_any (λ entry. is_same channel entry.channel) entries
 
--- a channel that is not there yet, and flags of at least one letter
+-- a channel that no held entry names, and flags of at least one letter
 unfoldable pub entry_at : List ChannelFlags → List ℕ → Reading ChannelFlags
 entry_at held bytes = do
   channel ← checked (λ name. not (has_channel name held)) (channel_at bytes)
@@ -130,6 +131,6 @@ record_at bytes = do
   tag ← byte_at bytes
   record_fields_at tag.0 tag.1
 
--- so many records, one after the other
+-- `count` records, one after the other
 abbrev pub so_many_records_at : ℕ → List ℕ → Reading (List Record)
 so_many_records_at count bytes = items_at (λ held after. record_at after) count [] bytes

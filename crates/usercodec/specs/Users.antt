@@ -15,7 +15,7 @@ entry_of entry = record { channel = entry.channel.now; flags = entry.flags }
 abbrev pub entries_of : List EntryFields → List ChannelFlags
 entries_of entries = map entry_of entries
 
--- the user of these fields
+-- the user with these fields
 abbrev pub user_of : UserFields → User
 user_of fields =
     record {

@@ -14,7 +14,7 @@ use bytetext::{NoMemory, Text};
 use std::alloc::Global;
 use userfile::Ban;
 
-// A ban whose texts still lie in the bytes that were read.
+// A ban whose texts are still borrowed from the bytes that were read.
 #[derive(Drop)]
 pub(crate) struct BanFields<'a> {
     pub(crate) channel: &'a [u8],
@@ -25,11 +25,10 @@ pub(crate) struct BanFields<'a> {
     pub(crate) sticky: bool,
 }
 
-/// Writes the one spelling of a ban's record after some bytes.
+/// Appends the one spelling of `ban` as a record to `out`.
 ///
 /// # Errors
-/// `NoMemory` where room for it is refused, never where the capacity is there; a part of it may then stand after the
-/// bytes.
+/// `NoMemory` if `out` must grow and cannot, never if it has the capacity. A part of the spelling may then be appended.
 pub fn put_ban(out: &mut Vec<u8>, ban: &Ban) -> Result<(), NoMemory>
     requires { is_good_ban ban.now ≡ true }
     ensures bytes { OnOk result (out.new.items ≡ out.old.items ++ 4 ∷ held_ban_bytes ban.now) }
@@ -54,7 +53,7 @@ pub(crate) fn held_ban_fields<'a>(reader: &mut Reader<'a>) -> Result<BanFields<'
     Ok(ban)
 }
 
-// The fields of a ban that is added, which isn't sticky.
+// Reads the fields of a ban that a change adds, which isn't sticky.
 #[tactic(auto, unfolding(crate::specs::Changes::ban_at))]
 pub(crate) fn ban_fields<'a>(reader: &mut Reader<'a>) -> Result<BanFields<'a>, CodecError>
     ensures { Gives (λ fields. (ban_of fields, reader.new)) result (ban_at reader.old) }
@@ -78,7 +77,7 @@ impl<'a> BanFields<'a> {
     ghost use Rattle.std.specs.Prelude.{◌≡◌, IfOk};
     ghost use Rattle.usercodec.specs.Bans.{ban_of};
 
-    // The ban of these fields.
+    // Copies these fields into a ban.
     pub(crate) fn copy(&self, alloc: Global) -> Result<Ban, NoMemory>
         ensures { IfOk result (λ ban. ban ≡ ban_of self.now) }
     {

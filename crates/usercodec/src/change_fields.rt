@@ -1,5 +1,5 @@
-// The change at the front of some bytes. All fields are read before the first copy, so memory is asked for only where
-// the bytes are a change.
+// Reads the change at the front of some bytes. It reads all fields before the first copy, so it allocates only if the
+// bytes are a change.
 ghost use Rattle.std.specs.Prelude.{◌≡◌};
 ghost use Rattle.usercodec.specs.Answers.{Makes};
 ghost use Rattle.usercodec.specs.Fields.{handle_at};

@@ -1,4 +1,4 @@
-// Changes as bytes.
+// Writes and reads changes as bytes.
 ghost use Rattle.std.specs.Prelude.{◌≡◌, ℕ, List, ◌++◌, ◌∷◌, length, take, None, IfOk, OnOk};
 ghost use Rattle.std.specs.Prelude.{◌≤◌, ◌<◌, ◌+◌, OnErr, vec_capacity, vec_len};
 ghost use Rattle.std.specs.Int.{w64};
@@ -19,10 +19,10 @@ use flagexpr::Flags;
 use std::alloc::Global;
 use userfile::Change;
 
-/// The one spelling of a change. Its shape is to be good: `userfile::shape` tests that.
+/// Returns the one spelling of `change`. The change must have a good shape, which `userfile::shape` tests.
 ///
 /// # Errors
-/// `NoMemory` where room for it is refused.
+/// `NoMemory` if the spelling cannot be allocated.
 pub fn write_change(alloc: Global, change: &Change) -> Result<Vec<u8>, NoMemory>
     requires { bad_shape change.now ≡ None }
     ensures { IfOk result (λ bytes. bytes.items ≡ change_bytes change.now) }
@@ -32,11 +32,10 @@ pub fn write_change(alloc: Global, change: &Change) -> Result<Vec<u8>, NoMemory>
     Ok(bytes)
 }
 
-/// Writes the one spelling of a change after some bytes.
+/// Appends the one spelling of `change` to `out`.
 ///
 /// # Errors
-/// `NoMemory` where room for it is refused, never where the capacity is there; a part of it may then stand after the
-/// bytes.
+/// `NoMemory` if `out` must grow and cannot, never if it has the capacity. A part of the spelling may then be appended.
 pub fn put_change(out: &mut Vec<u8>, change: &Change) -> Result<(), NoMemory>
     requires { bad_shape change.now ≡ None }
     ensures bytes { OnOk result (out.new.items ≡ out.old.items ++ change_bytes change.now) }
@@ -46,7 +45,7 @@ pub fn put_change(out: &mut Vec<u8>, change: &Change) -> Result<(), NoMemory>
     put_fields(out, change)
 }
 
-// The same for any change whose texts have lengths of one byte.
+// The same for any change, if the length of each text fits in one byte.
 fn put_fields(out: &mut Vec<u8>, change: &Change) -> Result<(), NoMemory>
     requires { ChangeIsShort change.now }
     ensures bytes { OnOk result (out.new.items ≡ out.old.items ++ change_bytes change.now) }
@@ -89,7 +88,7 @@ fn put_fields(out: &mut Vec<u8>, change: &Change) -> Result<(), NoMemory>
     }
 }
 
-// A tag and a text.
+// Appends a tag and a text.
 fn put_one(out: &mut Vec<u8>, tag: u8, first: &Text) -> Result<(), NoMemory>
     requires { IsShort first.now }
     ensures bytes { OnOk result (out.new.items ≡ out.old.items ++ tag ∷ text first.now) }
@@ -100,7 +99,7 @@ fn put_one(out: &mut Vec<u8>, tag: u8, first: &Text) -> Result<(), NoMemory>
     put_text(out, first.as_bytes())
 }
 
-// A tag and two texts.
+// Appends a tag and two texts.
 fn put_two(out: &mut Vec<u8>, tag: u8, first: &Text, second: &Text) -> Result<(), NoMemory>
     requires first { IsShort first.now }
     requires second { IsShort second.now }
@@ -112,7 +111,7 @@ fn put_two(out: &mut Vec<u8>, tag: u8, first: &Text, second: &Text) -> Result<()
     put_text(out, second.as_bytes())
 }
 
-// A tag, a text and flags.
+// Appends a tag, a text and flags.
 fn put_set(out: &mut Vec<u8>, tag: u8, handle: &Text, letters: Flags) -> Result<(), NoMemory>
     requires { IsShort handle.now }
     ensures bytes { OnOk result (out.new.items ≡ out.old.items ++ tag ∷ (text handle.now ++ flags letters)) }
@@ -123,20 +122,20 @@ fn put_set(out: &mut Vec<u8>, tag: u8, handle: &Text, letters: Flags) -> Result<
     put_flags(out, letters)
 }
 
-/// The change at the front of some bytes.
+/// Reads the change at the front of `bytes`.
 ///
 /// # Errors
 /// `Refused` with the first fault of the bytes from the left: [`CodecFault::Short`](crate::CodecFault::Short),
-/// `BadTag` or `NotCanonical`. `NoMemory` where there is none and room for the change's texts is refused.
+/// `BadTag` or `NotCanonical`. `NoMemory` if there is no fault and the change's texts cannot be allocated.
 pub fn read_change(alloc: Global, bytes: &[u8]) -> Result<Decoded<Change>, CodecError>
     ensures good { IfOk result (λ read. IsGoodChange read.value) }
-    // What is read is spelled at the front of the bytes.
+    // The front of the bytes is the spelling of what is read.
     ensures front { IfOk result (λ read. take read.used bytes.now ≡ change_bytes read.value) }
     ensures used { IfOk result (λ read. read.used ≡ length (change_bytes read.value)) }
-    // What is spelled at the front of the bytes is read.
+    // If the front of the bytes is the spelling of a change, that change is read.
     ensures only { (change : Change) (rest : List ℕ) → IsGoodChange change
         → bytes.now ≡ change_bytes change ++ rest → Reads result change (length (change_bytes change)) }
-    // Which fault it is.
+    // Which fault a failed read returns.
     ensures exact { Decodes bytes.now result (change_at bytes.now) }
 {
     decode(alloc, bytes)

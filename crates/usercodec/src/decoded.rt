@@ -7,7 +7,7 @@ use std::alloc::Global;
 pub struct Decoded<T> {
     /// The value.
     pub value: T,
-    /// How many bytes spell it; what stands after them was not looked at.
+    /// The number of bytes that spell the value. The bytes after them were not read.
     pub used: usize,
 }
 

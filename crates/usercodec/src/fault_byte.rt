@@ -1,10 +1,10 @@
-// The byte that tells why the userfile refused a change: the number of its letter U.
+// The byte that says why the userfile refused a change: the number of the refusal's U code.
 ghost use Rattle.std.specs.Prelude.{◌≡◌};
 ghost use Rattle.usercodec.specs.FaultBytes.{fault_byte, fault_from};
 
 use userfile::ChangeFault;
 
-/// The byte that tells why the userfile refused a change: the number of its code, 1 for U1 to 11 for U11.
+/// Returns the byte for the refusal `fault`: the number of its code, 1 for U1 to 11 for U11.
 pub fn byte_of_fault(fault: ChangeFault) -> u8
     ensures { result ≡ fault_byte fault }
 {
@@ -23,7 +23,7 @@ pub fn byte_of_fault(fault: ChangeFault) -> u8
     }
 }
 
-/// The fault that such a byte tells; none for any other byte.
+/// Returns the fault that `byte` stands for, or `None` if it is not from 1 to 11.
 #[tactic(auto, unfolding(crate::specs::FaultBytes::fault_from))]
 pub fn fault_of_byte(byte: u8) -> Option<ChangeFault>
     ensures { result ≡ fault_from byte }

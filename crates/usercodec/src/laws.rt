@@ -1,4 +1,4 @@
-// What the spellings promise to whoever frames or stores them, proved of the definitions.
+// What code that frames or stores spellings can rely on, proved of the definitions.
 ghost use Rattle.std.specs.Prelude.{◌≡◌, ◌↔◌, ℕ, List, ◌∷◌, ◌++◌, Err};
 ghost use Rattle.userfile.specs.declared.change.Change.{Change};
 ghost use Rattle.usercodec.specs.declared.records.Record.{Record};
@@ -9,35 +9,35 @@ ghost use Rattle.usercodec.specs.Records.{record_bytes, IsGoodRecord, is_record_
 ghost use Rattle.usercodec.specs.Old.{change_bytes_old, IsGoodChangeOld, is_change_tag_old, change_at_old};
 ghost use Rattle.usercodec.specs.Old.{record_bytes_old, IsGoodRecordOld, is_record_tag_old, record_at_old};
 
-/// The laws of the spellings of changes. It does nothing: what it ensures holds of any changes and bytes.
+/// States the laws of the spellings of changes, which hold for any changes and bytes. Does nothing at run time.
 pub fn laws_of_changes()
     // No spelling begins another, so each change has one, whatever follows it.
     ensures apart { (a b : Change) (x y : List ℕ) → IsGoodChange a → IsGoodChange b
         → change_bytes a ++ x ≡ change_bytes b ++ y → (a ≡ b) × (x ≡ y) }
-    // A spelling that is cut is too short.
+    // A spelling that is cut reads as `Short`.
     ensures cut { (change : Change) (front : List ℕ) (next : ℕ) (rest : List ℕ) → IsGoodChange change
         → change_bytes change ≡ front ++ next ∷ rest → change_at front ≡ Err Short }
     // More bytes change nothing, unless bytes were missing.
     ensures stays { (bytes more : List ℕ) → Stays (change_at bytes) (change_at (bytes ++ more)) more }
-    // Only the tag is told as a bad tag.
+    // `BadTag` comes exactly if the first byte is not one of the tags.
     ensures tag { (bytes : List ℕ) → (change_at bytes ≡ Err BadTag) ↔ BeginsUnknown is_change_tag bytes }
 {}
 
-/// The laws of the spellings of records. It does nothing: what it ensures holds of any records and bytes.
+/// States the laws of the spellings of records, which hold for any records and bytes. Does nothing at run time.
 pub fn laws_of_records()
     // No spelling begins another, so each record has one, whatever follows it.
     ensures apart { (a b : Record) (x y : List ℕ) → IsGoodRecord a → IsGoodRecord b
         → record_bytes a ++ x ≡ record_bytes b ++ y → (a ≡ b) × (x ≡ y) }
-    // A spelling that is cut is too short.
+    // A spelling that is cut reads as `Short`.
     ensures cut { (value : Record) (front : List ℕ) (next : ℕ) (rest : List ℕ) → IsGoodRecord value
         → record_bytes value ≡ front ++ next ∷ rest → record_at front ≡ Err Short }
     // More bytes change nothing, unless bytes were missing.
     ensures stays { (bytes more : List ℕ) → Stays (record_at bytes) (record_at (bytes ++ more)) more }
-    // Only the tag is told as a bad tag.
+    // `BadTag` comes exactly if the first byte is not one of the tags.
     ensures tag { (bytes : List ℕ) → (record_at bytes ≡ Err BadTag) ↔ BeginsUnknown is_record_tag bytes }
 {}
 
-/// The same laws of changes as layout 1 spelled them.
+/// States the same laws for changes as layout 1 spelled them.
 pub fn laws_of_changes_old()
     ensures apart { (a b : Change) (x y : List ℕ) → IsGoodChangeOld a → IsGoodChangeOld b
         → change_bytes_old a ++ x ≡ change_bytes_old b ++ y → (a ≡ b) × (x ≡ y) }
@@ -47,7 +47,7 @@ pub fn laws_of_changes_old()
     ensures tag { (bytes : List ℕ) → (change_at_old bytes ≡ Err BadTag) ↔ BeginsUnknown is_change_tag_old bytes }
 {}
 
-/// The same laws of records as layout 1 spelled them.
+/// States the same laws for records as layout 1 spelled them.
 pub fn laws_of_records_old()
     ensures apart { (a b : Record) (x y : List ℕ) → IsGoodRecordOld a → IsGoodRecordOld b
         → record_bytes_old a ++ x ≡ record_bytes_old b ++ y → (a ≡ b) × (x ≡ y) }

@@ -1,39 +1,39 @@
 //! Changes and records of a userfile as bytes, one spelling for each.
 //!
-//! A spelling is a byte that is the value's tag, and the value's fields one after the other. The format is our own.
+//! A spelling is the value's tag, one byte, and then the value's fields, one after the other. The format is our own.
 //!
 //! | field | bytes |
 //! |---|---|
-//! | a text (handle, mask, channel, comment, info text) | a byte that is its length, and its bytes |
+//! | a text (handle, mask, channel, comment, info text) | its length in one byte, and its bytes |
 //! | flags | eight bytes, the most significant first: bits 0 to 25 are `a` to `z`, bits 26 to 51 are `A` to `Z` |
 //! | a moment | eight bytes, the most significant first |
-//! | a mark | a byte: 1 where it is set, else 0 |
-//! | a list | a byte that is its count, and its items |
+//! | a mark | a byte: 1 if it is set, else 0 |
+//! | a list | its count in one byte, and its items |
 //!
 //! | tag | change | fields |
 //! |---|---|---|
 //! | 1, 2 | adds, deletes a user | handle |
 //! | 3, 4 | adds, deletes a hostmask | handle, mask |
-//! | 5 | sets the flags that hold everywhere | handle, flags |
+//! | 5 | sets the flags that a user has everywhere | handle, flags |
 //! | 6 | sets the flags on a channel | handle, channel, flags |
 //! | 7 | sets the flags as a bot | handle, flags |
 //! | 8 | adds a ban | channel (the empty text for all), mask, creator, moment of the end, comment |
 //! | 9 | deletes a ban | channel, mask |
 //! | 10 | sets a user's info text | handle, info text |
-//! | 11 | makes a ban sticky, or no longer | channel, mask, mark |
+//! | 11 | makes a ban sticky, or no longer sticky | channel, mask, mark |
 //!
 //! | tag | record | fields |
 //! |---|---|---|
-//! | 3 | a user | handle, list of masks, flags everywhere, list of channels with their flags, flags as a bot, info text |
-//! | 4 | a ban | those of a change that adds one, and a mark where it is sticky |
+//! | 3 | a user | handle, list of masks, flags everywhere, list of channels with their flags, bot flags, info text |
+//! | 4 | a ban | those of a change that adds one, and a mark that says whether it is sticky |
 //!
-//! Layout 1 had neither info texts nor sticky bans: changes of the tags 1 to 9 alone, and records of the tags 1 and 2,
-//! which end before the info text and the mark. [`read_change_old`] and [`read_record_old`] read these.
+//! Layout 1 had neither info texts nor sticky bans. Its changes have only the tags 1 to 9, and its records the tags 1
+//! and 2, which end before the info text and the mark. [`read_change_old`] and [`read_record_old`] read these.
 //!
-//! Reading takes a value from the front of some bytes and says how many it used. It accepts nothing but the one
-//! spelling of a value that a userfile may hold, so what was read is written back byte for byte. [`laws_of_changes`]
-//! and [`laws_of_records`] say what follows for whoever frames or stores values: no spelling begins another. Whoever
-//! spells values of their own around these reads their fields with a [`Reader`].
+//! A read takes a value from the front of some bytes and returns how many bytes it used. It accepts only the one
+//! spelling of a value that a userfile may hold, so writing the value again gives the same bytes. [`laws_of_changes`]
+//! and [`laws_of_records`] say what follows for code that frames or stores values: no spelling begins another. Code
+//! that puts values of its own around these reads its fields with a [`Reader`].
 //!
 //! ```text
 //! let bytes = write_change(alloc, &Change::AddUser { handle })?;    // 01 05 a l i c e

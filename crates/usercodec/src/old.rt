@@ -1,4 +1,5 @@
-// Changes and records as layout 1 spelled them. Nothing writes them any more; a journal that has them is read once.
+// Reads changes and records as layout 1 spelled them. Nothing writes them any more; a journal that has them is read
+// once.
 ghost use Rattle.std.specs.Prelude.{◌≡◌, ℕ, List, ◌++◌, length, take, IfOk};
 ghost use Rattle.userfile.specs.declared.change.Change.{Change};
 ghost use Rattle.usercodec.specs.declared.records.Record.{Record};
@@ -17,19 +18,19 @@ use bytetext::Failure;
 use std::alloc::Global;
 use userfile::Change;
 
-/// The change at the front of some bytes, as layout 1 spelled it: as now, but without the tags 10 and 11.
+/// Reads the change at the front of `bytes`, as layout 1 spelled it: as now, but without the tags 10 and 11.
 ///
 /// # Errors
-/// As of [`read_change`](crate::read_change).
+/// Those of [`read_change`](crate::read_change).
 pub fn read_change_old(alloc: Global, bytes: &[u8]) -> Result<Decoded<Change>, CodecError>
     ensures good { IfOk result (λ read. IsGoodChangeOld read.value) }
-    // What is read was spelled so by layout 1.
+    // The front of the bytes is layout 1's spelling of what is read.
     ensures front { IfOk result (λ read. take read.used bytes.now ≡ change_bytes_old read.value) }
     ensures used { IfOk result (λ read. read.used ≡ length (change_bytes_old read.value)) }
-    // What layout 1 spelled is read.
+    // If the front of the bytes is layout 1's spelling of a change, that change is read.
     ensures only { (change : Change) (rest : List ℕ) → IsGoodChangeOld change
         → bytes.now ≡ change_bytes_old change ++ rest → Reads result change (length (change_bytes_old change)) }
-    // Which fault it is.
+    // Which fault a failed read returns.
     ensures exact { Decodes bytes.now result (change_at_old bytes.now) }
 {
     decode_change(alloc, bytes)
@@ -64,20 +65,20 @@ fn fields_old(alloc: Global, tag: u8, reader: &mut Reader<'_>) -> Result<Change,
     Err(Failure::Refused(CodecFault::BadTag))
 }
 
-/// The record at the front of some bytes, as layout 1 spelled it: the tags 1 and 2, a user without an info text and a
-/// ban that isn't sticky.
+/// Reads the record at the front of `bytes`, as layout 1 spelled it: the tags 1 and 2, a user without an info text and
+/// a ban that isn't sticky.
 ///
 /// # Errors
-/// As of [`read_record`](crate::read_record).
+/// Those of [`read_record`](crate::read_record).
 pub fn read_record_old(alloc: Global, bytes: &[u8]) -> Result<Decoded<Record>, CodecError>
     ensures good { IfOk result (λ read. IsGoodRecordOld read.value) }
-    // What is read was spelled so by layout 1.
+    // The front of the bytes is layout 1's spelling of what is read.
     ensures front { IfOk result (λ read. take read.used bytes.now ≡ record_bytes_old read.value) }
     ensures used { IfOk result (λ read. read.used ≡ length (record_bytes_old read.value)) }
-    // What layout 1 spelled is read.
+    // If the front of the bytes is layout 1's spelling of a record, that record is read.
     ensures only { (value : Record) (rest : List ℕ) → IsGoodRecordOld value
         → bytes.now ≡ record_bytes_old value ++ rest → Reads result value (length (record_bytes_old value)) }
-    // Which fault it is.
+    // Which fault a failed read returns.
     ensures exact { Decodes bytes.now result (record_at_old bytes.now) }
 {
     decode_record(alloc, bytes)

@@ -1,4 +1,4 @@
-// The fields at the front of some bytes.
+// Reads the fields at the front of some bytes.
 ghost use Rattle.std.specs.Prelude.{◌≡◌};
 
 use crate::change_fields::change;
@@ -16,9 +16,9 @@ use userfile::{Change, ChangeFault, is_ban_channel, is_comment, is_handle, is_ho
 
 /// Reads fields from the front of some bytes, one after the other. Contracts see the bytes that are still to be read.
 ///
-/// Each call steps over the field that it answers; where it answers an error, the reader is as before. Numbers have
+/// Each call returns a field and steps over it. A call that returns an error leaves the reader unchanged. Numbers have
 /// their most significant byte first. Only [`change`](Reader::change), [`record`](Reader::record),
-/// [`records`](Reader::records) and those of layout 1 take memory.
+/// [`records`](Reader::records) and those of layout 1 allocate.
 ///
 /// ```text
 /// let mut reader = Reader::new(b"\x00\x02\x07alice");
@@ -50,24 +50,24 @@ impl<'a> Reader<'a> {
     ghost use Rattle.usercodec.specs.Records.{record_at, so_many_records_at};
     ghost use Rattle.usercodec.specs.Old.{change_at_old, so_many_records_at_old};
 
-    /// A reader at the begin of some bytes.
+    /// Creates a reader at the beginning of `bytes`.
     pub fn new(bytes: &'a [u8]) -> Reader<'a>
         ensures { result ≡ bytes.now }
     {
         Reader { rest: bytes }
     }
 
-    /// Whether no byte is left.
+    /// Returns whether no byte is left.
     pub fn is_empty(&self) -> bool
         ensures { IsTrue result ↔ (self.now ≡ []) }
     {
         self.rest.is_empty()
     }
 
-    /// So many bytes.
+    /// Reads `count` bytes.
     ///
     /// # Errors
-    /// `Refused` with [`CodecFault::Short`] where fewer are left.
+    /// `Refused` with [`CodecFault::Short`] if fewer are left.
     #[tactic(auto, unfolding(crate::specs::Fields::bytes_at))]
     pub fn bytes(&mut self, count: usize) -> Result<&'a [u8], CodecError>
         ensures value { Gives (λ bytes. (bytes.now, self.new)) result (bytes_at count self.old) }
@@ -82,10 +82,10 @@ impl<'a> Reader<'a> {
         Ok(front)
     }
 
-    /// One byte.
+    /// Reads one byte.
     ///
     /// # Errors
-    /// `Refused` with [`CodecFault::Short`] where none is left.
+    /// `Refused` with [`CodecFault::Short`] if none is left.
     #[tactic(auto, unfolding(crate::specs::Fields::byte_at))]
     pub fn byte(&mut self) -> Result<u8, CodecError>
         ensures value { Gives (λ byte. (byte, self.new)) result (byte_at self.old) }
@@ -101,10 +101,10 @@ impl<'a> Reader<'a> {
         }
     }
 
-    /// A number of two bytes.
+    /// Reads a number of two bytes.
     ///
     /// # Errors
-    /// As of [`bytes`](Reader::bytes).
+    /// Those of [`bytes`](Reader::bytes).
     #[tactic(auto, unfolding(crate::specs::Fields::number_at))]
     pub fn u16(&mut self) -> Result<u16, CodecError>
         ensures value { Gives (λ n. (n, self.new)) result (number_at w16 self.old) }
@@ -114,10 +114,10 @@ impl<'a> Reader<'a> {
         Ok(u16::from_be_bytes([digits[0], digits[1]]))
     }
 
-    /// A number of four bytes.
+    /// Reads a number of four bytes.
     ///
     /// # Errors
-    /// As of [`bytes`](Reader::bytes).
+    /// Those of [`bytes`](Reader::bytes).
     #[tactic(auto, unfolding(crate::specs::Fields::number_at))]
     pub fn u32(&mut self) -> Result<u32, CodecError>
         ensures value { Gives (λ n. (n, self.new)) result (number_at w32 self.old) }
@@ -127,10 +127,10 @@ impl<'a> Reader<'a> {
         Ok(u32::from_be_bytes([digits[0], digits[1], digits[2], digits[3]]))
     }
 
-    /// Why the userfile refused a change: see [`fault_of_byte`].
+    /// Reads the byte that says why the userfile refused a change: see [`fault_of_byte`].
     ///
     /// # Errors
-    /// `Refused` with [`CodecFault::Short`] where no byte is left, `NotCanonical` where the byte tells no fault.
+    /// `Refused` with [`CodecFault::Short`] if no byte is left, with `NotCanonical` if the byte stands for no fault.
     #[tactic(auto, unfolding(crate::specs::FaultBytes::fault_at, crate::specs::Fields::byte_at))]
     pub fn fault(&mut self) -> Result<ChangeFault, CodecError>
         ensures value { Gives (λ fault. (fault, self.new)) result (fault_at self.old) }
@@ -147,11 +147,11 @@ impl<'a> Reader<'a> {
         }
     }
 
-    /// A change: see [`read_change`](crate::read_change).
+    /// Reads a change: see [`read_change`](crate::read_change).
     ///
     /// # Errors
-    /// `Refused` with the first fault of the bytes from the left, `NoMemory` where there is none and room for the
-    /// change's texts is refused.
+    /// `Refused` with the first fault of the bytes from the left, `NoMemory` if there is no fault and the change's
+    /// texts cannot be allocated.
     pub fn change(&mut self, alloc: Global) -> Result<Change, CodecError>
         ensures value { Makes (λ change. (change, self.new)) result (change_at self.old) }
         ensures unchanged { OnErr result (self.new ≡ self.old) }
@@ -162,11 +162,11 @@ impl<'a> Reader<'a> {
         Ok(change)
     }
 
-    /// A record: see [`read_record`](crate::read_record).
+    /// Reads a record: see [`read_record`](crate::read_record).
     ///
     /// # Errors
-    /// `Refused` with the first fault of the bytes from the left, `NoMemory` where there is none and room for the
-    /// record is refused.
+    /// `Refused` with the first fault of the bytes from the left, `NoMemory` if there is no fault and the record cannot
+    /// be allocated.
     pub fn record(&mut self, alloc: Global) -> Result<Record, CodecError>
         ensures value { Makes (λ value. (value, self.new)) result (record_at self.old) }
         ensures unchanged { OnErr result (self.new ≡ self.old) }
@@ -177,14 +177,14 @@ impl<'a> Reader<'a> {
         Ok(value)
     }
 
-    /// So many records, one after the other.
+    /// Reads `count` records, one after the other.
     ///
     /// # Errors
-    /// `Refused` with the first fault of the bytes from the left. `NoMemory` where room for a record is refused: a fault
-    /// may then follow. Neither where none is asked for.
+    /// `Refused` with the first fault of the bytes from the left. `NoMemory` if a record cannot be allocated; bytes
+    /// that were not read yet may then have a fault. Neither if `count` is 0.
     pub fn records(&mut self, alloc: Global, count: usize) -> Result<Vec<Record>, CodecError>
         ensures value { Finds (λ records. (records.items, self.new)) result (so_many_records_at count self.old) }
-        // To read none takes no memory, and is never refused.
+        // Reading no records neither allocates nor fails.
         ensures memory { IfErr result (λ _. 0 < count) }
         ensures unchanged { OnErr result (self.new ≡ self.old) }
     {
@@ -194,10 +194,10 @@ impl<'a> Reader<'a> {
         Ok(records)
     }
 
-    /// A change as layout 1 spelled it: see [`read_change_old`](crate::read_change_old).
+    /// Reads a change as layout 1 spelled it: see [`read_change_old`](crate::read_change_old).
     ///
     /// # Errors
-    /// As of [`change`](Reader::change).
+    /// Those of [`change`](Reader::change).
     pub fn change_old(&mut self, alloc: Global) -> Result<Change, CodecError>
         ensures value { Makes (λ change. (change, self.new)) result (change_at_old self.old) }
         ensures unchanged { OnErr result (self.new ≡ self.old) }
@@ -208,10 +208,11 @@ impl<'a> Reader<'a> {
         Ok(change)
     }
 
-    /// So many records as layout 1 spelled them, one after the other: see [`read_record_old`](crate::read_record_old).
+    /// Reads `count` records as layout 1 spelled them, one after the other: see
+    /// [`read_record_old`](crate::read_record_old).
     ///
     /// # Errors
-    /// As of [`records`](Reader::records).
+    /// Those of [`records`](Reader::records).
     pub fn records_old(&mut self, alloc: Global, count: usize) -> Result<Vec<Record>, CodecError>
         ensures value { Finds (λ records. (records.items, self.new)) result (so_many_records_at_old count self.old) }
         ensures memory { IfErr result (λ _. 0 < count) }
@@ -224,7 +225,7 @@ impl<'a> Reader<'a> {
     }
 }
 
-// The fields of changes and records. After a fault nothing is said of the reader.
+// The fields of changes and records. The clauses do not say where a fault leaves the reader.
 impl<'a> Reader<'a> {
     ghost use Rattle.std.specs.Prelude.{◌≡◌, ◌≤◌, length, IfOk};
     ghost use Rattle.std.specs.Int.{w64};
@@ -232,7 +233,7 @@ impl<'a> Reader<'a> {
     ghost use Rattle.usercodec.specs.Fields.{number_at, text_at, count_at, flags_at};
     ghost use Rattle.usercodec.specs.Fields.{handle_at, hostmask_at, channel_at, ban_channel_at, comment_at, info_at, mark_at};
 
-    // How many bytes are left.
+    // The number of bytes that are left.
     pub(crate) fn len(&self) -> usize
         ensures { result ≡ length self.now }
     {
@@ -339,7 +340,7 @@ ghost use Rattle.std.specs.Prelude.{Ok, Err, if◌then◌else◌};
 ghost use Rattle.bytetext.specs.declared.failure.Failure.TheVariants.{Refused};
 ghost use Rattle.usercodec.specs.declared.fault.CodecFault.TheVariants.{NotCanonical};
 
-// A field that is whole, if it passes its test.
+// Returns a complete field if it passes its test, else `NotCanonical`.
 pub(crate) fn keep_if<T: Drop>(test: bool, field: T) -> Result<T, CodecError>
     ensures { result ≡ (if test then Ok field else Err (Refused NotCanonical)) }
 {

@@ -1,4 +1,4 @@
-// Several records, one after the other.
+// Writes and reads several records, one after the other.
 ghost use Rattle.std.specs.Prelude.{◌≡◌, ◌≤◌, ◌<◌, ◌+◌, ◌++◌, length, OnOk, OnErr, IfErr, vec_capacity, vec_len};
 ghost use Rattle.std.specs.List.{AllByRecursion, flat_map};
 ghost use Rattle.usercodec.specs.Answers.{Finds};
@@ -12,11 +12,11 @@ use crate::records::{Record, put_record, tagged_record};
 use bytetext::NoMemory;
 use std::alloc::Global;
 
-/// Writes the one spelling of each record after some bytes, one after the other. How many there are is not written.
+/// Appends the one spelling of each of the `records` to `out`, one after the other, without their number.
 ///
 /// # Errors
-/// `NoMemory` where room for them is refused, never where the capacity is there; a part of them may then stand after
-/// the bytes.
+/// `NoMemory` if `out` must grow and cannot, never if it has the capacity. A part of the spellings may then be
+/// appended.
 pub fn put_records(out: &mut Vec<u8>, records: &[Record]) -> Result<(), NoMemory>
     requires { AllByRecursion HasShape records.now }
     ensures bytes { OnOk result (out.new.items ≡ out.old.items ++ flat_map record_bytes records.now) }
@@ -47,7 +47,7 @@ pub(crate) fn tagged_records(
     Ok(records)
 }
 
-// The same of layout 1.
+// The same for layout 1.
 pub(crate) fn tagged_records_old(
     alloc: Global,
     reader: &mut Reader<'_>,

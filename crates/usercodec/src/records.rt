@@ -1,4 +1,4 @@
-// Records as bytes.
+// Writes and reads records as bytes.
 ghost use Rattle.std.specs.Prelude.{◌≡◌, ℕ, List, ◌++◌, ◌∷◌, length, take, IfOk, OnOk};
 ghost use Rattle.std.specs.Prelude.{◌≤◌, ◌<◌, ◌+◌, OnErr, vec_capacity, vec_len};
 ghost use Rattle.usercodec.specs.declared.records.Record.{Record};
@@ -33,10 +33,10 @@ impl TryCopy for Record {
     }
 }
 
-/// The one spelling of a record. Its shape is to be good, as the userfile that holds it makes sure.
+/// Returns the one spelling of the record `value`. The record must have a good shape, as each record of a userfile has.
 ///
 /// # Errors
-/// `NoMemory` where room for it is refused.
+/// `NoMemory` if the spelling cannot be allocated.
 pub fn write_record(alloc: Global, value: &Record) -> Result<Vec<u8>, NoMemory>
     requires { HasShape value.now }
     ensures { IfOk result (λ bytes. bytes.items ≡ record_bytes value.now) }
@@ -46,11 +46,10 @@ pub fn write_record(alloc: Global, value: &Record) -> Result<Vec<u8>, NoMemory>
     Ok(bytes)
 }
 
-/// Writes the one spelling of a record after some bytes.
+/// Appends the one spelling of the record `value` to `out`.
 ///
 /// # Errors
-/// `NoMemory` where room for it is refused, never where the capacity is there; a part of it may then stand after the
-/// bytes.
+/// `NoMemory` if `out` must grow and cannot, never if it has the capacity. A part of the spelling may then be appended.
 pub fn put_record(out: &mut Vec<u8>, value: &Record) -> Result<(), NoMemory>
     requires { HasShape value.now }
     ensures bytes { OnOk result (out.new.items ≡ out.old.items ++ record_bytes value.now) }
@@ -63,20 +62,20 @@ pub fn put_record(out: &mut Vec<u8>, value: &Record) -> Result<(), NoMemory>
     }
 }
 
-/// The record at the front of some bytes.
+/// Reads the record at the front of `bytes`.
 ///
 /// # Errors
 /// `Refused` with the first fault of the bytes from the left: [`CodecFault::Short`](crate::CodecFault::Short),
-/// `BadTag` or `NotCanonical`. `NoMemory` where there is none and room for the record is refused.
+/// `BadTag` or `NotCanonical`. `NoMemory` if there is no fault and the record cannot be allocated.
 pub fn read_record(alloc: Global, bytes: &[u8]) -> Result<Decoded<Record>, CodecError>
     ensures good { IfOk result (λ read. IsGoodRecord read.value) }
-    // What is read is spelled at the front of the bytes.
+    // The front of the bytes is the spelling of what is read.
     ensures front { IfOk result (λ read. take read.used bytes.now ≡ record_bytes read.value) }
     ensures used { IfOk result (λ read. read.used ≡ length (record_bytes read.value)) }
-    // What is spelled at the front of the bytes is read.
+    // If the front of the bytes is the spelling of a record, that record is read.
     ensures only { (value : Record) (rest : List ℕ) → IsGoodRecord value
         → bytes.now ≡ record_bytes value ++ rest → Reads result value (length (record_bytes value)) }
-    // Which fault it is.
+    // Which fault a failed read returns.
     ensures exact { Decodes bytes.now result (record_at bytes.now) }
 {
     decode(alloc, bytes)

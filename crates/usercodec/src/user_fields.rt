@@ -1,5 +1,5 @@
-// The fields of a user as a record holds them. All of them are read before the first copy, so memory is asked for only
-// where the bytes are a user.
+// Reads the fields of a user from a record. It reads all of them before the first copy, so it allocates only if the
+// bytes are a user.
 ghost use Rattle.std.specs.Prelude.{◌≡◌, ◌≤◌, not, [], IfOk};
 ghost use Rattle.std.specs.List.{list_any};
 ghost use Rattle.rfccase.specs.Casemapping.{is_same};
@@ -17,7 +17,7 @@ use rfccase::same;
 use std::alloc::Global;
 use userfile::{ChannelEntries, ChannelFlags, Hostmask, Hostmasks, MAX_CHANNELS, MAX_MASKS, User};
 
-// A user whose texts still lie in the bytes that were read.
+// A user whose texts are still borrowed from the bytes that were read.
 #[derive(Drop)]
 pub(crate) struct UserFields<'a> {
     handle: &'a [u8],
@@ -28,14 +28,14 @@ pub(crate) struct UserFields<'a> {
     info: &'a [u8],
 }
 
-// A user's flags on a channel whose name still lies in the bytes that were read.
+// A user's flags on a channel, whose name is still borrowed from the bytes that were read.
 #[derive(Clone, Copy)]
 pub(crate) struct EntryFields<'a> {
     channel: &'a [u8],
     flags: Flags,
 }
 
-// What stands in the places of a list that are not in use.
+// The value of a list's unused entries.
 impl<'a> Default for EntryFields<'a> {
     fn default() -> EntryFields<'a> {
         EntryFields {
@@ -54,7 +54,7 @@ pub(crate) fn user_fields<'a>(reader: &mut Reader<'a>) -> Result<UserFields<'a>,
     Ok(user)
 }
 
-// The fields before the info text, which is empty then.
+// Reads the fields before the info text, and leaves the info text empty.
 #[tactic(auto, unfolding(crate::specs::Records::plain_user_at))]
 pub(crate) fn plain_user_fields<'a>(reader: &mut Reader<'a>) -> Result<UserFields<'a>, CodecError>
     ensures { Gives (λ fields. (user_of fields, reader.new)) result (plain_user_at reader.old) }
@@ -176,7 +176,7 @@ impl<'a> UserFields<'a> {
     ghost use Rattle.std.specs.Prelude.{◌≡◌, IfOk};
     ghost use Rattle.usercodec.specs.Users.{user_of};
 
-    // The user of these fields.
+    // Copies these fields into a user.
     pub(crate) fn copy(&self, alloc: Global) -> Result<User, NoMemory>
         ensures { IfOk result (λ user. user ≡ user_of self.now) }
     {
@@ -204,7 +204,7 @@ fn hostmasks(alloc: Global, texts: &[&[u8]]) -> Result<Vec<Hostmask>, NoMemory>
     Ok(masks)
 }
 
-// The hostmask of a text that is one, so that only memory can be refused.
+// Creates the hostmask of a text that is one, so that only the allocation can fail.
 pub(crate) fn hostmask(alloc: Global, text: &[u8]) -> Result<Hostmask, NoMemory>
     ensures { IfOk result (λ mask. mask ≡ text.now) }
 {

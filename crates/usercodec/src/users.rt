@@ -1,4 +1,4 @@
-// Users, written as records.
+// Writes users as records.
 ghost use Rattle.std.specs.Prelude.{◌≡◌, ◌≤◌, ◌++◌, ◌∷◌, length, OnOk, true, false};
 ghost use Rattle.std.specs.Prelude.{◌<◌, ◌+◌, OnErr, vec_capacity, vec_len};
 ghost use Rattle.std.specs.List.{flat_map, list_all};
@@ -10,11 +10,10 @@ use crate::writer::{put_byte, put_flags, put_text};
 use bytetext::NoMemory;
 use userfile::{ChannelFlags, Hostmask, User};
 
-/// Writes the one spelling of a user's record after some bytes.
+/// Appends the one spelling of `user` as a record to `out`.
 ///
 /// # Errors
-/// `NoMemory` where room for it is refused, never where the capacity is there; a part of it may then stand after the
-/// bytes.
+/// `NoMemory` if `out` must grow and cannot, never if it has the capacity. A part of the spelling may then be appended.
 pub fn put_user(out: &mut Vec<u8>, user: &User) -> Result<(), NoMemory>
     requires own { is_user user.now ≡ true }
     requires few { is_over user.now ≡ false }

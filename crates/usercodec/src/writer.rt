@@ -1,4 +1,4 @@
-// Fields at the end of some bytes.
+// Appends fields to some bytes.
 ghost use Rattle.std.specs.Prelude.{◌≡◌, ◌++◌, ◌∷◌, [], ◌<◌, ◌≤◌, ◌+◌, OnOk, OnErr, length, vec_capacity, vec_len};
 ghost use Rattle.std.specs.Int.{w16, w32, w64};
 ghost use Rattle.usercodec.specs.Fields.{number, text, flags, mark};
@@ -15,10 +15,10 @@ pub(crate) fn put_byte(out: &mut Vec<u8>, byte: u8) -> Result<(), NoMemory>
     Ok(())
 }
 
-/// Puts a number after some bytes, its most significant byte first.
+/// Appends the number `n` to `out` as two bytes, the most significant first.
 ///
 /// # Errors
-/// `NoMemory` where room for it is refused, never where the capacity is there.
+/// `NoMemory` if `out` must grow and cannot, never if it has the capacity.
 pub fn put_u16(out: &mut Vec<u8>, n: u16) -> Result<(), NoMemory>
     ensures bytes { OnOk result (out.new.items ≡ out.old.items ++ number w16 n) }
     ensures memory { OnErr result (vec_capacity out.old < vec_len out.old + 2) }
@@ -28,10 +28,10 @@ pub fn put_u16(out: &mut Vec<u8>, n: u16) -> Result<(), NoMemory>
     Ok(())
 }
 
-/// Puts a number after some bytes, its most significant byte first.
+/// Appends the number `n` to `out` as four bytes, the most significant first.
 ///
 /// # Errors
-/// `NoMemory` where room for it is refused, never where the capacity is there.
+/// `NoMemory` if `out` must grow and cannot, never if it has the capacity.
 pub fn put_u32(out: &mut Vec<u8>, n: u32) -> Result<(), NoMemory>
     ensures bytes { OnOk result (out.new.items ≡ out.old.items ++ number w32 n) }
     ensures memory { OnErr result (vec_capacity out.old < vec_len out.old + 4) }

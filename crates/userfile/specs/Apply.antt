@@ -1,4 +1,4 @@
--- What a change makes of the records, and when it is refused. The changes are those of Eggdrop's .+user, .-user, .+host,
+-- What a change makes of the records, and when it is refused. The changes are Eggdrop's .+user, .-user, .+host,
 -- .-host, .chattr, .botattr, .+ban, .-ban, .chinfo, .stick and .unstick; the order of the refusals is our own choice.
 use Rattle.std.specs.Prelude.{◌≡◌, ℕ, List, [], ◌∷◌, ◌++◌, Bool, true, false, not, ◌||◌, nat_lt, ◌==◌, length, map, if◌then◌else◌, Option, None, Some, Result}
 use Rattle.std.specs.Prelude.{Ok, Err}
@@ -21,11 +21,11 @@ use Rattle.userfile.specs.declared.limits.TheConstants.{MAX_USERS, MAX_BANS, MAX
 
 -- ---- refusals
 
--- this fault where the test passes
+-- the fault, if the test passes
 abbrev pub fault_if : Bool → ChangeFault → Option ChangeFault
 fault_if test fault = if test then Some fault else None
 
--- this fault where the test fails
+-- the fault, if the test fails
 abbrev pub fault_unless : Bool → ChangeFault → Option ChangeFault
 fault_unless test fault = if test then None else Some fault
 
@@ -34,8 +34,8 @@ abbrev pub first_of_two : Option ChangeFault → Option ChangeFault → Option C
 first_of_two None later = later
 first_of_two (Some fault) later = Some fault
 
--- the refusal for the change's own shape: its handle or creator, its mask, its channel, its comment or info text, in this
--- order
+-- the refusal for the change's own shape: its handle or creator, its mask, its channel, its comment or info text, in
+-- this order
 abbrev pub bad_shape : Change → Option ChangeFault
 bad_shape (AddUser handle) = fault_unless (is_handle handle) BadHandle
 bad_shape (DelUser handle) = fault_unless (is_handle handle) BadHandle
@@ -53,26 +53,26 @@ bad_shape (DelBan channel mask) = first_of_two (fault_unless (is_hostmask mask) 
 bad_shape (SetInfo handle info) = first_of_two (fault_unless (is_handle handle) BadHandle) (fault_unless (is_info info) BadComment)
 bad_shape (SetSticky channel mask on) = first_of_two (fault_unless (is_hostmask mask) BadMask) (fault_unless (is_ban_channel channel) BadChannel)
 
--- the refusal of a user's edit: there is no such user, or what the edit says of the user that there is
+-- the refusal of a user's edit: NoSuchUser if there is no such user, else what the test returns for the user
 abbrev pub of_user : Option User → (User → Option ChangeFault) → Option ChangeFault
 of_user None test = Some NoSuchUser
 of_user (Some user) test = test user
 
--- why a user can't be given a mask: the user has it, or there is no place for one more
+-- why a user can't be given a mask: the user has it, or there is no room for one more
 abbrev pub add_mask_fault : List ℕ → User → Option ChangeFault
 add_mask_fault mask user =
     first_of_two (fault_if (has_mask mask user.masks) MaskExists) (fault_unless (nat_lt (length user.masks) MAX_MASKS) Full)
 
--- why a mask can't be taken from a user: the user doesn't have it
+-- why a mask can't be removed from a user: the user doesn't have it
 abbrev pub del_mask_fault : List ℕ → User → Option ChangeFault
 del_mask_fault mask user = fault_unless (has_mask mask user.masks) NoSuchMask
 
--- why a user's flags on a channel can't be set: there would be one entry more, and no place for it
+-- why a user's flags on a channel can't be set: they need one more entry, and there is no room for it
 abbrev pub set_channel_fault : List ℕ → ℕ → User → Option ChangeFault
 set_channel_fault channel flags user =
     fault_unless (flags == 0 || has_entry channel user.channels || nat_lt (length user.channels) MAX_CHANNELS) Full
 
--- the refusal for what the records hold and for their limits, of a change of good shape
+-- the refusal of a change of good shape, for what the records hold and for their limits
 abbrev pub not_taken : Records → Change → Option ChangeFault
 not_taken old (AddUser handle) =
     first_of_two (fault_if (has_user handle old.users) UserExists) (fault_unless (nat_lt (length old.users) MAX_USERS) Full)
@@ -88,13 +88,13 @@ not_taken old (DelBan channel mask) = fault_unless (has_ban channel mask old.ban
 not_taken old (SetInfo handle info) = fault_unless (has_user handle old.users) NoSuchUser
 not_taken old (SetSticky channel mask on) = fault_unless (has_ban channel mask old.bans) NoSuchBan
 
--- the first refusal that holds, in the order: shape, what is held, limits
+-- the first refusal that applies, in this order: shape, what the records hold, limits
 abbrev pub refusal : Records → Change → Option ChangeFault
 refusal old change = first_of_two (bad_shape change) (not_taken old change)
 
 -- ---- what a change makes
 
--- a user without hostmasks, flags and an info text
+-- a user without hostmasks, flags or an info text
 abbrev pub new_user : List ℕ → User
 new_user handle = record { handle = handle; masks = []; global = 0; channels = []; bot = 0; info = [] }
 
@@ -110,7 +110,7 @@ without_mask mask user = record user { masks = masks_without mask user.masks }
 abbrev pub with_global : ℕ → User → User
 with_global flags user = record user { global = flags }
 
--- a user's channels after a change of the flags on one: no flags take its entry out
+-- a user's channels after the flags on one are set: empty flags delete its entry
 abbrev pub set_channel : List ℕ → ℕ → List ChannelFlags → List ChannelFlags
 set_channel channel flags entries =
     if flags == 0 then entries_without channel entries else with_entry (record { channel = channel; flags = flags }) entries
@@ -127,16 +127,16 @@ with_bot flags user = record user { bot = flags }
 abbrev pub with_info : List ℕ → User → User
 with_info info user = record user { info = info }
 
--- the records with the user of the handle as the edit leaves it
+-- the records, the user with the handle edited
 abbrev pub user_edited : Records → List ℕ → (User → User) → Records
 user_edited old handle edit = record old { users = with_user handle edit old.users }
 
--- the ban of these fields, which isn't sticky
+-- a ban with these fields, which isn't sticky
 abbrev pub new_ban : List ℕ → List ℕ → List ℕ → ℕ → List ℕ → Ban
 new_ban channel mask creator expires comment =
     record { channel = channel; mask = mask; creator = creator; expires = expires; comment = comment; sticky = false }
 
--- a ban, marked as sticky or not where it is the one of this channel and mask
+-- a ban, marked as sticky or not if it is the one of this channel and mask
 abbrev pub marked : List ℕ → List ℕ → Bool → Ban → Ban
 marked channel mask on ban = if is_ban channel mask ban then record ban { sticky = on } else ban
 
@@ -158,14 +158,14 @@ changed old (DelBan channel mask) = record old { bans = bans_without channel mas
 changed old (SetInfo handle info) = user_edited old handle (with_info info)
 changed old (SetSticky channel mask on) = record old { bans = with_sticky channel mask on old.bans }
 
--- what applying a change answers, and what it leaves
+-- what applying a change returns, and what it leaves
 abbrev pub Applies : Records → Change → Result Unit (Failure ChangeFault) → Records → Type 0
 Applies old change (Ok _) new = (refusal old change ≡ None) × (new ≡ changed old change)
 Applies old change (Err (Refused fault)) new = (refusal old change ≡ Some fault) × (new ≡ old)
 Applies old change (Err NoMemory) new = (refusal old change ≡ None) × (new ≡ old)
 
--- whether a change is one that memory is asked for: it adds a user, a hostmask or a ban, or sets flags on a channel
--- or an info text
+-- whether a change allocates: it adds a user, a hostmask or a ban, or sets flags on a channel or an info text, neither
+-- of them empty
 abbrev pub grows : Change → Bool
 grows (AddUser handle) = true
 grows (DelUser handle) = false

@@ -24,7 +24,7 @@ edited (SetChannels entries) user = with_channels entries user
 edited (SetBot flags) user = with_bot flags user
 edited (SetInfo info) user = with_info info user
 
--- whether the edit is one of the user's masks
+-- whether the edit changes the user's masks
 abbrev pub is_of_masks : Edit → Bool
 is_of_masks (DelMask mask) = true
 is_of_masks (SetGlobal flags) = false

@@ -1,5 +1,5 @@
--- What records hold: the user of a handle, and what stands in a user's lists and among the bans. Handles, masks and
--- channels are told apart by casemapping (RFC 2812 section 2.2).
+-- What records hold: the user of a handle, and what a user's lists and the bans hold. Handles, masks and channels are
+-- compared by casemapping (RFC 2812 section 2.2).
 use Rattle.std.specs.Prelude.{ℕ, List, [], ◌∷◌, Bool, not, ◌&&◌, find, filter, if◌then◌else◌, Option, is_some}
 use Rattle.std.specs.List.{list_any}
 use Rattle.rfccase.specs.Casemapping.{is_same}
@@ -16,11 +16,11 @@ user_of handle users = find (λ u. is_same handle u.handle) users
 abbrev pub has_user : List ℕ → List User → Bool
 has_user handle users = is_some (user_of handle users)
 
--- the users but the one with the handle
+-- the users except the one with the handle
 abbrev pub users_without : List ℕ → List User → List User
 users_without handle users = filter (λ u. not (is_same handle u.handle)) users
 
--- the users, with the one of the handle as the edit leaves it
+-- the users, the one with the handle edited
 abbrev pub with_user : List ℕ → (User → User) → List User → List User
 with_user handle edit [] = []
 with_user handle edit (u ∷ users) =
@@ -46,7 +46,7 @@ has_entry channel entries = is_some (entry_of channel entries)
 abbrev pub entries_without : List ℕ → List ChannelFlags → List ChannelFlags
 entries_without channel entries = filter (λ e. not (is_same channel e.channel)) entries
 
--- the entries, with this one in the place of the one of its channel, or last where there is none
+-- the entries, with this one replacing the one of the same channel, or last if there is none
 abbrev pub with_entry : ChannelFlags → List ChannelFlags → List ChannelFlags
 with_entry entry [] = entry ∷ []
 with_entry entry (e ∷ entries) =
@@ -54,7 +54,7 @@ with_entry entry (e ∷ entries) =
 
 -- ---- bans
 
--- a ban is known by its channel and its mask
+-- a ban is identified by its channel and its mask
 abbrev pub is_ban : List ℕ → List ℕ → Ban → Bool
 is_ban channel mask ban = is_same channel ban.channel && is_same mask ban.mask
 

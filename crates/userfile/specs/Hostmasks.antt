@@ -9,7 +9,7 @@ use Rattle.wildmask.specs.Masks.{host_fault, host_mask, is_match as is_mask_matc
 use Rattle.wildmask.specs.Signatures.{Pairs, items_signature}
 use Rattle.wildmask.specs.Tails.{tail_of}
 
--- what making a hostmask answers: its text has no fault, or this first one
+-- what making a hostmask returns: the mask or NoMemory if its text has no fault, else the first fault
 abbrev pub MakesHostmask : List ℕ → Result (List ℕ) (Failure MaskFault) → Type 0
 MakesHostmask text (Ok mask) = (host_fault text ≡ None) × (mask ≡ text)
 MakesHostmask text (Err (Refused fault)) = host_fault text ≡ Some fault
@@ -23,7 +23,7 @@ literals mask = literals_of Host mask
 unfoldable pub is_match : List ℕ → List ℕ → Bool
 is_match mask who = is_mask_match (host_mask mask) who
 
--- the tail of a hostmask: whoever it matches ends with it
+-- the tail of a hostmask: the text of each person that the mask matches ends with it
 unfoldable pub mask_tail : List ℕ → List ℕ
 mask_tail mask = tail_of (items_of Host mask)
 

@@ -1,4 +1,4 @@
--- How the map's keys and its users hang together, and the records that map and bans are.
+-- How the map's keys follow from its users, and the records that the map and the bans are.
 use Rattle.std.specs.Prelude.{◌≡◌, ◌≤◌, ℕ, List, [], ◌∷◌, length}
 use Rattle.std.specs.Map.{values_of}
 use Rattle.std.specs.declared.vec.Vec.{Vec}
@@ -9,7 +9,7 @@ use Rattle.userfile.specs.declared.ban.Ban.{Ban}
 use Rattle.userfile.specs.declared.limits.TheConstants.{MAX_HANDLE}
 use Rattle.userfile.specs.declared.user.User.{User}
 
--- each user stands under the lower case of the handle, which is short enough to be folded on the stack
+-- each user's key is the lower case of the handle, which is short enough to be folded on the stack
 abbrev pub IsKeyed : List (Vec ℕ Global × User) → Type 0
 IsKeyed [] = Unit {0}
 IsKeyed (e ∷ es) = (e.0.items ≡ folded e.1.handle) × (length e.1.handle ≤ MAX_HANDLE) × IsKeyed es

@@ -1,4 +1,4 @@
--- Who a person is, what flags and info text a person has, whom a ban keeps off, and which ban comes back.
+-- Who a person is, which flags and info text a person has, whom a ban keeps off, and which ban comes back.
 use Rattle.std.specs.Prelude.{◌≡◌, ◌<◌, ◌≤◌, ◌⊎◌, ℕ, ◌+◌, ◌*◌, ◌==◌, nat_lt, nat_le, Bool, ◌&&◌, ◌||◌, List, [], ◌∷◌, ◌++◌, length, map, filter, find}
 use Rattle.std.specs.Prelude.{slice_get, codes, if◌then◌else◌, Option, None, Some}
 use Rattle.std.specs.List.{list_all}
@@ -12,7 +12,7 @@ use Rattle.userfile.specs.declared.ban.Ban.{Ban}
 
 -- ---- who a person is
 
--- a hostmask that matches a person: its literals, and whose it is
+-- a hostmask that matches a person: the number of its literals, and its user
 pub record Claim : Type 0 where
   pub literals : ℕ
   pub user : User
@@ -29,11 +29,11 @@ abbrev pub claims : List ℕ → List User → List Claim
 claims who [] = []
 claims who (user ∷ users) = claims_of who user user.masks ++ claims who users
 
--- whether each of these claims has at most so many literals
+-- whether each of these claims has at most `most` literals
 abbrev pub is_most : ℕ → List Claim → Bool
 is_most most others = list_all (λ c. nat_le c.literals most) others
 
--- the first claim that no later one has more literals than: of those with most, the earliest
+-- the user of the first claim that no later claim exceeds in literals: the earliest of those with most
 unfoldable pub decider : List Claim → Option User
 decider [] = None
 decider (c ∷ cs) = if is_most c.literals cs then Some c.user else decider cs
@@ -50,13 +50,13 @@ handle_or_star (Some user) = user.handle
 abbrev pub handle_of : List User → List ℕ → List ℕ
 handle_of users who = handle_or_star (user_for who users)
 
--- the claim at place k decides: those before it have fewer literals, and those behind it no more
+-- the claim at index k decides: the claims before it have fewer literals, and those after it no more
 pub record IsDecider (cs : List Claim) (k : ℕ) (c : Claim) : Type 0 where
   pub here : slice_get cs k ≡ Some c
   pub before : (j : ℕ) (other : Claim) → j < k → slice_get cs j ≡ Some other → other.literals < c.literals
   pub behind : (j : ℕ) (other : Claim) → k < j → slice_get cs j ≡ Some other → other.literals ≤ c.literals
 
--- the handle is that of the user whose claim decides, or * where no hostmask matches
+-- the handle is that of the user whose claim decides, or * if no hostmask matches
 abbrev pub IsHandleFor : List User → List ℕ → List ℕ → Type 0
 IsHandleFor users who handle =
     ((claims who users ≡ []) × (handle ≡ codes "*"))
@@ -72,7 +72,7 @@ abbrev pub flags_on : List ℕ → Option User → PersonFlags
 flags_on channel None = record { global = 0; chan = 0; bot = 0 }
 flags_on channel (Some user) = record { global = user.global; chan = entry_flags (entry_of channel user.channels); bot = user.bot }
 
--- the flags of the user of a handle, and none where there is no such user
+-- the flags of the user of a handle, and none if there is no such user
 abbrev pub flags_of : List User → List ℕ → List ℕ → PersonFlags
 flags_of users handle channel = flags_on channel (user_of handle users)
 
@@ -82,13 +82,13 @@ abbrev pub info_or_none : Option User → List ℕ
 info_or_none None = []
 info_or_none (Some user) = user.info
 
--- the info text of the user of a handle, and the empty text where there is no such user
+-- the info text of the user of a handle, and the empty text if there is no such user
 abbrev pub info_of : List User → List ℕ → List ℕ
 info_of users handle = info_or_none (user_of handle users)
 
 -- ---- bans
 
--- a ban keeps a person off a channel where it is of that channel or of all, has not ended, and its mask matches
+-- a ban keeps a person off a channel if it is of that channel or of all, has not ended, and its mask matches
 abbrev pub bars : List ℕ → List ℕ → ℕ → Ban → Bool
 bars channel who now ban =
     (length ban.channel == 0 || is_same channel ban.channel) && (ban.expires == 0 || nat_lt now ban.expires) && is_match ban.mask who
@@ -97,16 +97,16 @@ bars channel who now ban =
 abbrev pub ban_for : List Ban → List ℕ → List ℕ → ℕ → Option Ban
 ban_for bans channel who now = find (bars channel who now) bans
 
--- a ban comes back to a channel where this mask is taken off it: it is sticky, of that channel or of all, has not ended,
--- and its mask is the same by casemapping
+-- a ban comes back to a channel when this mask is removed from it: the ban is sticky, of that channel or of all, has
+-- not ended, and its mask is the same by casemapping
 abbrev pub returns_to : List ℕ → List ℕ → ℕ → Ban → Bool
 returns_to channel mask now ban =
     ban.sticky && (length ban.channel == 0 || is_same channel ban.channel) && (ban.expires == 0 || nat_lt now ban.expires) && is_same mask ban.mask
 
--- the first ban that comes back to a channel where this mask is taken off it
+-- the first ban that comes back to a channel when this mask is removed from it
 abbrev pub sticky_ban : List Ban → List ℕ → List ℕ → ℕ → Option Ban
 sticky_ban bans channel mask now = find (returns_to channel mask now) bans
 
--- the expiry of a ban made now for so many minutes, 0 for ever
+-- the expiry of a ban made at `now` for `minutes` minutes; a ban for 0 minutes never ends, and its expiry is 0
 abbrev pub expires_at : ℕ → ℕ → ℕ
 expires_at now minutes = if minutes == 0 then 0 else now + 60 * minutes

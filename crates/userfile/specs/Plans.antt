@@ -1,4 +1,4 @@
--- What is made of a change before it is made.
+-- What is made in advance for a change.
 use Rattle.std.specs.Prelude.{◌≡◌, Bool, true, false, None}
 use Rattle.userfile.specs.Records.{Records}
 use Rattle.userfile.specs.Apply.{refusal, changed, grows, user_edited, with_info}
@@ -22,7 +22,7 @@ adds (DelBan channel mask) = false
 adds (SetInfo handle info) = false
 adds (SetSticky channel mask on) = false
 
--- the change that takes out what a change adds
+-- the change that removes what a change adds
 abbrev pub taken_back : Change → Change
 taken_back (AddUser handle) = DelUser handle
 taken_back (DelUser handle) = DelUser handle
@@ -36,7 +36,7 @@ taken_back (DelBan channel mask) = DelBan channel mask
 taken_back (SetInfo handle info) = SetInfo handle info
 taken_back (SetSticky channel mask on) = SetSticky channel mask on
 
--- the records before a change, of which this was made, by those that are held since
+-- the records before a change with this plan; `held` are the records since the plan was made
 abbrev pub before : Plan → Change → Records → Records
 before Later change held = held
 before Added change held = changed held (taken_back change)
@@ -50,7 +50,7 @@ after Added change held = held
 after (Channels handle entries) change held = changed held change
 after (Info handle info) change held = changed held change
 
--- what was made of a change is what the change needs
+-- the plan is what the change needs
 abbrev pub Suits : Plan → Change → Records → Type 0
 Suits Later change held = (refusal held change ≡ None) × (grows change ≡ false)
 Suits Added change held = (refusal held (taken_back change) ≡ None) × (adds change ≡ true)
@@ -58,7 +58,7 @@ Suits (Channels handle entries) change held =
     (refusal held change ≡ None) × (user_edited held handle (with_channels entries) ≡ changed held change)
 Suits (Info handle info) change held = (refusal held change ≡ None) × (user_edited held handle (with_info info) ≡ changed held change)
 
--- what is held since something was made of a change, by the records before
+-- how the records since this plan was made follow from the records before
 abbrev pub IsPlanFor : Plan → Change → Records → Records → Type 0
 IsPlanFor Later change old held = (held ≡ old) × (grows change ≡ false)
 IsPlanFor Added change old held = (held ≡ changed old change) × (adds change ≡ true)
@@ -66,7 +66,7 @@ IsPlanFor (Channels handle entries) change old held =
     (held ≡ old) × (user_edited old handle (with_channels entries) ≡ changed old change)
 IsPlanFor (Info handle info) change old held = (held ≡ old) × (user_edited old handle (with_info info) ≡ changed old change)
 
--- what was made of a change that isn't refused, by the records before and by those that are held since
+-- this plan was made for a change that isn't refused; `old` are the records before it, `held` those since
 pub record IsMade (plan : Plan) (change : Change) (old held : Records) : Type 0 where
   pub taken : refusal old change ≡ None
   pub earlier : before plan change held ≡ old

@@ -1,4 +1,4 @@
--- How what stands in the index is looked through for the best claim to be a person.
+-- How a search goes through the listings of the index for the best claim to be a person.
 use Rattle.std.specs.Prelude.{◌≡◌, ℕ, Bool, true, false, ◌==◌, ◌&&◌, ◌||◌, nat_lt, if◌then◌else◌, List, [], ◌∷◌, Option, Some, None, slice_get}
 use Rattle.std.specs.List.{list_any}
 use Rattle.wildmask.specs.Signatures.{Pairs, text_signature, is_within}
@@ -8,16 +8,16 @@ use Rattle.userfile.specs.declared.user.User.{User}
 use Rattle.userfile.specs.declared.index.Listing.{Listing}
 use Rattle.userfile.specs.declared.persons.Winner.{Winner}
 
--- whether a mask of so many literals, of the user at a place, is better than the best so far
+-- whether a mask with `literals` literals, of the user at `place`, is better than the best so far
 abbrev pub is_better : ℕ → ℕ → Option Winner → Bool
 is_better literals place None = true
 is_better literals place (Some best) = nat_lt best.literals literals || (literals == best.literals && nat_lt place best.place)
 
--- whether a mask of a listing is worth a match: it needs no pair that the text hasn't, and would be better
+-- whether a mask of a listing is worth a match: the text has the pairs that it needs, and it would be better
 abbrev pub may_win : List ℕ → Listing → Option Winner → Bool
 may_win who x best = is_within x.pairs (text_signature who) && is_better x.literals x.place best
 
--- whether one of the masks of a listing, of this user, matches
+-- whether any of this user's masks belongs to the listing and matches
 abbrev pub has_match : List ℕ → Listing → Option User → Bool
 has_match who x None = false
 has_match who x (Some user) = list_any (λ mask. is_of x mask && is_match mask who) user.masks
@@ -27,12 +27,12 @@ abbrev pub after_listing : List ℕ → List User → Listing → Option Winner 
 after_listing who users x best =
     if may_win who x best && has_match who x (slice_get users x.place) then Some (record { literals = x.literals; place = x.place }) else best
 
--- the best after several
+-- the best after several listings
 abbrev pub after_listings : List ℕ → List User → List Listing → Option Winner → Option Winner
 after_listings who users [] best = best
 after_listings who users (x ∷ xs) best = after_listings who users xs (after_listing who users x best)
 
--- these listings make of the best what others do, for a text of these pairs
+-- for a text with these pairs, both lists of listings lead to the same best
 abbrev pub SameBest : Pairs → List Listing → List Listing → Type 0
 SameBest pairs xs ys = (who : List ℕ) (users : List User) (best : Option Winner) → pairs ≡ text_signature who
     → after_listings who users xs best ≡ after_listings who users ys best

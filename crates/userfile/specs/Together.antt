@@ -1,4 +1,4 @@
--- Which records stand together in one userfile, and what making one of them answers.
+-- Which records can be together in one userfile, and what making a userfile of them returns.
 use Rattle.std.specs.Prelude.{◌≡◌, ℕ, List, [], ◌∷◌, Bool, true, false, not, ◌&&◌, ◌||◌, ◌==◌, nat_lt, length, Option, None, Some, Result, Ok, Err}
 use Rattle.std.specs.List.{list_any, list_all}
 use Rattle.bytetext.specs.declared.failure.Failure.{Failure}
@@ -23,7 +23,7 @@ repeats same (x ∷ xs) = list_any (same x) xs || repeats same xs
 
 -- ---- one record
 
--- a channel is named twice
+-- two entries name the same channel
 abbrev pub repeats_channel : List ChannelFlags → Bool
 repeats_channel entries = repeats (λ a b. is_same a.channel b.channel) entries
 
@@ -42,24 +42,24 @@ is_good_ban ban = is_handle ban.creator && is_ban_channel ban.channel && is_comm
 
 -- ---- several records
 
--- a handle is held twice
+-- two users have the same handle
 abbrev pub repeats_handle : List User → Bool
 repeats_handle users = repeats (λ a b. is_same a.handle b.handle) users
 
--- a mask is held twice
+-- a mask is in the list twice
 abbrev pub repeats_mask : List (List ℕ) → Bool
 repeats_mask masks = repeats is_same masks
 
--- there are two bans of one channel and mask
+-- two bans have the same channel and mask
 abbrev pub repeats_ban : List Ban → Bool
 repeats_ban bans = repeats (λ a b. is_ban a.channel a.mask b) bans
 
--- a user has more than a userfile holds of one
+-- a user has more masks or channels than a userfile holds for one user
 abbrev pub is_over : User → Bool
 is_over user = nat_lt MAX_MASKS (length user.masks) || nat_lt MAX_CHANNELS (length user.channels)
 
--- the first reason for which records don't stand together: a handle, then a mask of one user, then a ban is there
--- twice, and then there are too many
+-- the first reason why records can't be together: a handle, then a mask of one user, then a ban comes twice, and then
+-- there are too many
 abbrev pub records_fault : List User → List Ban → Option ChangeFault
 records_fault users bans =
     first_of_two (fault_if (repeats_handle users) UserExists)
@@ -67,13 +67,13 @@ records_fault users bans =
     (first_of_two (fault_if (repeats_ban bans) BanExists)
     (fault_if (nat_lt MAX_USERS (length users) || nat_lt MAX_BANS (length bans) || list_any is_over users) Full)))
 
--- what making a userfile of records answers
+-- what making a userfile of records returns
 abbrev pub Gathers : List User → List Ban → Result Records (Failure ChangeFault) → Type 0
 Gathers users bans (Ok made) = (records_fault users bans ≡ None) × (made ≡ record { users = users; bans = bans })
 Gathers users bans (Err (Refused fault)) = records_fault users bans ≡ Some fault
 Gathers users bans (Err NoMemory) = records_fault users bans ≡ None
 
--- the records of a userfile: each of them is good, and they stand together
+-- the records of a userfile: each of them is good, and they can be together
 pub record AreSound (records : Records) : Type 0 where
   pub users : list_all is_user records.users ≡ true
   pub bans : list_all is_good_ban records.bans ≡ true

@@ -1,4 +1,4 @@
--- What making a change ready answers.
+-- What making a change ready returns.
 use Rattle.std.specs.Prelude.{◌≡◌, Some, None}
 use Rattle.std.specs.Borrow.{Fml, MutBor, RestsIfErr}
 use Rattle.std.specs.declared.result.Result.{Result}
@@ -17,7 +17,7 @@ use Rattle.userfile.specs.contracts.userfile.Userfile.{the_row}
 abbrev pub records_before : Update Plan → Records
 records_before update = before update.plan update.change.now update.userfile.now
 
--- and those after it
+-- the records after the change
 abbrev pub records_after : Update Plan → Records
 records_after update = after update.plan update.change.now update.userfile.now
 
@@ -25,7 +25,7 @@ records_after update = after update.plan update.change.now update.userfile.now
 abbrev pub IsSuited : Update Plan → Type 0
 IsSuited update = Suits update.plan update.change.now update.userfile.now
 
--- an update is that of this change of these records, which isn't refused
+-- the update is that of this change of the records `old`, and the change isn't refused
 pub record IsReady (change : Change) (old : Records) (update : Update Plan) : Type 0 where
   pub taken : refusal old change ≡ None
   pub earlier : records_before update ≡ old
@@ -37,6 +37,6 @@ abbrev pub IsWhy : Change → Records → Failure ChangeFault → Type 0
 IsWhy change old (Refused fault) = refusal old change ≡ Some fault
 IsWhy change old NoMemory = refusal old change ≡ None
 
--- the userfile behind a reference that a refused call was given is as before
+-- if the call fails, the userfile behind its reference is as before
 abbrev pub rests_if_refused : {E : Type 0} → MutBor Records → Result (Update Plan) E → Fml
 rests_if_refused s r = RestsIfErr the_row s (λ update. update.userfile.ghost_name) r (λ left. left ≡ s.now)

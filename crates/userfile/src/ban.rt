@@ -1,4 +1,4 @@
-// One ban, and when one ends.
+// One ban: whom it keeps off a channel, and when it comes back.
 ghost use Rattle.std.specs.Prelude.{◌≡◌, ◌+◌, ◌*◌, ◌<◌, ◌≤◌};
 
 use crate::hostmask::Hostmask;
@@ -6,24 +6,24 @@ use crate::texts::is_same;
 use bytetext::{NoMemory, Text, TryCopy};
 use std::alloc::Global;
 
-/// A ban of the persons whom a hostmask matches, on one channel or on all.
+/// A ban of the persons that a hostmask matches, on one channel or on all.
 #[derive(Debug)]
 pub struct Ban {
     /// The channel as it was given; the empty text for a ban of all channels.
     pub channel: Text,
     /// The hostmask.
     pub mask: Hostmask,
-    /// The handle of who made the ban; such a user need not exist.
+    /// The handle of the ban's creator; a user with this handle need not exist.
     pub creator: Text,
-    /// The second since 1970-01-01 UTC from which on the ban matches nobody; 0 for a ban that does not end.
+    /// The second since 1970-01-01 UTC from which on the ban matches nobody; 0 for a ban that never ends.
     pub expires: u64,
-    /// What the banned are told.
+    /// The comment, for the banned person to read.
     pub comment: Text,
-    /// Whether the ban is sticky: it is to come back where somebody takes it off a channel. No ban is at first.
+    /// Whether the ban is sticky: it is to come back when somebody removes it from a channel. A new ban is not sticky.
     pub sticky: bool,
 }
 
-// By hand, so that this is proved once, and not in each function in which one ends.
+// By hand, so that the drop is proved once, and not in each function that drops a ban.
 impl Drop for Ban {
     fn drop(self) {
         let Ban {
@@ -42,7 +42,7 @@ impl Ban {
     ghost use Rattle.userfile.specs.Held.{is_ban};
     ghost use Rattle.userfile.specs.Persons.{bars, returns_to};
 
-    // Whether the ban is the one of this channel and mask.
+    // Whether this is the ban of that channel and mask.
     pub(crate) fn is_of(&self, channel: &[u8], mask: &[u8]) -> bool
         ensures { result ≡ is_ban channel.now mask.now self.now }
     {
@@ -58,7 +58,7 @@ impl Ban {
             && self.mask.matches(who)
     }
 
-    // Whether the ban comes back to the channel at that second, where this mask is taken off it.
+    // Whether the ban comes back to the channel at that second if somebody removes this mask from it.
     pub(crate) fn returns_to(&self, channel: &[u8], mask: &[u8], now: u64) -> bool
         ensures { result ≡ returns_to channel.now mask.now now self.now }
     {

@@ -11,14 +11,14 @@ use crate::error::ChangeError;
 use bytetext::{Text, TryCopy};
 use std::alloc::Global;
 
-// Whether there is a ban of this channel and mask.
+// Whether a ban of this channel and mask exists.
 pub(crate) fn has_ban(bans: &[Ban], channel: &[u8], mask: &[u8]) -> bool
     ensures { result ≡ has_ban channel.now mask.now bans.now }
 {
     bans.iter().any(|ban| ban.is_of(channel, mask))
 }
 
-// The ban of copies of these texts, the mask being a hostmask. It isn't sticky.
+// Creates a ban from copies of these texts; the mask must be a hostmask. The ban isn't sticky.
 pub(crate) fn ban_of(
     alloc: Global,
     channel: &Text,
@@ -42,14 +42,14 @@ pub(crate) fn ban_of(
     })
 }
 
-// Keeps the bans but the one of this channel and mask, in their order.
+// Removes the ban of this channel and mask, and keeps the others in their order.
 pub(crate) fn keep_other_bans(bans: &mut Vec<Ban>, channel: &[u8], mask: &[u8])
     ensures { bans.new.items ≡ bans_without channel.now mask.now bans.old.items }
 {
     bans.retain(|ban| !ban.is_of(channel, mask));
 }
 
-// Marks the ban of this channel and mask as sticky, or as one that isn't.
+// Marks the ban of this channel and mask as sticky, or as not sticky.
 pub(crate) fn set_sticky(bans: &mut [Ban], channel: &[u8], mask: &[u8], on: bool)
     ensures { bans.new ≡ with_sticky channel.now mask.now on bans.old }
 {
@@ -58,7 +58,7 @@ pub(crate) fn set_sticky(bans: &mut [Ban], channel: &[u8], mask: &[u8], on: bool
     }
 }
 
-// Marks a ban where it is the one of this channel and mask.
+// Marks a ban if it is the one of this channel and mask.
 fn mark(ban: &mut Ban, channel: &[u8], mask: &[u8], on: bool)
     ensures { ban.new ≡ marked channel.now mask.now on ban.old }
 {

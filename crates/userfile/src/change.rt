@@ -5,8 +5,8 @@ use bytetext::{NoMemory, Text, TryCopy};
 use flagexpr::Flags;
 use std::alloc::Global;
 
-/// One edit of a userfile, as it is asked for, sent and kept. Handles, masks and channels name what they are the same
-/// as by casemapping.
+/// One edit of a userfile, as it is requested, sent and stored. Handles, masks and channels are compared by
+/// casemapping.
 #[derive(Debug)]
 pub enum Change {
     /// Adds a user after the others.
@@ -19,7 +19,7 @@ pub enum Change {
         /// The user's handle.
         handle: Text,
     },
-    /// Adds a hostmask after the user's others.
+    /// Adds a hostmask after the user's other hostmasks.
     AddHost {
         /// The user's handle.
         handle: Text,
@@ -37,7 +37,7 @@ pub enum Change {
     SetGlobal {
         /// The user's handle.
         handle: Text,
-        /// The flags, in the place of those before.
+        /// The flags, which replace the old ones.
         flags: Flags,
     },
     /// Sets a user's flags on a channel.
@@ -46,14 +46,14 @@ pub enum Change {
         handle: Text,
         /// The channel.
         channel: Text,
-        /// The flags, in the place of those before; the channel's entry goes where there are none.
+        /// The flags, which replace the old ones; empty flags delete the channel's entry.
         flags: Flags,
     },
     /// Sets a user's flags as a bot.
     SetBot {
         /// The user's handle.
         handle: Text,
-        /// The flags, in the place of those before.
+        /// The flags, which replace the old ones.
         flags: Flags,
     },
     /// Adds a ban after the others.
@@ -62,11 +62,11 @@ pub enum Change {
         channel: Text,
         /// The hostmask.
         mask: Text,
-        /// The handle of who asks for it; such a user need not exist.
+        /// The handle of the ban's creator; a user with this handle need not exist.
         creator: Text,
-        /// The second since 1970-01-01 UTC from which on the ban matches nobody; 0 for a ban that does not end.
+        /// The second since 1970-01-01 UTC from which on the ban matches nobody; 0 for a ban that never ends.
         expires: u64,
-        /// What the banned are told.
+        /// The comment, for the banned person to read.
         comment: Text,
     },
     /// Deletes a ban.
@@ -80,7 +80,7 @@ pub enum Change {
     SetInfo {
         /// The user's handle.
         handle: Text,
-        /// The text, in the place of the one before; the empty text for none.
+        /// The text, which replaces the old one; the empty text for none.
         info: Text,
     },
     /// Sets whether a ban is sticky.
@@ -89,12 +89,12 @@ pub enum Change {
         channel: Text,
         /// The ban's hostmask.
         mask: Text,
-        /// Whether it is sticky from now on.
+        /// Whether the ban is sticky from now on.
         on: bool,
     },
 }
 
-// By hand, so that this is proved once, and not in each function in which a change ends.
+// By hand, so that the drop is proved once, and not in each function that drops a change.
 impl Drop for Change {
     fn drop(self) {
         match self {
@@ -191,7 +191,7 @@ fn pair_of(alloc: Global, a: &Text, b: &Text) -> Result<(Text, Text), NoMemory>
     Ok((first, second))
 }
 
-// Flags to be set everywhere, of a user whose handle is copied.
+// A change that sets a user's flags everywhere, with a copy of the handle.
 fn set_global_copy(alloc: Global, handle: &Text, flags: Flags) -> Result<Change, NoMemory>
     ensures { IfOk result (λ c. c ≡ Change.SetGlobal handle.now flags) }
 {
@@ -199,7 +199,7 @@ fn set_global_copy(alloc: Global, handle: &Text, flags: Flags) -> Result<Change,
     Ok(Change::SetGlobal { handle, flags })
 }
 
-// Flags to be set on a channel, of copies of these texts.
+// A change that sets a user's flags on a channel, with copies of these texts.
 fn set_chan_copy(
     alloc: Global,
     handle: &Text,
@@ -216,7 +216,7 @@ fn set_chan_copy(
     })
 }
 
-// Flags to be set of a bot, whose handle is copied.
+// A change that sets a user's flags as a bot, with a copy of the handle.
 fn set_bot_copy(alloc: Global, handle: &Text, flags: Flags) -> Result<Change, NoMemory>
     ensures { IfOk result (λ c. c ≡ Change.SetBot handle.now flags) }
 {
@@ -224,7 +224,7 @@ fn set_bot_copy(alloc: Global, handle: &Text, flags: Flags) -> Result<Change, No
     Ok(Change::SetBot { handle, flags })
 }
 
-// A ban to be added, of copies of these texts.
+// A change that adds a ban, with copies of these texts.
 fn ban_copy(
     alloc: Global,
     channel: &Text,
@@ -246,7 +246,7 @@ fn ban_copy(
     })
 }
 
-// A mark to be set of the ban of copies of these texts.
+// A change that sets whether a ban is sticky, with copies of these texts.
 fn set_sticky_copy(alloc: Global, channel: &Text, mask: &Text, on: bool) -> Result<Change, NoMemory>
     ensures { IfOk result (λ c. c ≡ Change.SetSticky channel.now mask.now on) }
 {

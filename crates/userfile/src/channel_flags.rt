@@ -14,7 +14,7 @@ use std::marker::Model;
 /// A user's flags on one channel.
 #[derive(Debug, Drop)]
 pub struct ChannelFlags {
-    /// The channel as it was given last.
+    /// The channel as it was last given.
     pub channel: Text,
     /// The flags on it; a userfile holds no entry without flags.
     pub flags: Flags,
@@ -30,7 +30,7 @@ impl TryCopy for ChannelFlags {
     }
 }
 
-/// A list of a user's flags on channels. Contracts see the list of its entries.
+/// A list of a user's flags on channels. Contracts see its entries in order.
 #[derive(Debug, Drop)]
 pub struct ChannelEntries {
     items: Vec<ChannelFlags>,
@@ -51,49 +51,49 @@ impl ChannelEntries {
     ghost use Rattle.userfile.specs.Held.{entry_of, entries_without, with_entry};
     ghost use Rattle.userfile.specs.Apply.{set_channel};
 
-    /// The list of these entries. Takes no memory.
+    /// Creates the list of the entries `items`. Does not allocate.
     pub fn new(items: Vec<ChannelFlags>) -> ChannelEntries
         ensures { result ≡ items.items }
     {
         ChannelEntries { items }
     }
 
-    /// The list without entries. Takes no memory.
+    /// Creates a list without entries. Does not allocate.
     pub fn empty(alloc: Global) -> ChannelEntries
         ensures { result ≡ [] }
     {
         ChannelEntries::new(Vec::new(alloc))
     }
 
-    /// The entries, in order.
+    /// Returns the entries, in order.
     pub fn as_slice(&self) -> &[ChannelFlags]
         ensures { result.now ≡ self.now }
     {
         self.items.as_slice()
     }
 
-    /// How many entries there are.
+    /// Returns the number of entries.
     pub fn len(&self) -> usize
         ensures { result ≡ length self.now }
     {
         self.items.len()
     }
 
-    /// The entries as a `Vec`. Takes no memory.
+    /// Returns the entries as a `Vec`. Does not allocate.
     pub fn into_vec(self) -> Vec<ChannelFlags>
         ensures { result.items ≡ self }
     {
         self.items
     }
 
-    /// The entry of the channel, its name compared by casemapping.
+    /// Returns the entry of `channel`, compared by casemapping, if there is one.
     pub fn get(&self, channel: &[u8]) -> Option<&ChannelFlags>
         ensures { option_copied result ≡ entry_of channel.now self.now }
     {
         entry_of(self.items.as_slice(), channel)
     }
 
-    // Copies of these entries, with some flags set on a channel.
+    // Copies the entries, and sets flags on a channel in the copy.
     pub(crate) fn with(
         &self,
         alloc: Global,
@@ -109,7 +109,7 @@ impl ChannelEntries {
         Ok(ChannelEntries { items })
     }
 
-    // Takes out the entry of a channel.
+    // Removes the entry of a channel.
     pub(crate) fn remove(&mut self, channel: &[u8])
         ensures { self.new ≡ entries_without channel.now self.old }
     {
@@ -133,14 +133,14 @@ pub(crate) fn entry_of<'a>(entries: &'a [ChannelFlags], channel: &[u8]) -> Optio
         .find(|entry| is_same(channel, entry.channel.as_bytes()))
 }
 
-// Keeps the entries but the one of this channel, in their order.
+// Removes the entry of this channel, and keeps the others in their order.
 fn keep_others(entries: &mut Vec<ChannelFlags>, channel: &[u8])
     ensures { entries.new.items ≡ entries_without channel.now entries.old.items }
 {
     entries.retain(|entry| !is_same(channel, entry.channel.as_bytes()));
 }
 
-// Puts an entry in the place of the one of its channel, or last where there is none.
+// Replaces the entry of the same channel, or appends the entry if there is none.
 fn put(entries: &mut Vec<ChannelFlags>, entry: ChannelFlags) -> Result<(), NoMemory>
     ensures ok { OnOk result (entries.new.items ≡ with_entry entry entries.old.items) }
     ensures err { OnErr result (entries.new.items ≡ entries.old.items) }
@@ -152,7 +152,7 @@ fn put(entries: &mut Vec<ChannelFlags>, entry: ChannelFlags) -> Result<(), NoMem
     Ok(())
 }
 
-// The place of the channel's entry.
+// The index of the channel's entry.
 fn place_of(entries: &[ChannelFlags], channel: &[u8]) -> Option<usize>
     ensures { result ≡ position_from (λ e. is_same channel.now e.channel) 0 entries.now }
 {

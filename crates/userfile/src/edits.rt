@@ -1,4 +1,4 @@
-// What a change makes of one user, and why one is refused for what the user holds.
+// What a change makes of one user, and why a change is refused for what the user holds.
 ghost use Rattle.std.specs.Prelude.{◌≡◌, true, IfOk, IfErr, OnOk, OnErr};
 ghost use Rattle.bytetext.specs.declared.failure.Failure.TheVariants.{NoMemory as no_memory};
 ghost use Rattle.userfile.specs.Shapes.{is_hostmask};
@@ -25,7 +25,7 @@ pub(crate) fn add_mask_fault(mask: &[u8], user: &User) -> Option<ChangeFault>
     )
 }
 
-// Why a mask can't be taken from a user.
+// Why a mask can't be removed from a user.
 pub(crate) fn del_mask_fault(mask: &[u8], user: &User) -> Option<ChangeFault>
     ensures { result ≡ del_mask_fault mask.now user.now }
 {
@@ -44,20 +44,20 @@ pub(crate) fn set_channel_fault(channel: &[u8], flags: Flags, user: &User) -> Op
     )
 }
 
-// An edit of one user that takes no memory.
+// An edit of one user that does not allocate.
 #[derive(Drop)]
 pub(crate) enum Edit<'a> {
-    // Takes out the mask of this text.
+    // Removes the mask of this text.
     DelMask(&'a [u8]),
-    // Sets the flags that hold everywhere.
+    // Sets the flags that the user has everywhere.
     SetGlobal(Flags),
-    // Takes out the entry of a channel.
+    // Removes the entry of a channel.
     DelChannel(&'a [u8]),
-    // Puts these entries in the place of those before.
+    // Replaces the entries by these.
     SetChannels(ChannelEntries),
-    // Sets the flags as a bot.
+    // Sets the user's flags as a bot.
     SetBot(Flags),
-    // Puts this info text in the place of the one before.
+    // Replaces the info text by this one.
     SetInfo(Text),
 }
 
@@ -75,7 +75,7 @@ pub(crate) fn make_edit(user: &mut User, edit: Edit<'_>)
     }
 }
 
-// Puts a mask after the user's others.
+// Appends a mask to the user's masks.
 pub(crate) fn give_mask(user: &mut User, mask: Hostmask) -> Result<(), NoMemory>
     ensures ok { OnOk result (user.new ≡ with_mask mask user.old) }
     ensures err { OnErr result (user.new ≡ user.old) }
@@ -83,7 +83,7 @@ pub(crate) fn give_mask(user: &mut User, mask: Hostmask) -> Result<(), NoMemory>
     user.masks.push(mask)
 }
 
-// The hostmask of a text that is one.
+// Creates the hostmask of a text that is one.
 pub(crate) fn hostmask_of(alloc: Global, mask: &Text) -> Result<Hostmask, ChangeError>
     requires { is_hostmask mask.now ≡ true }
     ensures ok { IfOk result (λ made. made ≡ mask.now) }

@@ -1,4 +1,4 @@
-// The map of the users, whose keys are the lower cases of their handles.
+// The map of the users. Its keys are the lower cases of their handles.
 ghost use Rattle.std.specs.Prelude.{◌≡◌, [], ◌∷◌, ◌++◌, not, true, false, None, OnOk, OnErr};
 ghost use Rattle.std.specs.Option.{option_copied};
 ghost use Rattle.rfccase.specs.Casemapping.{is_same};
@@ -21,7 +21,7 @@ use indexmap::IndexMap;
 use rfccase::{ShortFold, fold_text};
 use std::alloc::Global;
 
-// The user of this handle.
+// The user with this handle.
 pub(crate) fn find_user<'a>(users: &'a IndexMap<Vec<u8>, User>, handle: &[u8]) -> Option<&'a User>
     requires { IsKeyed users.now.entries }
     ensures { option_copied result ≡ user_of handle.now (values users.now) }
@@ -32,7 +32,7 @@ pub(crate) fn find_user<'a>(users: &'a IndexMap<Vec<u8>, User>, handle: &[u8]) -
     }
 }
 
-// Adds a user whose handle nobody has.
+// Adds a user with a handle that no other user has.
 pub(crate) fn add_user(
     users: &mut IndexMap<Vec<u8>, User>,
     alloc: Global,
@@ -52,7 +52,7 @@ pub(crate) fn add_user(
     Ok(())
 }
 
-// Keeps the users but the one with the handle, in their order.
+// Removes the user with the handle, and keeps the others in their order.
 pub(crate) fn keep_other_users(users: &mut IndexMap<Vec<u8>, User>, handle: &[u8])
     requires { IsKeyed users.old.entries }
     ensures keyed { IsKeyed users.new.entries }
@@ -79,7 +79,7 @@ pub(crate) fn edit_user(users: &mut IndexMap<Vec<u8>, User>, handle: &[u8], edit
     }
 }
 
-// Puts a hostmask after those of the user with the handle.
+// Appends a hostmask to those of the user with the handle.
 pub(crate) fn push_mask(
     users: &mut IndexMap<Vec<u8>, User>,
     handle: &[u8],

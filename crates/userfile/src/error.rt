@@ -4,15 +4,15 @@ ghost use Rattle.std.specs.Prelude.{◌≡◌};
 use bytetext::Failure;
 use thiserror::Error;
 
-/// A refusal of a change, by its letter and number. They are tested in this order: the change's own shape, then what
-/// the userfile holds, then its limits.
+/// A refusal of a change, with its letter and number. The refusals are tested in this order: the change's own shape,
+/// then what the userfile holds, then its limits.
 #[derive(Clone, Copy, Debug, PartialEq, Eq, Error)]
 pub enum ChangeFault {
-    /// U1: the handle, or a ban's creator, has not 1 to 32 bytes, or holds a byte outside 33 to 126 or one of
+    /// U1: the handle, or a ban's creator, does not have 1 to 32 bytes, or holds a byte outside 33 to 126 or one of
     /// `* , : @`.
     #[error("a handle has 1 to 32 printable bytes, none of them a space or one of * , : @")]
     BadHandle,
-    /// U4: the mask is no hostmask.
+    /// U4: the mask is not a hostmask.
     #[error("write the mask as nick!user@host, with at most 120 bytes, each above 32")]
     BadMask,
     /// U7: the channel name does not begin with `&`, `#`, `+` or `!`, has more than 100 bytes, or holds a space, a
@@ -34,13 +34,13 @@ pub enum ChangeFault {
     /// U6: the user has no such mask.
     #[error("the user has no such mask")]
     NoSuchMask,
-    /// U8: there is a ban of this channel and mask.
+    /// U8: a ban of this channel and mask exists.
     #[error("there is such a ban: delete it first")]
     BanExists,
-    /// U9: there is no ban of this channel and mask.
+    /// U9: no ban of this channel and mask exists.
     #[error("there is no such ban")]
     NoSuchBan,
-    /// U11: there is no place for one more.
+    /// U11: a limit leaves no room for one more.
     #[error("there is no place for one more: delete one first")]
     Full,
 }
@@ -49,7 +49,7 @@ impl ChangeFault {
     ghost use Rattle.std.specs.Prelude.{◌≡◌};
     ghost use Rattle.userfile.specs.Codes.{fault_code};
 
-    /// The letter and number that transcripts print.
+    /// Returns the letter and number that transcripts print.
     pub fn code(self) -> &'static str
         ensures { result.now ≡ fault_code self }
     {
@@ -69,6 +69,6 @@ impl ChangeFault {
     }
 }
 
-/// Why a userfile stayed as it was: `Refused` with the first fault that holds, and `NoMemory` where no fault holds and a
-/// growth was refused. The same change is refused again as long as the userfile stays the same.
+/// Why a userfile stayed as it was: `Refused` with the first fault that applies, and `NoMemory` if no fault applies and
+/// an allocation failed. A refused change is refused again as long as the userfile stays the same.
 pub type ChangeError = Failure<ChangeFault>;

@@ -4,8 +4,8 @@ ghost use Rattle.userfile.specs.Persons.{expires_at};
 
 use bytetext::MOMENTS_END;
 
-/// The expiry of a ban that is made now, for so many minutes; 0 minutes are a ban that does not end. Moments are
-/// seconds since 1970-01-01 UTC, before the year 3000.
+/// Returns the expiry of a ban that is made at `now` for `minutes` minutes, or 0 if `minutes` is 0: such a ban never
+/// ends. Moments are seconds since 1970-01-01 UTC; `now` is before the year 3000.
 pub fn expires_at(now: u64, minutes: u32) -> u64
     requires { now < MOMENTS_END }
     ensures { result ≡ expires_at now minutes }

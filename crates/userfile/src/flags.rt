@@ -2,14 +2,14 @@
 use crate::user::User;
 use flagexpr::Flags;
 
-/// The flags that a person has where a bind is tried.
+/// The flags of a person that a bind is tried against.
 #[derive(Clone, Copy, Debug)]
 pub struct PersonFlags {
-    /// Those that hold everywhere.
+    /// The flags that the person has everywhere.
     pub global: Flags,
-    /// Those on the channel.
+    /// The flags on the channel.
     pub chan: Flags,
-    /// Those of the person as a bot.
+    /// The flags of the person as a bot.
     pub bot: Flags,
 }
 
@@ -17,7 +17,7 @@ impl PersonFlags {
     ghost use Rattle.std.specs.Prelude.{◌≡◌, ℕ, List, None, Some};
     ghost use Rattle.userfile.specs.Persons.{flags_on};
 
-    // No flags, as an unknown person has them.
+    // No flags: those of an unknown person.
     pub(crate) fn none() -> PersonFlags
         ensures { (channel : List ℕ) → result ≡ flags_on channel None }
     {

@@ -1,4 +1,4 @@
-// A map of users, made of their list.
+// Makes a map of users from a list.
 ghost use Rattle.std.specs.Prelude.{◌≡◌, ◌<◌, false, length, IsTrue, IfErr, IfOk};
 ghost use Rattle.std.specs.List.{list_all};
 ghost use Rattle.userfile.specs.Keys.{IsKeyed};

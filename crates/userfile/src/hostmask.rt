@@ -1,4 +1,4 @@
-// A hostmask, and a list of them.
+// A hostmask, and a list of hostmasks.
 ghost use Rattle.std.specs.Prelude.{◌≡◌};
 ghost use Rattle.userfile.specs.Held.{has_mask, masks_without};
 
@@ -8,7 +8,7 @@ use std::alloc::Global;
 use std::marker::Model;
 use wildmask::{Mask, MaskError, Signature, Tail};
 
-/// A hostmask, which matches persons written as `nick!user@host`. Contracts see its text as it was given.
+/// A hostmask, which matches persons, written as `nick!user@host`. Contracts see its text as it was given.
 #[derive(Debug, Drop)]
 pub struct Hostmask {
     mask: Mask,
@@ -31,10 +31,10 @@ impl Hostmask {
     ghost use Rattle.userfile.specs.Shapes.{is_hostmask};
     ghost use Rattle.userfile.specs.Hostmasks.{MakesHostmask, is_match, literals, mask_tail, mask_pairs};
 
-    /// The hostmask of this text.
+    /// Creates the hostmask of `text`.
     ///
     /// # Errors
-    /// `Refused` with the first fault of the text, or `NoMemory` where it has none and room for a copy is refused.
+    /// `Refused` with the first fault of the text, or `NoMemory` if it has none and a copy cannot be allocated.
     pub fn new(alloc: Global, text: &[u8]) -> Result<Hostmask, MaskError>
         ensures { MakesHostmask text.now result }
     {
@@ -42,7 +42,7 @@ impl Hostmask {
         Ok(Hostmask { mask })
     }
 
-    /// The text as it was given.
+    /// Returns the text as it was given.
     pub fn as_bytes(&self) -> &[u8]
         ensures given { result.now ≡ self.now }
         ensures good { is_hostmask self.now ≡ true }
@@ -50,7 +50,7 @@ impl Hostmask {
         self.mask.text()
     }
 
-    /// Whether the mask matches this person.
+    /// Returns whether the mask matches the person `who`.
     pub fn matches(&self, who: &[u8]) -> bool
         ensures relation { IsTrue result ↔ IsMatch (host_mask self.now) who.now }
         ensures test { result ≡ is_match self.now who.now }
@@ -73,7 +73,7 @@ impl Hostmask {
         self.mask.signature()
     }
 
-    /// How many items of the mask are literals.
+    /// Returns the number of literals among the mask's items.
     pub fn literals(&self) -> u8
         ensures { result ≡ literals self.now }
     {
@@ -88,7 +88,7 @@ impl TryCopy for Hostmask {
     }
 }
 
-/// A list of hostmasks. Contracts see the list of their texts.
+/// A list of hostmasks. Contracts see their texts in order.
 #[derive(Debug, Drop)]
 pub struct Hostmasks {
     items: Vec<Hostmask>,
@@ -106,49 +106,49 @@ impl Hostmasks {
     ghost use Rattle.std.specs.Prelude.{◌≡◌, [], ◌∷◌, ◌++◌, OnOk, OnErr, length};
     ghost use Rattle.userfile.specs.Held.{has_mask, masks_without};
 
-    /// The list of these masks. Takes no memory.
+    /// Creates the list of the masks `items`. Does not allocate.
     pub fn new(items: Vec<Hostmask>) -> Hostmasks
         ensures { result ≡ items.items }
     {
         Hostmasks { items }
     }
 
-    /// The list without masks. Takes no memory.
+    /// Creates a list without masks. Does not allocate.
     pub fn empty(alloc: Global) -> Hostmasks
         ensures { result ≡ [] }
     {
         Hostmasks::new(Vec::new(alloc))
     }
 
-    /// The masks, in order.
+    /// Returns the masks, in order.
     pub fn as_slice(&self) -> &[Hostmask]
         ensures { result.now ≡ self.now }
     {
         self.items.as_slice()
     }
 
-    /// How many masks there are.
+    /// Returns the number of masks.
     pub fn len(&self) -> usize
         ensures { result ≡ length self.now }
     {
         self.items.len()
     }
 
-    /// The masks as a `Vec`. Takes no memory.
+    /// Returns the masks as a `Vec`. Does not allocate.
     pub fn into_vec(self) -> Vec<Hostmask>
         ensures { result.items ≡ self }
     {
         self.items
     }
 
-    /// Whether one of the masks has this text by casemapping.
+    /// Returns whether one of the masks has the text `mask`, by casemapping.
     pub fn has(&self, mask: &[u8]) -> bool
         ensures { result ≡ has_mask mask.now self.now }
     {
         has_mask(self.items.as_slice(), mask)
     }
 
-    // Puts a mask after the others.
+    // Appends a mask.
     pub(crate) fn push(&mut self, mask: Hostmask) -> Result<(), NoMemory>
         ensures ok { OnOk result (self.new ≡ self.old ++ mask ∷ []) }
         ensures err { OnErr result (self.new ≡ self.old) }
@@ -157,7 +157,7 @@ impl Hostmasks {
         Ok(())
     }
 
-    // Takes out the mask of this text.
+    // Removes the mask of this text.
     pub(crate) fn remove(&mut self, mask: &[u8])
         ensures { self.new ≡ masks_without mask.now self.old }
     {
@@ -172,14 +172,14 @@ impl TryCopy for Hostmasks {
     }
 }
 
-// Whether one of the masks has this text by casemapping.
+// Whether one of the masks has this text, by casemapping.
 pub(crate) fn has_mask(masks: &[Hostmask], mask: &[u8]) -> bool
     ensures { result ≡ has_mask mask.now masks.now }
 {
     masks.iter().any(|held| is_same(mask, held.as_bytes()))
 }
 
-// Keeps the masks but those of this text, in their order.
+// Removes the masks of this text, and keeps the others in their order.
 fn keep_others(masks: &mut Vec<Hostmask>, mask: &[u8])
     ensures { masks.new.items ≡ masks_without mask.now masks.old.items }
 {

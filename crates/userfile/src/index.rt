@@ -1,5 +1,5 @@
-// Where hostmasks stand: under each tail the masks of it, by the places of their users. A look-up asks only for the
-// ends of a text, at most one for each length of a tail.
+// The index of hostmasks: under each tail the masks that have it, by the positions of their users. A look-up tries only
+// the ends of a text, at most one for each length of a tail.
 ghost use Rattle.std.specs.Prelude.{◌≡◌, ◌<◌, ◌==◌, not, List, [], ℕ, OnOk, OnErr, filter, map, length};
 ghost use Rattle.std.specs.List.{list_any};
 ghost use Rattle.userfile.specs.Index.{IsIn, IsUnder, Keeps, KeepsAll, IsWithOnly, AddsOnly, AddsNothing, LeavesListed, LeavesOut};
@@ -11,11 +11,11 @@ use indexmap::IndexMap;
 use std::alloc::Global;
 use wildmask::{Signature, Tail};
 
-// How many lengths a tail may have: 0 to 16 bytes.
+// The number of lengths that a tail may have: 0 to 16 bytes.
 pub(crate) const TAIL_LENGTHS: usize = 17;
 
-// What stands in the index of a mask: the place of its user, and what decides whether the mask is worth a match. A
-// user's masks of as many literals, which need the same pairs, have one listing where they have one tail.
+// What the index has for a mask: the position of its user, and what decides whether the mask is worth a match. Masks
+// of one user that have the same tail, the same number of literals and the same pairs share one listing.
 #[derive(Clone, Copy)]
 pub(crate) struct Listing {
     pub(crate) place: usize,
@@ -23,7 +23,7 @@ pub(crate) struct Listing {
     pub(crate) pairs: Signature,
 }
 
-// What stands in the index of a mask of the user at a place.
+// The listing of a mask of the user at position `place`.
 pub(crate) fn listing_of(mask: &Hostmask, place: usize) -> Listing
     ensures { result ≡ listing_of place mask.now }
 {
@@ -38,7 +38,7 @@ impl Listing {
     ghost use Rattle.std.specs.Prelude.{◌≡◌};
     ghost use Rattle.userfile.specs.Index.{is_of};
 
-    // Whether this is the listing of a mask of its user.
+    // Whether this is the listing of `mask`, one of its user's masks.
     pub(crate) fn is_of(&self, mask: &Hostmask) -> bool
         ensures { result ≡ is_of self.now mask.now }
     {
@@ -46,15 +46,15 @@ impl Listing {
     }
 }
 
-// The index: it has just the masks of the users.
+// The index: it has exactly the masks of the users.
 #[derive(Drop)]
 pub(crate) struct TailIndex {
     pub(crate) groups: IndexMap<Tail, Vec<Listing>>,
-    // 1 where there has been a tail of so many bytes, and 0 elsewhere
+    // for each length, 1 if a tail of this length has been added, else 0
     pub(crate) lengths: [u8; TAIL_LENGTHS],
 }
 
-// The index without listings. Takes no memory.
+// Creates an index without listings. Does not allocate.
 pub(crate) fn new_index(alloc: Global) -> TailIndex
     ensures { result.groups.entries ≡ [] }
 {
@@ -64,7 +64,7 @@ pub(crate) fn new_index(alloc: Global) -> TailIndex
     }
 }
 
-// What stands under the end of a text of so many bytes.
+// The listings under the last `len` bytes of a person's text.
 pub(crate) fn listings_of<'a>(index: &'a TailIndex, who: &[u8], len: usize) -> &'a [Listing]
     requires { len < TAIL_LENGTHS }
     ensures { result.now ≡ asked_at index.now who.now len }
@@ -76,7 +76,7 @@ pub(crate) fn listings_of<'a>(index: &'a TailIndex, who: &[u8], len: usize) -> &
     }
 }
 
-// What stands under a tail.
+// The listings under a tail.
 fn listings_under<'a>(groups: &'a IndexMap<Tail, Vec<Listing>>, tail: Tail) -> &'a [Listing]
     ensures { result.now ≡ listings_at tail groups.now.entries }
 {
@@ -86,7 +86,7 @@ fn listings_under<'a>(groups: &'a IndexMap<Tail, Vec<Listing>>, tail: Tail) -> &
     }
 }
 
-// Puts a listing under a tail.
+// Adds a listing under a tail.
 pub(crate) fn add_listing(
     index: &mut TailIndex,
     alloc: Global,
@@ -103,7 +103,7 @@ pub(crate) fn add_listing(
     put(&mut index.groups, alloc, tail, listing)
 }
 
-// Puts a listing into the group of a tail.
+// Adds a listing to the group of a tail.
 fn put(
     groups: &mut IndexMap<Tail, Vec<Listing>>,
     alloc: Global,
@@ -124,7 +124,7 @@ fn put(
     Ok(())
 }
 
-// Puts a listing after the others, where it is not among them.
+// Appends a listing if it is not in the group yet.
 fn put_once(group: &mut Vec<Listing>, listing: &Listing) -> Result<(), NoMemory>
     ensures kept { KeepsAll group.old.items group.new.items }
     ensures only { IsWithOnly group.old.items group.new.items listing.now }
@@ -137,7 +137,7 @@ fn put_once(group: &mut Vec<Listing>, listing: &Listing) -> Result<(), NoMemory>
     Ok(())
 }
 
-// Whether a listing is among these.
+// Whether a listing is in the group.
 fn has_listing(group: &[Listing], listing: &Listing) -> bool
     ensures { result ≡ list_any (same_listing listing.now) group.now }
 {
@@ -150,7 +150,7 @@ fn is_same(a: &Listing, b: &Listing) -> bool
     a.place == b.place && a.literals == b.literals && a.pairs == b.pairs
 }
 
-// Keeps of the listings of a place those of these masks.
+// Removes those listings of the user at position `place` that belong to none of these masks.
 pub(crate) fn keep_masks(
     groups: &mut IndexMap<Tail, Vec<Listing>>,
     place: usize,
@@ -158,7 +158,7 @@ pub(crate) fn keep_masks(
 )
     ensures { LeavesListed groups.old.entries groups.new.entries place masks.now }
 {
-    // No two groups have one tail: `len` says so.
+    // No two groups have the same tail: `len` says so.
     if groups.len() > 0 {
         groups.retain(
             |tail: &Tail, group: &mut Vec<Listing>| -> bool
@@ -177,7 +177,7 @@ fn keep_listed(group: &mut Vec<Listing>, tail: &Tail, place: usize, masks: &[Hos
     group.retain(|held| held.place != place || is_listed(tail, held, masks));
 }
 
-// Whether one of these masks, of a listing's user, has this tail and the listing.
+// Whether any of these masks, those of a listing's user, has this tail and the listing.
 fn is_listed(tail: &Tail, listing: &Listing, masks: &[Hostmask]) -> bool
     ensures { result ≡ is_listed tail.now listing.now masks.now }
 {
@@ -186,7 +186,7 @@ fn is_listed(tail: &Tail, listing: &Listing, masks: &[Hostmask]) -> bool
         .any(|mask| listing.is_of(mask) && *tail == mask.tail())
 }
 
-// Takes out the listings of a user who is gone: the places after it move up by one.
+// Removes the listings of a user that was removed, and moves the listings of later users up by one.
 pub(crate) fn remove_user(groups: &mut IndexMap<Tail, Vec<Listing>>, place: usize)
     ensures { LeavesOut groups.old.entries groups.new.entries place }
 {
@@ -202,7 +202,7 @@ pub(crate) fn remove_user(groups: &mut IndexMap<Tail, Vec<Listing>>, place: usiz
     }
 }
 
-// Takes out the listings of a place, and moves the places after it up by one.
+// Removes the listings of the user at position `place`, and moves the listings of later users up by one.
 fn leave_out(group: &mut Vec<Listing>, place: usize)
     ensures { group.new.items ≡ listings_without place group.old.items }
 {

@@ -22,7 +22,7 @@ use indexmap::IndexMap;
 use rfccase::ShortFold;
 use std::alloc::Global;
 
-// The place of the user with the handle.
+// The position of the user with the handle.
 pub(crate) fn place_of(users: &IndexMap<Vec<u8>, User>, handle: &[u8]) -> Option<usize>
     requires { IsKeyed users.now.entries }
     ensures { result ≡ position_from (λ u. is_same handle.now u.handle) 0 (values users.now) }
@@ -33,7 +33,7 @@ pub(crate) fn place_of(users: &IndexMap<Vec<u8>, User>, handle: &[u8]) -> Option
     }
 }
 
-// Puts a hostmask after those of the user with the handle.
+// Appends a hostmask to those of the user with the handle.
 pub(crate) fn add_host(
     users: &mut IndexMap<Vec<u8>, User>,
     index: &mut TailIndex,
@@ -54,8 +54,8 @@ pub(crate) fn add_host(
     }
 }
 
-// Puts a hostmask after those of the user with the handle, who stands at this place. Where the user's list can't grow,
-// the index is put right again, which takes no memory.
+// Appends a hostmask to those of the user with the handle, who is at position `place`. If the user's list can't grow,
+// the call repairs the look-up index, which does not allocate.
 fn add_host_at(
     users: &mut IndexMap<Vec<u8>, User>,
     index: &mut TailIndex,
@@ -82,7 +82,7 @@ fn add_host_at(
     }
 }
 
-// Takes a hostmask from the user with the handle.
+// Removes a hostmask from the user with the handle.
 pub(crate) fn del_host(
     users: &mut IndexMap<Vec<u8>, User>,
     index: &mut TailIndex,
@@ -102,7 +102,7 @@ pub(crate) fn del_host(
     }
 }
 
-// Keeps of the listings of the user at a place those of the user's masks.
+// Removes those listings of the user at position `place` that belong to none of the user's masks.
 fn tidy(users: &IndexMap<Vec<u8>, User>, index: &mut TailIndex, place: usize)
     requires covers { Covers index.old 0 (values users.now) }
     requires others { NamesBut place index.old (values users.now) }
@@ -111,7 +111,7 @@ fn tidy(users: &IndexMap<Vec<u8>, User>, index: &mut TailIndex, place: usize)
     keep_masks(&mut index.groups, place, masks_at(users, place));
 }
 
-// The masks of the user at a place.
+// The masks of the user at position `place`.
 fn masks_at(users: &IndexMap<Vec<u8>, User>, place: usize) -> &[Hostmask]
     ensures { result.now ≡ masks_at (values users.now) place }
 {
@@ -121,7 +121,7 @@ fn masks_at(users: &IndexMap<Vec<u8>, User>, place: usize) -> &[Hostmask]
     }
 }
 
-// Takes out the user with the handle.
+// Removes the user with the handle.
 pub(crate) fn del_user(users: &mut IndexMap<Vec<u8>, User>, index: &mut TailIndex, handle: &[u8])
     requires keyed { IsKeyed users.old.entries }
     requires apart { repeats_handle (values users.old) ≡ false }
@@ -151,7 +151,7 @@ pub(crate) fn index_of(
     Ok(index)
 }
 
-// Puts these masks, of the user at a place, under their tails.
+// Adds these masks, of the user at position `place`, under their tails.
 fn add_masks(
     index: &mut TailIndex,
     alloc: Global,
@@ -168,7 +168,7 @@ fn add_masks(
     Ok(())
 }
 
-// Puts a mask, of the user at a place, under its tail.
+// Adds a mask, of the user at position `place`, under its tail.
 fn add_mask(
     index: &mut TailIndex,
     alloc: Global,

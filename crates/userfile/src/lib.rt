@@ -1,18 +1,19 @@
 //! The userfile: what a botnet shares about people, as the result of a numbered list of changes.
 //!
 //! A [`Userfile`] holds users and bans, each in the order in which they were added. A [`Change`] is one edit of it;
-//! [`Userfile::apply`] either makes the change whole or answers the first refusal that holds and leaves the userfile as
-//! it was. The same changes in the same order give the same records on every bot.
+//! [`Userfile::apply`] either makes the whole change, or returns the first refusal that applies and leaves the userfile
+//! as it was. The same changes in the same order give the same records on every bot.
 //!
-//! Who has to write a change down before it is made calls the two halves of `apply`: [`Userfile::ready`] takes all memory
-//! that the change needs, or is refused, and then [`Update::commit`] makes the change without memory, or
-//! [`Update::cancel`] gives it up where it could not be written.
+//! A caller that must write a change to a journal before it makes the change calls the two halves of `apply`.
+//! [`Userfile::ready`] allocates all memory that the change needs, or fails. Then [`Update::commit`] makes the change
+//! without allocating, or [`Update::cancel`] rolls it back if it could not be written.
 //!
 //! Handles, hostmasks and channels are compared by casemapping (RFC 2812 section 2.2) and kept as they were given.
 //! [`Userfile::handle_of`] says who a person is, written as `nick!user@host`: of all hostmasks that match, the one with
-//! most literals decides, then the earlier user, then the earlier mask. [`Userfile::flags_of`] gives a user's flags,
+//! most literals decides, then the earlier user, then the earlier mask. [`Userfile::flags_of`] returns a user's flags,
 //! [`Userfile::info_of`] the info text, [`Userfile::ban_for`] the first ban that keeps a person off a channel, and
-//! [`Userfile::sticky_ban`] the first that comes back where its mask is taken off a channel. These take no memory.
+//! [`Userfile::sticky_ban`] the first ban that comes back when its mask is removed from a channel. These do not
+//! allocate.
 //!
 //! ```text
 //! let mut userfile = Userfile::new(alloc);

@@ -1,5 +1,5 @@
 // How much a userfile holds, and how long its texts are. Eggdrop's handles have 32 bytes; the other limits are our own
-// choice. The limits of hostmasks stand in `wildmask`, that of channel names in `rfccase`.
+// choice. `wildmask` has the limits of hostmasks, and `rfccase` that of channel names.
 
 /// The most users that a userfile holds.
 pub const MAX_USERS: usize = 500;

@@ -1,4 +1,4 @@
-// Who a person is: the best claim of the hostmasks that match, looked for under the ends of the person's text.
+// Who a person is: the best claim of the hostmasks that match, looked up by the ends of the person's text.
 ghost use Rattle.std.specs.Prelude.{◌≡◌, ◌≤◌, ◌&&◌, ℕ, List, None, length, slice_get};
 ghost use Rattle.std.specs.List.{list_any};
 ghost use Rattle.std.specs.Option.{option_copied};
@@ -15,7 +15,7 @@ use crate::user::User;
 use indexmap::IndexMap;
 use wildmask::Signature;
 
-// The best claim to be a person: how many literals the mask has, and the place of its user.
+// The best claim to be a person: the number of the mask's literals, and the position of its user.
 #[derive(Clone, Copy)]
 pub(crate) struct Winner {
     pub(crate) literals: u8,
@@ -47,7 +47,7 @@ fn user_at<'a>(users: &'a IndexMap<Vec<u8>, User>, best: Option<Winner>) -> Opti
     }
 }
 
-// The best claim of the masks that stand under an end of the person's text.
+// The best claim of the masks that the index has under any end of the person's text.
 fn best_claim(users: &IndexMap<Vec<u8>, User>, index: &TailIndex, who: &[u8]) -> Option<Winner>
     ensures { result ≡ after_listings who.now (values users.now) (asked index.now who.now 17) None }
 {
@@ -59,7 +59,7 @@ fn best_claim(users: &IndexMap<Vec<u8>, User>, index: &TailIndex, who: &[u8]) ->
     best
 }
 
-// The better of the best claim so far and those of these listings.
+// The best of the best claim so far and the claims of these listings.
 fn best_of_group(
     best: Option<Winner>,
     users: &IndexMap<Vec<u8>, User>,
@@ -84,8 +84,8 @@ fn best_of_group(
     so_far
 }
 
-// The listings from the first on that needs no pair that the person's text hasn't. Most of a large group is left out
-// here, in a loop of its own for speed.
+// The listings from the first one whose pairs the person's text has. Most of a large group is skipped here, in a loop
+// of its own for speed.
 fn from_first_within(group: &[Listing], pairs: Signature) -> &[Listing]
     ensures same { SameBest pairs result.now group.now }
     ensures shorter { length result.now ≤ length group.now }
@@ -100,7 +100,8 @@ fn from_first_within(group: &[Listing], pairs: Signature) -> &[Listing]
     rest
 }
 
-// Whether a listing's masks are worth a match: they need no pair that the person's text hasn't, and would be better.
+// Whether a listing's masks are worth a match: the person's text has the pairs that they need, and they would be
+// better.
 fn may_win(listing: &Listing, best: Option<Winner>, pairs: Signature) -> bool
     ensures { (who : List ℕ) → pairs ≡ text_signature who → result ≡ may_win who listing.now best }
 {
@@ -117,7 +118,7 @@ fn has_match(users: &IndexMap<Vec<u8>, User>, listing: &Listing, who: &[u8]) -> 
     }
 }
 
-// Whether one of these masks, of the listing's user, is one of the listing and matches the person.
+// Whether any of these masks, those of the listing's user, belongs to the listing and matches the person.
 fn one_matches(masks: &[Hostmask], listing: &Listing, who: &[u8]) -> bool
     ensures { result ≡ list_any (λ mask. is_of listing.now mask && is_match mask who.now) masks.now }
 {
@@ -126,7 +127,7 @@ fn one_matches(masks: &[Hostmask], listing: &Listing, who: &[u8]) -> bool
         .any(|mask| listing.is_of(mask) && mask.matches(who))
 }
 
-// Whether a mask of so many literals, of the user at a place, is better than the best claim so far.
+// Whether a mask with `literals` literals, of the user at position `place`, is better than the best claim so far.
 fn is_better(literals: u8, place: usize, best: Option<Winner>) -> bool
     ensures { result ≡ is_better literals place best }
 {

@@ -1,4 +1,4 @@
-// What is made of a change before it is made, so that making it takes no memory.
+// What a change needs, made in advance, so that making the change does not allocate.
 ghost use Rattle.std.specs.Prelude.{◌≡◌, ◌≢◌, None, true, false, IfOk, IfErr, OnErr};
 ghost use Rattle.std.specs.Map.{values_of};
 ghost use Rattle.bytetext.specs.declared.failure.Failure.TheVariants.{NoMemory as no_memory};
@@ -26,21 +26,21 @@ use flagexpr::Flags;
 use indexmap::IndexMap;
 use std::alloc::Global;
 
-/// What is made of a change before it is made, by what it asks for.
+/// What was made in advance for a change, by what the change does.
 #[derive(Drop)]
 pub enum Plan {
-    /// Nothing: the change takes no memory.
+    /// Nothing: the change does not allocate.
     Later,
-    /// The user, the hostmask or the ban that it adds, which stands with the others already. To take it out again takes
-    /// no memory.
+    /// The user, the hostmask or the ban that the change adds. It is among the others already, and removing it again
+    /// does not allocate.
     Added,
-    /// The entries that the user of a handle will have.
+    /// The channel entries that the user of a handle will have: the handle, and the entries.
     Channels(Text, ChannelEntries),
-    /// The info text that the user of a handle will have.
+    /// The info text that the user of a handle will have: the handle, and the text.
     Info(Text, Text),
 }
 
-// Makes what a change asks for that isn't refused.
+// Makes in advance what a change needs; the change isn't refused.
 pub(crate) fn plan_for(
     users: &mut IndexMap<Vec<u8>, User>,
     index: &mut TailIndex,
@@ -105,7 +105,7 @@ pub(crate) fn plan_for(
     }
 }
 
-// The entries that the user of a handle has with some flags on a channel.
+// The entries that the user of a handle will have once these flags are set on a channel.
 fn entries_with(
     users: &IndexMap<Vec<u8>, User>,
     alloc: Global,
@@ -124,7 +124,7 @@ fn entries_with(
     }
 }
 
-// Makes a change that takes no memory.
+// Makes a change that does not allocate.
 pub(crate) fn take_in(
     users: &mut IndexMap<Vec<u8>, User>,
     index: &mut TailIndex,
@@ -164,7 +164,7 @@ pub(crate) fn take_in(
         Change::DelBan { channel, mask } => {
             keep_other_bans(bans, channel.as_bytes(), mask.as_bytes());
         }
-        // Only an empty info text takes no memory.
+        // Only an empty info text does not allocate.
         Change::SetInfo { handle, .. } => {
             let nothing = Text::empty(*users.allocator());
             edit_user(users, handle.as_bytes(), Edit::SetInfo(nothing));
@@ -177,14 +177,14 @@ pub(crate) fn take_in(
                 *on,
             );
         }
-        // These take memory.
+        // These allocate.
         Change::AddUser { .. } => {}
         Change::AddHost { .. } => {}
         Change::AddBan { .. } => {}
     }
 }
 
-// Takes out what a change has added.
+// Removes what a change has added.
 pub(crate) fn take_back(
     users: &mut IndexMap<Vec<u8>, User>,
     index: &mut TailIndex,

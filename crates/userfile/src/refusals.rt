@@ -9,7 +9,8 @@ use crate::error::ChangeFault;
 use crate::shapes::{is_ban_channel, is_comment, is_handle, is_hostmask, is_info};
 use rfccase::is_channel_name;
 
-/// The refusal of a change for its own shape, whatever a userfile holds; none where the shape is good. Takes no memory.
+/// Returns the refusal of `change` for its own shape, whatever a userfile holds, or `None` if the shape is good. Does
+/// not allocate.
 pub fn shape(change: &Change) -> Option<ChangeFault>
     ensures { result ≡ bad_shape change.now }
 {
@@ -73,14 +74,14 @@ fn ban_fault(channel: &[u8], mask: &[u8]) -> Option<ChangeFault>
     )
 }
 
-// This fault where the test passes.
+// The fault, if the test passes.
 pub(crate) fn fault_if(test: bool, fault: ChangeFault) -> Option<ChangeFault>
     ensures { result ≡ fault_if test fault }
 {
     if test { Some(fault) } else { None }
 }
 
-// This fault where the test fails.
+// The fault, if the test fails.
 pub(crate) fn fault_unless(test: bool, fault: ChangeFault) -> Option<ChangeFault>
     ensures { result ≡ fault_unless test fault }
 {

@@ -7,7 +7,7 @@ use crate::limits::{MAX_COMMENT, MAX_HANDLE, MAX_INFO};
 use rfccase::is_channel_name;
 use wildmask::host_fault;
 
-/// Whether these bytes are a handle: 1 to 32 bytes from 33 to 126, none of them one of `* , : @`.
+/// Returns whether `bytes` are a handle: 1 to 32 bytes from 33 to 126, none of them one of `* , : @`.
 #[tactic(auto, unfolding(crate::specs::Shapes::is_handle))]
 pub fn is_handle(bytes: &[u8]) -> bool
     ensures { result ≡ is_handle bytes.now }
@@ -27,7 +27,7 @@ fn is_handle_byte(byte: u8) -> bool
     byte >= 33 && byte <= 126 && byte != b'*' && byte != b',' && byte != b':' && byte != b'@'
 }
 
-/// Whether these bytes may be a ban's channel: a channel name, or no byte for a ban of all channels.
+/// Returns whether `bytes` may be a ban's channel: a channel name, or empty for a ban of all channels.
 #[tactic(auto, unfolding(crate::specs::Shapes::is_ban_channel))]
 pub fn is_ban_channel(bytes: &[u8]) -> bool
     ensures { result ≡ is_ban_channel bytes.now }
@@ -35,7 +35,7 @@ pub fn is_ban_channel(bytes: &[u8]) -> bool
     bytes.is_empty() || is_channel_name(bytes)
 }
 
-/// Whether these bytes are a hostmask, as `wildmask` makes one.
+/// Returns whether `bytes` are a hostmask by the rules of `wildmask`.
 #[tactic(auto, unfolding(crate::specs::Shapes::is_hostmask))]
 pub fn is_hostmask(bytes: &[u8]) -> bool
     ensures { result ≡ is_hostmask bytes.now }
@@ -43,7 +43,7 @@ pub fn is_hostmask(bytes: &[u8]) -> bool
     host_fault(bytes).is_none()
 }
 
-/// Whether these bytes may be a ban's comment: at most 100 bytes, none of them NUL, CR or LF.
+/// Returns whether `bytes` may be a ban's comment: at most 100 bytes, none of them NUL, CR or LF.
 #[tactic(auto, unfolding(crate::specs::Shapes::is_comment))]
 pub fn is_comment(bytes: &[u8]) -> bool
     ensures { result ≡ is_comment bytes.now }
@@ -51,7 +51,7 @@ pub fn is_comment(bytes: &[u8]) -> bool
     bytes.len() <= MAX_COMMENT && is_one_line(bytes)
 }
 
-/// Whether these bytes may be a user's info text: at most 80 bytes, none of them NUL, CR or LF.
+/// Returns whether `bytes` may be a user's info text: at most 80 bytes, none of them NUL, CR or LF.
 #[tactic(auto, unfolding(crate::specs::Shapes::is_info))]
 pub fn is_info(bytes: &[u8]) -> bool
     ensures { result ≡ is_info bytes.now }
@@ -59,7 +59,7 @@ pub fn is_info(bytes: &[u8]) -> bool
     bytes.len() <= MAX_INFO && is_one_line(bytes)
 }
 
-/// Whether none of these bytes is NUL, CR or LF.
+/// Returns whether none of the `bytes` is NUL, CR or LF.
 pub fn is_one_line(bytes: &[u8]) -> bool
     ensures { result ≡ list_all is_line_byte bytes.now }
 {

@@ -1,4 +1,4 @@
-// Which records stand together in one userfile.
+// Which records can be together in one userfile.
 ghost use Rattle.std.specs.Prelude.{◌≡◌};
 ghost use Rattle.std.specs.List.{list_any, list_all};
 ghost use Rattle.rfccase.specs.Casemapping.{is_same};
@@ -16,8 +16,8 @@ use crate::texts::is_same;
 use crate::user::User;
 use rfccase::is_channel_name;
 
-/// Whether a user's handle is one, each channel is named once, is a channel name and has flags, and the info text may
-/// be one.
+/// Returns whether `user` is good: the handle passes [`is_handle`](crate::is_handle), each channel is
+/// named once, is a channel name and has flags, and the info text passes [`is_info`](crate::is_info).
 #[tactic(auto, unfolding(crate::specs::Together::is_user))]
 pub fn is_user(user: &User) -> bool
     ensures { result ≡ is_user user.now }
@@ -28,7 +28,7 @@ pub fn is_user(user: &User) -> bool
         && is_info(user.info.as_bytes())
 }
 
-/// Whether a ban's creator is a handle, its channel may be a ban's, and its comment too.
+/// Returns whether `ban` is good: the creator is a handle, and the channel and the comment may be a ban's.
 #[tactic(auto, unfolding(crate::specs::Together::is_good_ban))]
 pub fn is_ban(ban: &Ban) -> bool
     ensures { result ≡ is_good_ban ban.now }
@@ -38,21 +38,21 @@ pub fn is_ban(ban: &Ban) -> bool
         && is_comment(ban.comment.as_bytes())
 }
 
-/// Whether each of these passes [`is_user`].
+/// Returns whether each of the `users` passes [`is_user`].
 pub fn are_users(users: &[User]) -> bool
     ensures { result ≡ list_all is_user users.now }
 {
     users.iter().all(is_user)
 }
 
-/// Whether each of these passes [`is_ban`].
+/// Returns whether each of the `bans` passes [`is_ban`].
 pub fn are_bans(bans: &[Ban]) -> bool
     ensures { result ≡ list_all is_good_ban bans.now }
 {
     bans.iter().all(is_ban)
 }
 
-// The first reason for which records don't stand together.
+// The first reason why records can't be together in one userfile.
 pub(crate) fn records_fault(users: &[User], bans: &[Ban]) -> Option<ChangeFault>
     ensures { result ≡ records_fault users.now bans.now }
 {

@@ -1,4 +1,4 @@
-// A change that is about to be made.
+// A change that is ready to be made.
 ghost use Rattle.std.specs.Prelude.{◌≡◌, true, IfOk, IfErr, OnErr};
 ghost use Rattle.std.specs.Borrow.{sem};
 ghost use Rattle.bytetext.specs.declared.failure.Failure.TheVariants.{NoMemory as no_memory};
@@ -13,8 +13,9 @@ use crate::userfile::Userfile;
 use bytetext::refuse;
 use std::alloc::Global;
 
-/// A change that is about to be made: all memory that it takes is there. Until [`commit`](Update::commit) or
-/// [`cancel`](Update::cancel), one of which has to come, the userfile is lent to this, and nobody else sees it.
+/// A change that is ready to be made: all memory that it needs is allocated. The caller must call either
+/// [`commit`](Update::commit) or [`cancel`](Update::cancel). Until then the update borrows the userfile, and nobody
+/// else sees it.
 pub struct Update<'a, 'c, P> {
     userfile: &'a mut Userfile,
     change: &'c Change,
@@ -22,11 +23,12 @@ pub struct Update<'a, 'c, P> {
 }
 
 impl Userfile {
-    /// Takes all memory that a change needs, before anything that is seen changes.
+    /// Allocates all memory that `change` needs, before anybody can see the change.
     ///
     /// # Errors
-    /// `Refused` with the first fault that holds, or `NoMemory`, only for a change that adds a user, a hostmask or a ban,
-    /// that sets flags on a channel, or that sets an info text that isn't empty. Both leave the userfile as it was.
+    /// `Refused` with the first fault that applies. Or `NoMemory`, only for a change that adds a user, a hostmask or a
+    /// ban, that sets flags on a channel, or that sets an info text that isn't empty. Both leave the userfile as it
+    /// was.
     pub fn ready<'a, 'c>(
         &'a mut self,
         alloc: Global,
@@ -48,7 +50,7 @@ impl Userfile {
 }
 
 impl Update<'_, '_, Plan> {
-    /// Makes the change. Takes no memory.
+    /// Makes the change. Does not allocate.
     pub fn commit(self)
         requires { IsSuited self }
         ensures { self.exit.0.now ≡ records_after self.entry }
@@ -61,9 +63,9 @@ impl Update<'_, '_, Plan> {
         userfile.settle(change, plan);
     }
 
-    /// Gives the change up: the records are as before it was made ready. Takes no memory. A user, a hostmask or a ban that
-    /// was to be added is looked up among the others and taken out again; for a user or a hostmask the look-up index is
-    /// gone through too.
+    /// Rolls the change back: the records are as they were before [`ready`](Userfile::ready). Does not allocate. To
+    /// roll back the addition of a user, a hostmask or a ban, it searches the others for the added one and removes
+    /// it; for a user or a hostmask it also goes through the look-up index.
     pub fn cancel(self)
         requires { IsSuited self }
         ensures { self.exit.0.now ≡ records_before self.entry }
@@ -77,7 +79,7 @@ impl Update<'_, '_, Plan> {
     }
 }
 
-// Makes what a change asks for.
+// Refuses the change, or makes in advance what it needs.
 fn make(userfile: &mut Userfile, alloc: Global, change: &Change) -> Result<Plan, ChangeError>
     ensures ready { IfOk result (λ plan. IsMade plan change.now userfile.old userfile.new) }
     ensures refused { IfErr result (λ e. IsWhy change.now userfile.old e) }

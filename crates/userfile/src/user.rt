@@ -12,19 +12,19 @@ use std::alloc::Global;
 pub struct User {
     /// The handle as it was given.
     pub handle: Text,
-    /// The hostmasks by which the user is known, in the order in which they were added.
+    /// The hostmasks that identify the user, in the order in which they were added.
     pub masks: Hostmasks,
-    /// The flags that hold everywhere.
+    /// The flags that the user has everywhere.
     pub global: Flags,
     /// The flags on channels, in the order in which their channels were first set.
     pub channels: ChannelEntries,
     /// The flags of the user as a bot.
     pub bot: Flags,
-    /// What the user or others say of the user: 0 to 80 bytes on one line, none at first.
+    /// The info text, by which the user or others describe the user: 0 to 80 bytes on one line, empty at first.
     pub info: Text,
 }
 
-// By hand, so that this is proved once, and not in each function in which one ends.
+// By hand, so that the drop is proved once, and not in each function that drops a user.
 impl Drop for User {
     fn drop(self) {
         let User {
@@ -42,7 +42,7 @@ impl User {
     ghost use Rattle.std.specs.Prelude.{◌≡◌};
     ghost use Rattle.userfile.specs.Apply.{new_user};
 
-    // The user of this handle, without hostmasks, flags and an info text.
+    // Creates a user with this handle, without hostmasks, flags or an info text.
     pub(crate) fn new(alloc: Global, handle: Text) -> User
         ensures { result ≡ new_user handle }
     {

@@ -56,7 +56,7 @@ impl Userfile {
     ghost use Rattle.userfile.specs.Held.{user_of};
     ghost use Rattle.userfile.specs.Persons.{ban_for, flags_of, handle_of, info_of, sticky_ban, IsHandleFor};
 
-    /// The userfile without records. Takes no memory.
+    /// Creates a userfile without records. Does not allocate.
     pub fn new(alloc: Global) -> Userfile
         ensures { result ≡ no_records }
     {
@@ -67,13 +67,13 @@ impl Userfile {
         }
     }
 
-    /// The userfile of just these users and bans, in their order. Nothing of them is copied.
+    /// Creates a userfile of exactly these `users` and `bans`, in their order. Copies neither.
     ///
     /// # Errors
-    /// `Refused` with the first of these that holds: `UserExists` where two users have one handle, `MaskExists` where a
-    /// user has a mask twice, `BanExists` where two bans have one channel and mask, `Full` where there are more users,
-    /// bans, masks of a user or channels of a user than a userfile holds. Or `NoMemory`, where none of them holds and a
-    /// growth is refused: never where there is no user. The users and bans are gone then.
+    /// `Refused` with the first of these that applies: `UserExists` if two users have the same handle, `MaskExists`
+    /// if a user has a mask twice, `BanExists` if two bans have the same channel and mask, `Full` if there are more
+    /// users, bans, masks of a user or channels of a user than a userfile holds. Or `NoMemory`, if none of them
+    /// applies and an allocation fails; never if `users` is empty. Each error drops `users` and `bans`.
     pub fn from_records(
         alloc: Global,
         users: Vec<User>,
@@ -90,23 +90,23 @@ impl Userfile {
         Ok(Userfile { users, index, bans })
     }
 
-    /// What always holds of the records: each user and each ban is good, and none of the reasons for which
-    /// [`from_records`](Userfile::from_records) refuses records holds of them. There is nothing to run: who writes the
-    /// records down calls it for its clause, which lets them be read again.
+    /// States what always holds of the records: each user and each ban is good, and
+    /// [`from_records`](Userfile::from_records) has no reason to refuse them. Does nothing at run time: a caller that
+    /// writes the records calls it for its clause, by which the records can be read back.
     pub fn are_sound(&self)
         ensures { AreSound self.now }
     {
         let _ = &self.users;
     }
 
-    /// How many users there are.
+    /// Returns the number of users.
     pub fn user_count(&self) -> usize
         ensures { result ≡ length self.now.users }
     {
         self.users.len()
     }
 
-    /// The user at this place, from 0; none after the last.
+    /// Returns the user at index `place`, counted from 0, or `None` after the last.
     pub fn user_at(&self, place: usize) -> Option<&User>
         ensures { option_copied result ≡ slice_get self.now.users place }
     {
@@ -116,29 +116,29 @@ impl Userfile {
         }
     }
 
-    /// How many bans there are, those that have ended included.
+    /// Returns the number of bans, including those that have ended.
     pub fn ban_count(&self) -> usize
         ensures { result ≡ length self.now.bans }
     {
         self.bans.len()
     }
 
-    /// The ban at this place, from 0; none after the last.
+    /// Returns the ban at index `place`, counted from 0, or `None` after the last.
     pub fn ban_at(&self, place: usize) -> Option<&Ban>
         ensures { option_copied result ≡ slice_get self.now.bans place }
     {
         self.bans.as_slice().get(place)
     }
 
-    /// The user of this handle.
+    /// Returns the user with the `handle`, if there is one.
     pub fn user(&self, handle: &[u8]) -> Option<&User>
         ensures { option_copied result ≡ user_of handle.now self.now.users }
     {
         find_user(&self.users, handle)
     }
 
-    /// The handle of who a person, written as `nick!user@host`, is: of all hostmasks that match, the one with most
-    /// literals decides, then the earlier user, then the earlier mask. `*` where none matches.
+    /// Returns the handle of the person `who`, written as `nick!user@host`. Of all hostmasks that match, the one with
+    /// most literals decides, then the earlier user, then the earlier mask. Returns `*` if none matches.
     pub fn handle_of(&self, who: &[u8]) -> &[u8]
         ensures value { result.now ≡ handle_of self.now.users who.now }
         ensures decides { IsHandleFor self.now.users who.now result.now }
@@ -149,7 +149,8 @@ impl Userfile {
         }
     }
 
-    /// The flags of the user of a handle, with those on one channel; none where there is no such user.
+    /// Returns the flags of the user with the `handle`, including those on `channel`; no flags if there is no such
+    /// user.
     pub fn flags_of(&self, handle: &[u8], channel: &[u8]) -> PersonFlags
         ensures { result ≡ flags_of self.now.users handle.now channel.now }
     {
@@ -159,8 +160,8 @@ impl Userfile {
         }
     }
 
-    /// The info text of the user of a handle; the empty text where the user has none, or there is no such user. Takes no
-    /// memory.
+    /// Returns the info text of the user with the `handle`, or the empty text if the user has none or does not exist.
+    /// Does not allocate.
     pub fn info_of(&self, handle: &[u8]) -> &[u8]
         ensures { result.now ≡ info_of self.now.users handle.now }
     {
@@ -170,16 +171,17 @@ impl Userfile {
         }
     }
 
-    /// The first ban that keeps this person, written as `nick!user@host`, off a channel at this second: it is of that
-    /// channel or of all, its mask matches, and it has not ended.
+    /// Returns the first ban that keeps the person `who`, written as `nick!user@host`, off `channel` at the second
+    /// `now`: the ban is of that channel or of all, its mask matches, and it has not ended.
     pub fn ban_for(&self, channel: &[u8], who: &[u8], now: u64) -> Option<&Ban>
         ensures { option_copied result ≡ ban_for self.now.bans channel.now who.now now }
     {
         self.bans.iter().find(|ban| ban.bars(channel, who, now))
     }
 
-    /// The first ban that comes back to a channel at this second where somebody takes this mask off it: it is sticky, of
-    /// that channel or of all, it has not ended, and its mask is this one by casemapping. Takes no memory.
+    /// Returns the first ban that comes back to `channel` if somebody removes `mask` from it at the second `now`: the
+    /// ban is sticky, of that channel or of all, it has not ended, and its mask equals `mask` by casemapping. Does
+    /// not allocate.
     pub fn sticky_ban(&self, channel: &[u8], mask: &[u8], now: u64) -> Option<&Ban>
         ensures { option_copied result ≡ sticky_ban self.now.bans channel.now mask.now now }
     {
@@ -188,7 +190,7 @@ impl Userfile {
             .find(|ban| ban.returns_to(channel, mask, now))
     }
 
-    /// The first refusal that holds of a change, without making it. Takes no memory.
+    /// Returns the first refusal that applies to `change`, without making it. Does not allocate.
     pub fn refusal_of(&self, change: &Change) -> Option<ChangeFault>
         ensures { result ≡ refusal self.now change.now }
     {
@@ -248,10 +250,10 @@ impl Userfile {
         }
     }
 
-    /// Makes a change: [`ready`](Userfile::ready), and then [`commit`](crate::Update::commit).
+    /// Makes `change`: [`ready`](Userfile::ready), and then [`commit`](crate::Update::commit).
     ///
     /// # Errors
-    /// `Refused` with the first fault that holds, or `NoMemory`; both leave the userfile as it was.
+    /// `Refused` with the first fault that applies, or `NoMemory`; both leave the userfile as it was.
     pub fn apply(&mut self, alloc: Global, change: &Change) -> Result<(), ChangeError>
         ensures applies { Applies self.old change.now result self.new }
         ensures memory { result ≡ Err no_memory → grows change.now ≡ true }
@@ -261,7 +263,7 @@ impl Userfile {
         Ok(())
     }
 
-    // Makes what a change asks for that isn't refused.
+    // Makes in advance what a change needs; the change isn't refused.
     pub(crate) fn plan(&mut self, alloc: Global, change: &Change) -> Result<Plan, ChangeError>
         requires { refusal self.old change.now ≡ None }
         ensures ready { IfOk result (λ plan. IsPlanFor plan change.now self.old self.new) }
@@ -298,7 +300,7 @@ impl Userfile {
         }
     }
 
-    // Takes out what was added by this plan for a change.
+    // Removes what this plan has added for a change.
     pub(crate) fn take_back(&mut self, change: &Change, plan: Plan)
         requires { Suits plan change.now self.old }
         ensures { self.new ≡ before plan change.now self.old }

@@ -4,10 +4,10 @@ use bytejournal::Journal;
 use disks::MemDisk;
 use std::alloc::Global;
 
-// The number of a layout, which is for whoever reads the base and the entries.
+// The number of a layout, for whoever reads the base and the entries.
 const LAYOUT: u8 = 1;
 
-/// How many entries a journal has, after one was appended and what was not synced is lost.
+/// Returns how many entries a journal has after one was appended and all unsynced bytes were lost.
 pub fn kept(alloc: Global) -> Result<usize, Error> {
     let (first, second) = (MemDisk::new(alloc), MemDisk::new(alloc));
     let made = Journal::create(alloc, first, second, LAYOUT, b"base");

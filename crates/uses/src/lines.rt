@@ -1,9 +1,9 @@
-// The lines of a stream, however it is cut.
+// The lines of a stream, wherever it is cut.
 use anyhow::Error;
 use ircline::LineReader;
 use std::alloc::Global;
 
-/// How many lines end in each of two pieces.
+/// Returns how many lines end in each of two pieces.
 pub fn ended(alloc: Global) -> Result<(usize, usize), Error> {
     let mut reader = LineReader::new(alloc);
     let first = reader.feed(alloc, b":ann!a@host PRIV")?;

@@ -8,14 +8,14 @@ use disks::MemDisk;
 use std::alloc::Global;
 use userfile::Change;
 
-/// The versions of a hub and of its leaf after a change that the hub accepts and the leaf is told of.
+/// Returns the versions of a hub and of its leaf after a change that the hub accepts and sends to the leaf.
 pub fn share(alloc: Global) -> Result<(u32, u32), Error> {
     let mut hub = end(alloc, 0)?;
     let mut leaf = end(alloc, 1)?;
     told(alloc, &mut hub, &mut leaf)
 }
 
-// The same of a hub and its leaf that are there.
+// Does the same for an existing hub and leaf.
 fn told(
     alloc: Global,
     hub: &mut BotLink<MemDisk>,
@@ -30,7 +30,8 @@ fn told(
     Ok((hub.version(), leaf.version()))
 }
 
-// An end of the link of a hub, bot 0, and one leaf, with its journal on two disks in memory.
+// Creates the end of the link that has this `number`, with its journal on two disks in memory. The hub is number 0, and
+// has one leaf.
 fn end(alloc: Global, number: u16) -> Result<BotLink<MemDisk>, Error>
     requires { number ≤ 1 }
 {

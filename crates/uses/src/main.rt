@@ -1,4 +1,4 @@
-//! The kit's main types, each used once, in the few lines that the documents show. It prints what came of each.
+//! Uses each of the kit's main types once, in the few lines that the documents show, and prints what came of each.
 #![tactic(auto)]
 
 mod journal;

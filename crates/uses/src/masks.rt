@@ -3,7 +3,7 @@ use anyhow::Error;
 use std::alloc::Global;
 use wildmask::Mask;
 
-/// Whether a mask means a person, in whatever letters the nick is written.
+/// Returns whether a mask matches a person, whatever the case of the letters in the nick.
 pub fn is_meant(alloc: Global) -> Result<bool, Error> {
     let mask = Mask::host(alloc, b"*!bo?@*.net")?;
     Ok(mask.matches(b"x!Bob@a.net"))

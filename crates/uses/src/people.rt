@@ -4,14 +4,14 @@ use bytetext::Text;
 use std::alloc::Global;
 use userfile::{Change, Userfile};
 
-/// How long the handle is of who writes from a host, by the hostmask that decides.
+/// Returns the length of the handle of somebody who writes from a host, by the hostmask that decides.
 pub fn deciding_handle(alloc: Global) -> Result<usize, Error> {
     let mut userfile = Userfile::new(alloc);
     add_both(alloc, &mut userfile)?;
     Ok(userfile.handle_of(b"Bobby!bob@a.net").len())
 }
 
-// Adds a user whom any host means, and one with a hostmask of more letters.
+// Adds a user whom any host matches, and one whose hostmask has more letters.
 fn add_both(alloc: Global, userfile: &mut Userfile) -> Result<(), Error> {
     add(alloc, userfile, b"anybody", b"*!*@*.net")?;
     add(alloc, userfile, b"bob", b"*!bob@*.net")

@@ -6,10 +6,10 @@ use caselines::{BAD_WORDS, CaseError, Sink, cut, number};
 use flagexpr::Flags;
 use std::alloc::Global;
 
-/// `binds STEP..`: what each step answers, with ` ; ` between. A step is one word: `bind KIND FLAGS PROC MASK` and `unbind
-/// KIND PROC MASK` answer a bind's number or the code, `find KIND GLOBAL CHANNEL BOT SUBJECT` the numbers of the binds that
-/// are called, where the subject of cron is a moment, and `list` `NUMBER KIND FLAGS PROC MASK` of each bind; both answer
-/// `none` where there is none.
+/// Answers `binds STEP..` on `out`: what each step answers, with ` ; ` between. A step is one word.
+/// `bind KIND FLAGS PROC MASK` and `unbind KIND PROC MASK` answer a bind's number or the code.
+/// `find KIND GLOBAL CHANNEL BOT SUBJECT` answers the numbers of the binds that are called; the subject of cron is a
+/// moment. `list` answers `NUMBER KIND FLAGS PROC MASK` of each bind. The last two answer `none` if there is none.
 pub fn binds(alloc: Global, words: &[Text], out: &mut Sink) -> Result<(), CaseError> {
     let mut table = BindTable::new(alloc);
     for (i, step) in words.iter().enumerate() {

@@ -88,7 +88,7 @@ const ASKED: [(&[u8], Asked); 36] = [
     (b"zone", Asked::Zone),
 ];
 
-/// Writes the answer to a case of these words.
+/// Writes to `out` the answer to the case `words`.
 pub fn answer(alloc: Global, words: &[Text], out: &mut Sink) -> Result<(), CaseError> {
     let Some((first, words)) = words.split_first() else {
         return Err(NO_SUCH_CASE);

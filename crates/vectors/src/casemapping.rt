@@ -3,7 +3,7 @@ use bytetext::Text;
 use caselines::{BAD_WORDS, CaseError, Sink};
 use std::alloc::Global;
 
-/// `fold TEXT`: the text's lower case.
+/// Answers `fold TEXT` on `out`: the text's lower case.
 pub fn fold(alloc: Global, words: &[Text], out: &mut Sink) -> Result<(), CaseError> {
     let [text] = words else {
         return Err(BAD_WORDS);
@@ -12,7 +12,7 @@ pub fn fold(alloc: Global, words: &[Text], out: &mut Sink) -> Result<(), CaseErr
     Ok(())
 }
 
-/// `same TEXT TEXT`: whether two texts are the same.
+/// Answers `same TEXT TEXT` on `out`: whether two texts are the same.
 pub fn same(words: &[Text], out: &mut Sink) -> Result<(), CaseError> {
     let [a, b] = words else {
         return Err(BAD_WORDS);

@@ -4,7 +4,8 @@ use caselines::{BAD_WORDS, CaseError};
 use std::alloc::Global;
 use userfile::{ChangeError, ChangeFault, Userfile};
 
-/// Makes these changes, each of them one word, up to the first that is refused, whose fault is answered.
+/// Makes the changes in `words`, one a word, up to the first that is refused. Returns that one's fault, if there is
+/// one.
 pub fn make_all(
     alloc: Global,
     userfile: &mut Userfile,

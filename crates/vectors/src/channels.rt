@@ -25,8 +25,8 @@ const QUESTIONS: [(&[u8], Question); 6] = [
     (b"topic", Question::Topic),
 ];
 
-/// `chan NICK LINE.. QUESTION NAME..`: the answer to the question after the lines, or the code of the first of them
-/// that is no message. The bot has connected under the nick. The question is asked of a copy.
+/// Answers `chan NICK LINE.. QUESTION NAME..` on `out`: the answer to the question after the lines, or the code of the
+/// first line that is no message. The bot has connected under the nick. The question is asked of a copy.
 pub fn chan(alloc: Global, words: &[Text], out: &mut Sink) -> Result<(), CaseError> {
     let [nick, words @ ..] = words else {
         return Err(BAD_WORDS);
@@ -35,8 +35,8 @@ pub fn chan(alloc: Global, words: &[Text], out: &mut Sink) -> Result<(), CaseErr
     answer_after(alloc, &mut state, words, out)
 }
 
-/// Reads these lines, up to the first that is no message, whose fault is answered. Each message is made ready and given
-/// up, and then taken in.
+/// Reads `lines` up to the first that is no message, and returns that one's fault, if there is one. Each message is
+/// first prepared and cancelled, and then applied.
 pub fn read_all(
     alloc: Global,
     state: &mut ChanState,
@@ -160,7 +160,7 @@ fn members(
     Ok(())
 }
 
-// The marks, then the nick, then `!user@host`, or nothing where both are empty.
+// The marks, then the nick, then `!user@host`, or nothing if both are empty.
 fn member_shown(member: &Member, out: &mut Sink) {
     out.put_if(member.op, b"@");
     out.put_if(member.half_op, b"%");

@@ -17,8 +17,8 @@ pub enum Form {
     CronArgs,
 }
 
-/// `civil MOMENT ZONE` and its like: the civil minute of a moment in this form, or the code of what is refused. The moment
-/// is in seconds.
+/// Answers `civil MOMENT ZONE` and its like on `out`: the civil minute of a moment in the form `form`, or the code of a
+/// refusal. The moment is in seconds.
 pub fn civil(alloc: Global, form: Form, words: &[Text], out: &mut Sink) -> Result<(), CaseError> {
     let [moment, zone] = words else {
         return Err(BAD_WORDS);
@@ -30,7 +30,7 @@ pub fn civil(alloc: Global, form: Form, words: &[Text], out: &mut Sink) -> Resul
     Ok(())
 }
 
-/// The civil minute of a moment in a zone, or why there is none.
+/// Returns the civil minute of `moment` in `zone`, or why there is none.
 pub fn minute_of(moment: &Text, zone: &Text) -> Result<Result<CivilMinute, ClockFault>, CaseError> {
     let moment = number::<u64>(moment.as_bytes())?;
     match zone_of(zone.as_bytes()) {
@@ -39,7 +39,7 @@ pub fn minute_of(moment: &Text, zone: &Text) -> Result<Result<CivilMinute, Clock
     }
 }
 
-/// `zone ZONE`: `ok`, or the code of why there is no such zone.
+/// Answers `zone ZONE` on `out`: `ok`, or the code of why there is no such zone.
 pub fn zone(words: &[Text], out: &mut Sink) -> Result<(), CaseError> {
     let [word] = words else {
         return Err(BAD_WORDS);

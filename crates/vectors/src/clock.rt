@@ -4,9 +4,9 @@ use bytetext::{Text, TryCopy};
 use caselines::{CaseError, Sink, number};
 use std::alloc::Global;
 
-/// `clock READING..`: for each reading the seconds that it runs, as `FIRST to LAST`, `none`, or the code of what it is
-/// refused for, with ` ; ` between; for the word `last` in the place of a reading the last second seen. Each is asked of
-/// a copy.
+/// Answers `clock READING..` on `out`: for each reading the seconds that it runs, as `FIRST to LAST`, `none`, or the
+/// code of why it is refused, with ` ; ` between. If the word is `last` instead of a reading, the last second seen.
+/// Each is asked of a copy.
 pub fn clock(alloc: Global, words: &[Text], out: &mut Sink) -> Result<(), CaseError> {
     let mut clock = Clock::new();
     for (i, word) in words.iter().enumerate() {

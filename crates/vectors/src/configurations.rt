@@ -13,7 +13,7 @@ const IN_WINTER: u64 = 1_767_225_600;
 
 const IN_SUMMER: u64 = 1_782_864_000;
 
-/// `settings LINE..`: what a file of these lines says.
+/// Answers `settings LINE..` on `out`: what a file of these lines says.
 pub fn settings(alloc: Global, lines: &[Text], out: &mut Sink) -> Result<(), CaseError> {
     let bytes = file_of(alloc, lines)?;
     answer(alloc, &bytes, out)
@@ -31,7 +31,7 @@ fn file_of(alloc: Global, lines: &[Text]) -> Result<Vec<u8>, NoMemory> {
     Ok(file)
 }
 
-/// `long N`: what a file of so many `#` says.
+/// Answers `long N` on `out`: what a file of N bytes `#` says.
 pub fn long(alloc: Global, words: &[Text], out: &mut Sink) -> Result<(), CaseError> {
     let [count] = words else {
         return Err(BAD_WORDS);
@@ -78,7 +78,7 @@ fn put_settings(alloc: Global, settings: &Settings, out: &mut Sink) -> Result<()
     put_rest(alloc, settings, out)
 }
 
-// Writes those that may be missing.
+// Writes the settings that may be missing.
 fn put_rest(alloc: Global, settings: &Settings, out: &mut Sink) -> Result<(), NoMemory> {
     if let Some(file) = &settings.secret {
         out.put(b" ; secret");
@@ -103,7 +103,7 @@ fn put_rest(alloc: Global, settings: &Settings, out: &mut Sink) -> Result<(), No
     Ok(())
 }
 
-// Writes what a zone's clock shows at two moments, where that is not UTC's.
+// Writes what a zone's clock shows at two moments, unless that is UTC.
 fn put_zone(alloc: Global, zone: &Zone, out: &mut Sink) -> Result<(), NoMemory> {
     let winter = shown_at(alloc, IN_WINTER, zone)?;
     let summer = shown_at(alloc, IN_SUMMER, zone)?;
@@ -115,7 +115,7 @@ fn put_zone(alloc: Global, zone: &Zone, out: &mut Sink) -> Result<(), NoMemory> 
     Ok(())
 }
 
-// What a zone's clock shows at a moment, as HH:MM; nothing where it is none.
+// What a zone's clock shows at a moment, as HH:MM; nothing if there is none.
 fn shown_at(alloc: Global, moment: u64, zone: &Zone) -> Result<Text, NoMemory> {
     let mut text = Vec::new(alloc);
     if let Ok(at) = civil(moment, zone) {

@@ -5,8 +5,8 @@ use bytetext::{Text, TryCopy};
 use caselines::{BAD_WORDS, CaseError, Sink};
 use std::alloc::Global;
 
-/// `cron MASK MOMENT ZONE`: whether a copy of the mask matches a copy of the civil minute of the moment, or the code of
-/// what the mask, the zone or the moment is refused for.
+/// Answers `cron MASK MOMENT ZONE` on `out`: whether a copy of the mask matches a copy of the civil minute of the
+/// moment, or the code of why the mask, the zone or the moment is refused.
 pub fn cron(alloc: Global, words: &[Text], out: &mut Sink) -> Result<(), CaseError> {
     let [mask, moment, zone] = words else {
         return Err(BAD_WORDS);

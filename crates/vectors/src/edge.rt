@@ -4,7 +4,7 @@ use bytetext::Text;
 use caselines::{CaseError, NO_SUCH_CASE, Sink};
 use std::alloc::Global;
 
-/// Writes the answer to a case of this first word and these others.
+/// Writes to `out` the answer to the case whose first word is `first` and whose other words are `words`.
 pub fn answer(
     first: &[u8],
     alloc: Global,

@@ -6,8 +6,8 @@ use chanstate::{ChanState, Event, Kind};
 use ircline::Line;
 use std::alloc::Global;
 
-/// `events NICK LINE..`: the events of the last line against the state after the others, or the code of the first line
-/// that is no message. The bot has connected under the nick.
+/// Answers `events NICK LINE..` on `out`: the events of the last line against the state after the others, or the code
+/// of the first line that is no message. The bot has connected under the nick.
 pub fn events(alloc: Global, words: &[Text], out: &mut Sink) -> Result<(), CaseError> {
     let [nick, before @ .., line] = words else {
         return Err(BAD_WORDS);

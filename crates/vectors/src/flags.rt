@@ -3,7 +3,8 @@ use bytetext::Text;
 use caselines::{BAD_WORDS, CaseError, Sink};
 use flagexpr::{FlagExpr, FlagFault, Flags};
 
-/// `flags EXPR GLOBAL CHAN BOT`: whether these flags meet the expression, or the code of the first word that is refused.
+/// Answers `flags EXPR GLOBAL CHAN BOT` on `out`: whether these flags meet the expression, or the code of the first
+/// word that is refused.
 pub fn met(words: &[Text], out: &mut Sink) -> Result<(), CaseError> {
     let [expression, global, chan, bot] = words else {
         return Err(BAD_WORDS);

@@ -9,7 +9,7 @@ use sharewire::{Feed, Packet, WireReader, is_bot_text, write_packet};
 use std::alloc::Global;
 use userfile::{Change, ChangeFault, shape};
 
-/// `frame PACKET`: the bytes that spell a packet, which is some words.
+/// Answers `frame PACKET` on `out`: the bytes that spell a packet, which is some words.
 pub fn frame(alloc: Global, words: &[Text], out: &mut Sink) -> Result<(), CaseError> {
     let [kind, words @ ..] = words else {
         return Err(BAD_WORDS);
@@ -158,7 +158,7 @@ fn change_of(alloc: Global, word: &Text) -> Result<Change, CaseError>
     }
 }
 
-// A text that a bot may tell another.
+// A text that a bot may send another.
 fn text_of(alloc: Global, word: &Text) -> Result<Text, CaseError>
     ensures { IfOk result (λ text. CanBeWritten (Packet.BotText 0 0 text)) }
 {
@@ -190,8 +190,8 @@ fn fault_of(code: &[u8]) -> Result<ChangeFault, CaseError> {
     }
 }
 
-/// `frames PIECE..`: of each piece of a stream the packets whose frames end in it and then the code of the fault, with
-/// `, ` between, or `none`.
+/// Answers `frames PIECE..` on `out`: for each piece of a stream the packets whose frames end in it and then the code
+/// of the fault, with `, ` between, or `none`.
 pub fn frames(alloc: Global, words: &[Text], out: &mut Sink) -> Result<(), CaseError> {
     let mut reader = WireReader::new(alloc);
     for (i, piece) in words.iter().enumerate() {

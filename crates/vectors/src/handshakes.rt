@@ -5,7 +5,7 @@ use handshake::{
     HandshakeFault, HubHears, HubSide, Key, LeafHears, LeafSide, NetNumber, Nonce, is_late,
 };
 
-/// `hmac SECRET TEXT`: the code of the text under the secret.
+/// Answers `hmac SECRET TEXT` on `out`: the code of the text under the secret.
 pub fn hmac(words: &[Text], out: &mut Sink) -> Result<(), CaseError> {
     let [secret, text] = words else {
         return Err(BAD_WORDS);
@@ -15,7 +15,7 @@ pub fn hmac(words: &[Text], out: &mut Sink) -> Result<(), CaseError> {
     Ok(())
 }
 
-/// `hub SECRET NET LEAVES NONCE HEARD..`: what a hub says first, and what it makes of each of these.
+/// Answers `hub SECRET NET LEAVES NONCE HEARD..` on `out`: what a hub says first, and what it makes of each of these.
 pub fn hub(words: &[Text], out: &mut Sink) -> Result<(), CaseError> {
     let [secret, net, leaves, nonce, heard @ ..] = words else {
         return Err(BAD_WORDS);
@@ -56,7 +56,7 @@ fn show_hub(hears: &HubHears, out: &mut Sink) {
     }
 }
 
-/// `leaf SECRET NUMBER NET NONCE HEARD..`: what a leaf makes of each of these, in turn.
+/// Answers `leaf SECRET NUMBER NET NONCE HEARD..` on `out`: what a leaf makes of each of these, in turn.
 pub fn leaf(words: &[Text], out: &mut Sink) -> Result<(), CaseError> {
     let [secret, leaf, net, nonce, heard @ ..] = words else {
         return Err(BAD_WORDS);
@@ -113,7 +113,7 @@ fn show_fault(fault: HandshakeFault, out: &mut Sink) {
     }
 }
 
-/// `late BEGAN NOW`: whether it is.
+/// Answers `late BEGAN NOW` on `out`: whether a handshake that began then is too late now.
 pub fn late(words: &[Text], out: &mut Sink) -> Result<(), CaseError> {
     let [began, now] = words else {
         return Err(BAD_WORDS);

@@ -10,8 +10,8 @@ use caselines::{BAD_NUMBER, BAD_WORDS, CaseError, Sink, cut, number};
 use disks::{MemDisk, Tear};
 use std::alloc::Global;
 
-/// `journal STEP..`: what each step answers, with ` ; ` between. A step is one word: `append ENTRY`, `rebase BASE`,
-/// `renew LAYOUT BASE`, `layout`, `fail DISK CALL TEAR` or `restart`.
+/// Answers `journal STEP..` on `out`: what each step answers, with ` ; ` between. A step is one word: `append ENTRY`,
+/// `rebase BASE`, `renew LAYOUT BASE`, `layout`, `fail DISK CALL TEAR` or `restart`.
 pub fn journal(alloc: Global, words: &[Text], out: &mut Sink) -> Result<(), CaseError> {
     let made = Journal::create(alloc, MemDisk::new(alloc), MemDisk::new(alloc), 1, b"base");
     let Some(mut journal) = or_told(made, out)? else {
@@ -47,7 +47,7 @@ const STEPS: [(&[u8], Step); 6] = [
     (b"restart", Step::Restart),
 ];
 
-// Makes a step of a journal, and gives the journal to go on with, if there is one.
+// Makes a step of a journal, and returns the journal to go on with, if there is one.
 fn make(
     alloc: Global,
     journal: Journal<MemDisk>,
@@ -99,7 +99,7 @@ fn short(text: &[u8]) -> Result<&[u8], CaseError>
     }
 }
 
-/// Tells how an append or a rebase ended.
+/// Writes to `out` how an append or a rebase ended, by its `answer`.
 pub(crate) fn tell(answer: Result<(), JournalError>, out: &mut Sink) -> Result<(), CaseError> {
     match answer {
         Ok(()) => out.put(b"ok"),
@@ -109,7 +109,7 @@ pub(crate) fn tell(answer: Result<(), JournalError>, out: &mut Sink) -> Result<(
     Ok(())
 }
 
-/// What a call gave; else its fault is told.
+/// Returns what `given` holds, or writes its fault to `out`.
 pub(crate) fn or_told<T: Drop>(
     given: Result<T, Returned<MemDisk>>,
     out: &mut Sink,
@@ -125,7 +125,7 @@ pub(crate) fn or_told<T: Drop>(
     }
 }
 
-// The journal that was opened, to go on with; else it is told that a gate is missing.
+// Returns the journal that was opened, to go on with, or writes that a gate is missing.
 fn whole(opened: Opened<MemDisk>, out: &mut Sink) -> Option<Journal<MemDisk>>
     requires { opened.whole ≡ true → IsSound state_of opened.journal }
     ensures { IfSome result (λ journal. IsSound state_of journal) }
@@ -160,7 +160,7 @@ fn planned(
     Ok(whole(opened, out))
 }
 
-/// Plans a fault of the disk that this word names.
+/// Plans the fault `tear` of the call of number `call` of the disk that the word `disk` names.
 pub(crate) fn plan(
     disks: &mut Disks<MemDisk>,
     disk: &[u8],
@@ -181,7 +181,7 @@ pub(crate) fn plan(
     Ok(())
 }
 
-/// Which call fails, from 1.
+/// Returns which call fails, from 1, as `word` spells it.
 pub(crate) fn call_of(word: &[u8]) -> Result<u64, CaseError>
     ensures { IfOk result (λ call. 0 < call) }
 {
@@ -192,7 +192,7 @@ pub(crate) fn call_of(word: &[u8]) -> Result<u64, CaseError>
     Ok(call)
 }
 
-/// What the crash leaves.
+/// Returns what the crash leaves, as `word` spells it.
 pub(crate) fn tear_of(word: &[u8]) -> Result<Tear, CaseError> {
     match word {
         b"old" => Ok(Tear::Old),
@@ -201,7 +201,7 @@ pub(crate) fn tear_of(word: &[u8]) -> Result<Tear, CaseError> {
     }
 }
 
-// Opens a journal on what a crash leaves, and tells what it holds.
+// Opens a journal on what a crash leaves, and writes what it holds.
 fn restarted(
     alloc: Global,
     journal: Journal<MemDisk>,

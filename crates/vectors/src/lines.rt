@@ -4,7 +4,8 @@ use caselines::{BAD_WORDS, CaseError, Sink, line_shown};
 use ircline::{Line, LineReader, Message, Person, PrintError, Source};
 use std::alloc::Global;
 
-/// `line TEXT`: what the line reads as: `'PREFIX' COMMAND 'PARAM'.. rest 'REST'`, or the code of its fault.
+/// Answers `line TEXT` on `out`: what the line reads as: `'PREFIX' COMMAND 'PARAM'.. rest 'REST'`, or the code of its
+/// fault.
 pub fn line(alloc: Global, words: &[Text], out: &mut Sink) -> Result<(), CaseError> {
     let [text] = words else {
         return Err(BAD_WORDS);
@@ -14,7 +15,7 @@ pub fn line(alloc: Global, words: &[Text], out: &mut Sink) -> Result<(), CaseErr
     Ok(())
 }
 
-/// `stream PIECE..`: the lines of a stream in these pieces, with ` ; ` between them.
+/// Answers `stream PIECE..` on `out`: the lines of a stream in these pieces, with ` ; ` between them.
 pub fn stream(alloc: Global, words: &[Text], out: &mut Sink) -> Result<(), CaseError> {
     let lines = ircline::read_pieces(alloc, words)?;
     for (i, line) in lines.iter().enumerate() {
@@ -24,8 +25,8 @@ pub fn stream(alloc: Global, words: &[Text], out: &mut Sink) -> Result<(), CaseE
     Ok(())
 }
 
-/// `feed PIECE..`: the lines that end in each piece of a stream, and last the line that the stream's end ends, with ` ; `
-/// between the pieces and `, ` between the lines, or `none`. The reader is copied before each.
+/// Answers `feed PIECE..` on `out`: the lines that end in each piece of a stream, and last the line that the stream's
+/// end ends, with ` ; ` between the pieces and `, ` between the lines, or `none`. The reader is copied before each.
 pub fn feed(alloc: Global, words: &[Text], out: &mut Sink) -> Result<(), CaseError> {
     let mut reader = LineReader::new(alloc);
     for piece in words {
@@ -48,7 +49,7 @@ fn lines_shown(lines: &[Line], out: &mut Sink) {
     out.put_if(lines.is_empty(), b"none");
 }
 
-/// `print PREFIX COMMAND PARAM..`: the line, or the code of why there is none.
+/// Answers `print PREFIX COMMAND PARAM..` on `out`: the line, or the code of why there is none.
 pub fn print(alloc: Global, words: &[Text], out: &mut Sink) -> Result<(), CaseError> {
     let [prefix, command, params @ ..] = words else {
         return Err(BAD_WORDS);
@@ -62,7 +63,7 @@ pub fn print(alloc: Global, words: &[Text], out: &mut Sink) -> Result<(), CaseEr
     Ok(())
 }
 
-/// `prefix TEXT`: whom the prefix names.
+/// Answers `prefix TEXT` on `out`: whom the prefix names.
 pub fn prefix(words: &[Text], out: &mut Sink) -> Result<(), CaseError> {
     let [text] = words else {
         return Err(BAD_WORDS);

@@ -1,16 +1,16 @@
 //! Answers test vectors: a line of standard input is a case, and the line of standard output for it is its answer.
 //!
-//! [`caselines`] says what a case is, how an answer shows bytes, and how the program ends. A case's first word says what is
-//! asked:
+//! [`caselines`] says what a case is, how an answer shows bytes, and how the program ends. A case's first word says
+//! what is asked:
 //!
 //! | case | answer |
 //! |---|---|
 //! | `fold TEXT` | the text's lower case |
 //! | `same TEXT TEXT` | `same` or `not same` |
-//! | `mask bind\|host MASK TEXT` | `match` or `no match`, or the code of what the mask is refused for |
-//! | `literals bind\|host MASK` | how many literals the mask has, or the code of what it is refused for |
+//! | `mask bind\|host MASK TEXT` | `match` or `no match`, or the code of why the mask is refused |
+//! | `literals bind\|host MASK` | how many literals the mask has, or the code of why it is refused |
 //! | `flags EXPR GLOBAL CHAN BOT` | `met` or `not met`, or the code of the first word that is refused |
-//! | `cron MASK MOMENT ZONE` | `match` or `no match`, or the code of what is refused |
+//! | `cron MASK MOMENT ZONE` | `match` or `no match`, or the code of a refusal |
 //! | `civil MOMENT ZONE` | the civil minute as `YEAR MONTH DAY HOUR MINUTE WEEKDAY`, 0 for Sunday, or the code |
 //! | `time MOMENT ZONE` | its time text, or the code |
 //! | `timeargs MOMENT ZONE`, `cronargs MOMENT ZONE` | the arguments of a time or cron call, by commas, or the code |
@@ -20,22 +20,22 @@
 //! | `queues STEP..` | what each step answers |
 //! | `journal STEP..` | what each step answers |
 //! | `binds STEP..` | what each step answers |
-//! | `spell CHANGE` | the bytes that spell the change, or the code of its shape |
+//! | `spell CHANGE` | the bytes that spell the change, or the code of what is wrong with its shape |
 //! | `change BYTES`, `record BYTES` | how many bytes spell a change or record, and what they spell, or the code |
-//! | `oldchange BYTES`, `oldrecord BYTES` | the same of a change or record of layout 1 |
+//! | `oldchange BYTES`, `oldrecord BYTES` | the same for a change or record of layout 1 |
 //! | `respell change\|record BYTES` | the bytes that spell what was read, or the code |
 //! | `frame PACKET` | the bytes that spell the packet |
-//! | `frames PIECE..` | of each piece of a stream the packets that end in it and the code of the fault, or `none` |
+//! | `frames PIECE..` | for each piece of a stream the packets that end in it and the code of the fault, or `none` |
 //! | `line TEXT` | what the line reads as, or the code of its fault |
 //! | `stream PIECE..` | the lines of a stream in these pieces, with ` ; ` between them |
-//! | `feed PIECE..` | the lines that end in each piece of a stream, and last the one that the stream's end ends, or `none` |
+//! | `feed PIECE..` | the lines that end in each piece of a stream, and last the one that its end ends, or `none` |
 //! | `print PREFIX COMMAND PARAM..` | the line, or the code of why there is none |
 //! | `prefix TEXT` | whom the prefix names |
-//! | `person WHO CHANGE..` | the handle of who WHO is, `*` for nobody |
+//! | `person WHO CHANGE..` | WHO's handle, `*` for nobody |
 //! | `userflags HANDLE CHANNEL CHANGE..` | the user's flags everywhere, on the channel and as a bot, `-` for none |
 //! | `ban CHANNEL WHO MOMENT CHANGE..` | channel (`*` for all) and mask of the ban that keeps WHO off, or `no ban` |
 //! | `info HANDLE CHANGE..` | the user's info text between quotes, empty for no user |
-//! | `sticky CHANNEL MASK MOMENT CHANGE..` | channel and mask of the ban that comes back where MASK is taken off, or `no ban` |
+//! | `sticky CHANNEL MASK MOMENT CHANGE..` | channel and mask of the ban set again if MASK is removed, or `no ban` |
 //! | `chan NICK LINE.. members CHANNEL` | the members in order, each as `@%+nick!user@host`, or `nobody` |
 //! | `chan NICK LINE.. topic CHANNEL` | `topic 'TEXT'` or `not held` |
 //! | `chan NICK LINE.. op CHANNEL NICK` | `op` or `no op` |
@@ -43,70 +43,76 @@
 //! | `chan NICK LINE.. holds CHANNEL` | `held` or `not held` |
 //! | `chan NICK LINE.. nick` | the bot's own nick |
 //! | `events NICK LINE..` | the events of the last line, as `KIND 'SUBJECT' CHANNEL 'ARGUMENT'..`, with ` ; ` between |
-//! | `settings LINE..` | what a configuration file of these lines says, with ` ; ` between its lines, or why it is refused |
-//! | `long N` | the same of a file of N bytes `#` |
-//! | `timeline MARK WALL/MONOTONIC..` | the reading of each pair of clocks, where the monotonic one began at MARK |
+//! | `settings LINE..` | what a configuration file of these lines says, with ` ; ` between, or why it is refused |
+//! | `long N` | the same for a file of N bytes `#` |
+//! | `timeline MARK WALL/MONOTONIC..` | the reading of each pair of clocks; the monotonic one began at MARK |
 //! | `redial NUMBER MOST STEP..` | when the next try is due after each step |
 //! | `wire HEARD UNSENT STEP..` | what each step answers, with ` ; ` between |
 //! | `hmac SECRET TEXT` | the code of the text under the secret |
-//! | `hub SECRET NET LEAVES NONCE HEARD..` | what a hub says first, and then what it makes of each HEARD, with ` ; ` between |
+//! | `hub SECRET NET LEAVES NONCE HEARD..` | what a hub says first, then its answer to each HEARD, with ` ; ` between |
 //! | `leaf SECRET NUMBER NET NONCE HEARD..` | what a leaf makes of each HEARD, in turn, with ` ; ` between |
 //! | `late BEGAN NOW` | whether a handshake that began then is too late now |
 //!
 //! A ZONE is the minutes by which a clock is ahead of UTC, or a rule of POSIX as one word.
 //!
-//! WHO is `nick!user@host`. A CHANGE is one word that holds a change as a script asks for it, and the changes make a
-//! userfile of the empty one, in order. The answer is the code of the first change that is refused, if one is.
+//! WHO is `nick!user@host`. A CHANGE is one word that holds a change as a script asks for it; the changes, in order,
+//! make a userfile of the empty one. The answer is the code of the first change that is refused, if one is.
 //!
-//! The steps of `timers` are `timer LAST INTERVAL COUNT PROC TEXT` and `utimer LAST INTERVAL COUNT PROC TEXT`, which make a
-//! timer and answer its id or the code, where LAST is the clock's last second or `-` for none; `due SECOND`, which answers
-//! `ID PROC TEXT` of each call or `none`; `kill ID` and `killnamed PROC TEXT`, which answer `killed` or the code; and
-//! `list`, which answers `KIND LEFT PROC ID REPEATS TEXT` of each timer or `none`. A TEXT may have spaces, and is left out
-//! where it is empty. Seconds don't fall, and `due` wants a later one.
+//! The steps of `timers` are `timer LAST INTERVAL COUNT PROC TEXT` and `utimer LAST INTERVAL COUNT PROC TEXT`, which
+//! create a timer and answer its id or the code; `due SECOND`, which answers `ID PROC TEXT` of each call or `none`;
+//! `kill ID` and `killnamed PROC TEXT`, which answer `killed` or the code; and `list`, which answers
+//! `KIND LEFT PROC ID REPEATS TEXT` of each timer or `none`. LAST is the clock's last second, or `-` for none. A TEXT
+//! may have spaces, and is left out if it is empty. Seconds don't fall, and `due` needs a later one.
 //!
-//! The steps of `queues` are `put QUEUE COUNT LINE`, which puts a line so often and answers `ok` or the code of the first
-//! refusal; `reserved QUEUE LINE`, which puts it into room that was made before, and answers the same; `take NOW` and
-//! `drain NOW`, which answer the lines that go or `none`; and `len QUEUE` and `clear QUEUE`, which answer a number. QUEUE is
-//! `mode`, `server` or `help`, for the last two `all` too. Each step is one word, and ` ; ` stands between the answers.
+//! The steps of `queues` are `put QUEUE COUNT LINE`, which puts a line COUNT times and answers `ok` or the code of the
+//! first refusal; `reserved QUEUE LINE`, which puts it into room that was reserved before, and answers the same;
+//! `take NOW` and `drain NOW`, which answer the lines that are sent or `none`; and `len QUEUE` and `clear QUEUE`, which
+//! answer a number. QUEUE is `mode`, `server` or `help`, and for the last two steps also `all`. Each step is one word,
+//! and ` ; ` stands between the answers.
 //!
-//! `journal` makes a journal of layout 1 with the base `base` on two empty disks in memory. Its steps are `append ENTRY`,
-//! `rebase BASE` and `renew LAYOUT BASE`, a rebase that writes another layout, which answer `ok` or the code; `layout`,
-//! which answers that of the journal; `fail DISK CALL TEAR`, by which the stated write or sync of the `first` or
-//! `second` disk, counted from now on, fails and all later ones of it, until a restart, which then finds what TEAR says in
-//! the ranges that weren't kept: `old` or `new` bytes, or this number in each byte; and `restart`, which answers the base
-//! and the entries, with `, ` between, or the code.
+//! `journal` makes a journal of layout 1 with the base `base` on two empty disks in memory. Its steps are
+//! `append ENTRY`, `rebase BASE` and `renew LAYOUT BASE`, a rebase that writes another layout, which answer `ok` or the
+//! code; `layout`, which answers the journal's layout; `fail DISK CALL TEAR`, which plans a fault; and `restart`, which
+//! answers the base and the entries, with `, ` between, or the code. A planned fault is one of the `first` or the
+//! `second` disk: its write or sync of number CALL, counted from then on, fails, and so do all later ones, until a
+//! restart. The restart then finds what TEAR says in the ranges that weren't kept: `old` or `new` bytes, or this number
+//! in each byte.
 //!
-//! The steps of `binds` are `bind KIND FLAGS PROC MASK` and `unbind KIND PROC MASK`, which answer the bind's number or the
-//! code; `find KIND GLOBAL CHANNEL BOT SUBJECT`, which answers the numbers of the binds that are called, and where the
-//! SUBJECT of cron is a moment, whose minute is that of UTC; and `list`, which answers `NUMBER KIND FLAGS PROC MASK` of
-//! each bind. The last two answer `none` where there is none.
+//! The steps of `binds` are `bind KIND FLAGS PROC MASK` and `unbind KIND PROC MASK`, which answer the bind's number or
+//! the code; `find KIND GLOBAL CHANNEL BOT SUBJECT`, which answers the numbers of the binds that are called; and
+//! `list`, which answers `NUMBER KIND FLAGS PROC MASK` of each bind. The SUBJECT of cron is a moment, whose minute is
+//! that of UTC. The last two steps answer `none` if there is none.
 //!
-//! A PACKET is words: `hello LAYOUT LEAF VERSION`, `change NUMBER ORIGIN REQUEST CHANGE`, `request LEAF REQUEST CHANGE`,
-//! `accepted LEAF REQUEST NUMBER`, `refused LEAF REQUEST CODE` or `text FROM TO TEXT`. `frames` also writes `part VERSION
-//! PART COUNT RECORDS`, RECORDS being how many records it has.
+//! A PACKET is words: `hello LAYOUT LEAF VERSION`, `change NUMBER ORIGIN REQUEST CHANGE`,
+//! `request LEAF REQUEST CHANGE`, `accepted LEAF REQUEST NUMBER`, `refused LEAF REQUEST CODE` or `text FROM TO TEXT`.
+//! `frames` also writes `part VERSION PART COUNT RECORDS`, where RECORDS is the number of records that it has.
 //!
 //! In `chan` and `events` the bot has connected under NICK and reads the LINEs in order; the answer is the code of the
 //! first that is no message, if one is. Before a member's nick stand `@` for op, `%` for half-op and `+` for voice;
-//! `!user@host` is left out where both are empty. An event that is on no channel has `-` in its place.
+//! `!user@host` is left out if both are empty. An event on no channel has `-` as its CHANNEL.
 //!
-//! Between the LINEs of a file of `settings` stand line feeds: one that ends with a line feed has the empty LINE `''` last.
-//! What it says is written in its own words, in one order: `data`, `bot`, `nick`, `channel`, `server`, `hub`, `listen`,
-//! `secret`, `account`, `zone`, `exclusive`, `log`, `perform`, and `bind` with its line's number in front. A zone that is
-//! not UTC is written as what its clock shows at midnight UTC of 1 January and of 1 July 2026.
+//! Line feeds stand between the LINEs of a file of `settings`; a file that ends with a line feed has the empty LINE
+//! `''` last. The answer writes what the file says in its own words, in one order: `data`, `bot`, `nick`, `channel`,
+//! `server`, `hub`, `listen`, `secret`, `account`, `zone`, `exclusive`, `log`, `perform`, and `bind` with its line's
+//! number in front. A zone that is not UTC is written as what its clock shows at midnight UTC of 1 January and of 1
+//! July 2026.
 //!
-//! The steps of `redial` are `lost/NOW` and `good/NOW`: a connection was lost, which was good or not.
+//! The steps of `redial` are `lost/NOW` and `good/NOW`: a connection was lost at NOW that was not good, or that was
+//! good.
 //!
-//! `wire` is a connection whose bounds are HEARD and UNSENT, over a stream that does what it is told. Each of its steps is
-//! one word. `give TEXT`, `end`, `stall` and `fault` read while the stream gives this, and answer how many bytes were
-//! heard, the stream's answer, or `full`; `heard` answers what was heard and takes it. `tell TEXT` answers `told` or
-//! `too much`. `take N`, `refuse` and `break` send while the stream takes so many bytes, none, or fails, and answer how many
-//! it took, its answer, or `none` where nothing is unsent; `unsent` answers what is. `over` answers `over` or `not over`.
+//! `wire` is a connection whose bounds are HEARD and UNSENT, over a scripted stream. Each of its steps is one word.
+//! `give TEXT`, `end`, `stall` and `fault` read while the stream gives this, and answer how many bytes were heard, the
+//! stream's answer, or `full`; `heard` answers what was heard and takes it. `tell TEXT` answers `told` or `too much`.
+//! `take N`, `refuse` and `break` send while the stream takes N bytes, takes none, or fails, and answer how many bytes
+//! it took, its answer, or `none` if nothing is unsent; `unsent` answers what is unsent. `over` answers `over` or
+//! `not over`.
 //!
-//! A hub or a leaf hears all bytes that came and were not used so far, and answers `more`, why it refuses, or how many of the
-//! bytes its line `used`, and what it `says`. The NET `-` is that of a leaf that keeps none.
+//! A hub or a leaf hears all bytes that came and were not used so far, and answers `more`, why it refuses, or how many
+//! of the bytes its line `used`, and what it `says`. The NET `-` is that of a leaf that keeps no net.
 //!
-//! The crate's files `stdin` and `stdout` hold the cases and the answers, which were worked out by hand from the rules that
-//! each library states; the codes of `hmac` are those of RFC 4231, and what Python's module of that name computes. Cases of bots, of their streams and of scripts are those of `botcases`.
+//! The crate's files `stdin` and `stdout` hold the cases and the answers. The answers were worked out by hand from the
+//! rules that each library states; the codes of `hmac` are those of RFC 4231, and what Python's module of that name
+//! computes. The cases of bots, of their streams and of scripts are those of `botcases`.
 #![tactic(auto)]
 
 mod binds;
@@ -139,7 +145,7 @@ use caselines::{CaseError, Cases, Sink, answer_input};
 use std::alloc::Global;
 use std::process::ExitCode;
 
-/// What answers cases of the libraries.
+/// Answers the cases of the libraries.
 struct Libraries;
 
 impl Cases for Libraries {

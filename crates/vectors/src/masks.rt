@@ -4,7 +4,8 @@ use caselines::{BAD_WORDS, CaseError, Sink};
 use std::alloc::Global;
 use wildmask::{Mask, MaskError, MaskFault, bind_fault, host_fault};
 
-/// `mask bind|host MASK TEXT`: whether a copy of the mask matches the text, or the code of what the mask is refused for.
+/// Answers `mask bind|host MASK TEXT` on `out`: whether a copy of the mask matches the text, or the code of why the
+/// mask is refused.
 pub fn mask(alloc: Global, words: &[Text], out: &mut Sink) -> Result<(), CaseError> {
     let [kind, mask, text] = words else {
         return Err(BAD_WORDS);
@@ -20,7 +21,7 @@ pub fn mask(alloc: Global, words: &[Text], out: &mut Sink) -> Result<(), CaseErr
     Ok(())
 }
 
-/// `literals bind|host MASK`: how many literals the mask has, or the code of what it is refused for.
+/// Answers `literals bind|host MASK` on `out`: how many literals the mask has, or the code of why it is refused.
 pub fn literals(alloc: Global, words: &[Text], out: &mut Sink) -> Result<(), CaseError> {
     let [kind, mask] = words else {
         return Err(BAD_WORDS);
@@ -37,7 +38,7 @@ pub fn literals(alloc: Global, words: &[Text], out: &mut Sink) -> Result<(), Cas
     Ok(())
 }
 
-// What a mask is refused for, told before it is made.
+// Why a mask is refused, answered before it is made.
 fn fault_of(kind: &Text, mask: &Text) -> Option<MaskFault> {
     if kind.is_same(b"bind") {
         bind_fault(mask.as_bytes())
@@ -46,7 +47,7 @@ fn fault_of(kind: &Text, mask: &Text) -> Option<MaskFault> {
     }
 }
 
-// A mask of a bind where the kind says so, and a hostmask otherwise.
+// A mask of a bind if the kind says so, and a hostmask otherwise.
 fn made(alloc: Global, kind: &Text, mask: &Text) -> Result<Mask, MaskError> {
     if kind.is_same(b"bind") {
         Mask::bind(alloc, mask.as_bytes())

@@ -5,7 +5,8 @@ use caselines::{BAD_WORDS, CaseError, Sink, number};
 use std::alloc::Global;
 use userfile::{Ban, PersonFlags, Userfile};
 
-/// `person WHO CHANGE..`: the handle of who this person is, or the code of the first change that is refused.
+/// Answers `person WHO CHANGE..` on `out`: the handle of the person WHO, or the code of the first change that is
+/// refused.
 pub fn person(alloc: Global, words: &[Text], out: &mut Sink) -> Result<(), CaseError> {
     let [who, changes @ ..] = words else {
         return Err(BAD_WORDS);
@@ -18,8 +19,8 @@ pub fn person(alloc: Global, words: &[Text], out: &mut Sink) -> Result<(), CaseE
     Ok(())
 }
 
-/// `userflags HANDLE CHANNEL CHANGE..`: the flags of the user of this handle, everywhere, on the channel and as a bot,
-/// or the code of the first change that is refused.
+/// Answers `userflags HANDLE CHANNEL CHANGE..` on `out`: the flags of the user of this handle, everywhere, on the
+/// channel and as a bot, or the code of the first change that is refused.
 pub fn user_flags(alloc: Global, words: &[Text], out: &mut Sink) -> Result<(), CaseError> {
     let [handle, channel, changes @ ..] = words else {
         return Err(BAD_WORDS);
@@ -36,8 +37,8 @@ pub fn user_flags(alloc: Global, words: &[Text], out: &mut Sink) -> Result<(), C
     Ok(())
 }
 
-/// `ban CHANNEL WHO MOMENT CHANGE..`: the first ban that keeps this person off the channel at this second, or the code
-/// of the first change that is refused.
+/// Answers `ban CHANNEL WHO MOMENT CHANGE..` on `out`: the first ban that keeps this person off the channel at this
+/// second, or the code of the first change that is refused.
 pub fn ban(alloc: Global, words: &[Text], out: &mut Sink) -> Result<(), CaseError> {
     let [channel, who, moment, changes @ ..] = words else {
         return Err(BAD_WORDS);
@@ -54,8 +55,8 @@ pub fn ban(alloc: Global, words: &[Text], out: &mut Sink) -> Result<(), CaseErro
     Ok(())
 }
 
-/// `info HANDLE CHANGE..`: the info text of the user of this handle between quotes, or the code of the first change that is
-/// refused.
+/// Answers `info HANDLE CHANGE..` on `out`: the info text of the user of this handle between quotes, or the code of the
+/// first change that is refused.
 pub fn info(alloc: Global, words: &[Text], out: &mut Sink) -> Result<(), CaseError> {
     let [handle, changes @ ..] = words else {
         return Err(BAD_WORDS);
@@ -72,8 +73,8 @@ pub fn info(alloc: Global, words: &[Text], out: &mut Sink) -> Result<(), CaseErr
     Ok(())
 }
 
-/// `sticky CHANNEL MASK MOMENT CHANGE..`: the first ban that comes back to the channel at this second where the mask is taken
-/// off it, or the code of the first change that is refused.
+/// Answers `sticky CHANNEL MASK MOMENT CHANGE..` on `out`: the first ban that comes back to the channel at this second
+/// if the mask is removed from it, or the code of the first change that is refused.
 pub fn sticky(alloc: Global, words: &[Text], out: &mut Sink) -> Result<(), CaseError> {
     let [channel, mask, moment, changes @ ..] = words else {
         return Err(BAD_WORDS);

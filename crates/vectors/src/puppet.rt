@@ -1,4 +1,4 @@
-// A stream that does what it is told.
+// A scripted stream.
 ghost use Rattle.std.specs.Prelude.{None};
 
 use streams::{Account, Given, Stream, Taken, WriteFault};
@@ -6,15 +6,15 @@ use streams::{Account, Given, Stream, Taken, WriteFault};
 /// What a puppet answers when it has no bytes to give.
 #[derive(Clone, Copy)]
 pub enum Silence {
-    /// That it is at its end.
+    /// The end.
     End,
-    /// That one would have to wait.
+    /// That it would block.
     Stall,
     /// That it failed.
     Fault,
 }
 
-/// A stream that gives the bytes that it is told to give, and takes as many as it is told to take.
+/// A scripted stream: it gives the bytes that are set, and takes as many as are set.
 #[derive(Drop)]
 pub struct Puppet {
     /// What it gives next.
@@ -23,13 +23,13 @@ pub struct Puppet {
     pub silence: Silence,
     /// How many bytes it takes next.
     pub room: usize,
-    /// Whether it fails to take any.
+    /// Whether it fails when it is asked to take bytes.
     pub is_broken: bool,
     account: Account,
 }
 
 impl Puppet {
-    /// A stream that gives and takes these.
+    /// Creates a stream that gives `bytes` and then stalls, and takes none.
     pub fn new(bytes: Vec<u8>) -> Puppet {
         Puppet {
             bytes,

@@ -6,11 +6,11 @@ use caselines::{BAD_NUMBER, BAD_WORDS, CaseError, Sink, cut, number};
 use outqueue::{PutError, Queue, QueueFault, Queues, Which};
 use std::alloc::Global;
 
-/// `queues STEP..`: what each step answers, with ` ; ` between. A step is one word:
-/// `put QUEUE COUNT LINE` puts a line so often and answers `ok` or the code of the first refusal, and `reserved QUEUE LINE`
-/// puts it into room that was made before; `take NOW` and `drain NOW` answer the lines that go or `none`; `len QUEUE` and
-/// `clear QUEUE` a number. QUEUE is `mode`, `server` or `help`, and for the last two `all` too. The queues are copied
-/// before each step.
+/// Answers `queues STEP..` on `out`: what each step answers, with ` ; ` between. A step is one word.
+/// `put QUEUE COUNT LINE` puts a line COUNT times and answers `ok` or the code of the first refusal, and
+/// `reserved QUEUE LINE` puts it into room that was reserved before. `take NOW` and `drain NOW` answer the lines that
+/// are sent or `none`. `len QUEUE` and `clear QUEUE` answer a number. QUEUE is `mode`, `server` or `help`, and for the
+/// last two also `all`. The queues are copied before each step.
 pub fn queues(alloc: Global, words: &[Text], out: &mut Sink) -> Result<(), CaseError> {
     let mut queues = Queues::new(alloc);
     for (i, step) in words.iter().enumerate() {
@@ -116,7 +116,7 @@ fn put(alloc: Global, queues: &mut Queues, rest: &[u8], out: &mut Sink) -> Resul
     Ok(())
 }
 
-// Puts a line so often, up to the first refusal.
+// Puts a line COUNT times, up to the first refusal.
 fn put_often(
     alloc: Global,
     queues: &mut Queues,

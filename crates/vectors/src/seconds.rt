@@ -4,7 +4,7 @@ use caselines::{BAD_NUMBER, BAD_WORDS, CaseError, Sink, cut, number};
 use redial::{FIRST_WAIT, Redial};
 use timeline::Timeline;
 
-/// `timeline MARK WALL/MONOTONIC..`: the reading of each pair of clocks.
+/// Answers `timeline MARK WALL/MONOTONIC..` on `out`: the reading of each pair of clocks.
 pub fn timeline(words: &[Text], out: &mut Sink) -> Result<(), CaseError> {
     let [mark, pairs @ ..] = words else {
         return Err(BAD_WORDS);
@@ -19,7 +19,7 @@ pub fn timeline(words: &[Text], out: &mut Sink) -> Result<(), CaseError> {
     Ok(())
 }
 
-/// `redial NUMBER MOST STEP..`: when the next try is due after each step.
+/// Answers `redial NUMBER MOST STEP..` on `out`: when the next try is due after each step.
 pub fn redial(words: &[Text], out: &mut Sink) -> Result<(), CaseError> {
     let [bot, most, steps @ ..] = words else {
         return Err(BAD_WORDS);

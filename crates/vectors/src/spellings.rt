@@ -8,7 +8,7 @@ use usercodec::{
 };
 use userfile::{Change, shape};
 
-/// `spell CHANGE`: the bytes that spell a change, or the code of what is wrong with its shape.
+/// Answers `spell CHANGE` on `out`: the bytes that spell a change, or the code of what is wrong with its shape.
 pub fn spell(alloc: Global, words: &[Text], out: &mut Sink) -> Result<(), CaseError> {
     let [word] = words else {
         return Err(BAD_WORDS);
@@ -27,22 +27,22 @@ fn spell_change(alloc: Global, change: &Change, out: &mut Sink) -> Result<(), Ca
     Ok(())
 }
 
-/// `change BYTES`: how many bytes spell a change, and the change, or the code.
+/// Answers `change BYTES` on `out`: how many bytes spell a change, and the change, or the code.
 pub fn change(alloc: Global, words: &[Text], out: &mut Sink) -> Result<(), CaseError> {
     change_shown(alloc, read_change(alloc, only(words)?), out)
 }
 
-/// `oldchange BYTES`: the same of layout 1.
+/// Answers `oldchange BYTES` on `out`: the same for layout 1.
 pub fn old_change(alloc: Global, words: &[Text], out: &mut Sink) -> Result<(), CaseError> {
     change_shown(alloc, read_change_old(alloc, only(words)?), out)
 }
 
-/// `record BYTES`: how many bytes spell a record, and the record, or the code.
+/// Answers `record BYTES` on `out`: how many bytes spell a record, and the record, or the code.
 pub fn record(alloc: Global, words: &[Text], out: &mut Sink) -> Result<(), CaseError> {
     record_shown(alloc, read_record(alloc, only(words)?), out)
 }
 
-/// `oldrecord BYTES`: the same of layout 1.
+/// Answers `oldrecord BYTES` on `out`: the same for layout 1.
 pub fn old_record(alloc: Global, words: &[Text], out: &mut Sink) -> Result<(), CaseError> {
     record_shown(alloc, read_record_old(alloc, only(words)?), out)
 }
@@ -87,7 +87,7 @@ fn record_shown(
     }
 }
 
-/// `respell change|record BYTES`: the bytes that spell what these spell, or the code.
+/// Answers `respell change|record BYTES` on `out`: the bytes that spell what these spell, or the code.
 pub fn respell(alloc: Global, words: &[Text], out: &mut Sink) -> Result<(), CaseError> {
     let [sort, bytes] = words else {
         return Err(BAD_WORDS);
@@ -121,7 +121,7 @@ fn respell_record(alloc: Global, bytes: &[u8], out: &mut Sink) -> Result<(), Cas
     }
 }
 
-// Tells why bytes spell nothing.
+// Writes why bytes spell nothing.
 fn tell(error: CodecError, out: &mut Sink) -> Result<(), CaseError> {
     match error {
         CodecError::Refused(fault) => {

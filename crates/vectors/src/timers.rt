@@ -8,11 +8,11 @@ use caselines::{BAD_NUMBER, BAD_WORDS, CaseError, Sink, cut, number};
 use std::alloc::Global;
 use std::marker::Model;
 
-/// `timers STEP..`: what each step answers, with ` ; ` between. A step is one word:
-/// `timer LAST INTERVAL COUNT PROC TEXT` and `utimer LAST INTERVAL COUNT PROC TEXT` make a timer and answer its id, or the
-/// code of the refusal, where LAST is the clock's last second or `-`; `kill ID` and `killnamed PROC TEXT` answer `killed`
-/// or the code; `list` answers `KIND LEFT PROC ID REPEATS TEXT` of each timer, or `none`; `due SECOND` answers
-/// `ID PROC TEXT` of each call, or `none`. A TEXT may have spaces; where it is empty, it is left out with the space before
+/// Answers `timers STEP..` on `out`: what each step answers, with ` ; ` between. A step is one word.
+/// `timer LAST INTERVAL COUNT PROC TEXT` and `utimer LAST INTERVAL COUNT PROC TEXT` create a timer and answer its id,
+/// or the code of the refusal; LAST is the clock's last second or `-`. `kill ID` and `killnamed PROC TEXT` answer
+/// `killed` or the code. `list` answers `KIND LEFT PROC ID REPEATS TEXT` of each timer, or `none`. `due SECOND` answers
+/// `ID PROC TEXT` of each call, or `none`. A TEXT may have spaces; if it is empty, it is left out with the space before
 /// it. The timers are copied before each step.
 pub fn timers(alloc: Global, words: &[Text], out: &mut Sink) -> Result<(), CaseError> {
     let mut watch = Watch {
@@ -182,7 +182,7 @@ fn kill_shown(answer: Result<(), ClockFault>, out: &mut Sink) {
     }
 }
 
-// A space and the text of a timer, where it has one.
+// A space and the text of a timer, if it has one.
 fn text_shown(text: &Text, out: &mut Sink) {
     if !text.is_empty() {
         out.put(b" ");

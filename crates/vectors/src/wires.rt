@@ -6,7 +6,7 @@ use std::alloc::Global;
 use streams::{Given, Taken};
 use wire::{Bounds, Wire};
 
-/// `wire HEARD UNSENT STEP..`: what each step of a connection answers, with ` ; ` between.
+/// Answers `wire HEARD UNSENT STEP..` on `out`: what each step of a connection answers, with ` ; ` between.
 pub fn wire(alloc: Global, words: &[Text], out: &mut Sink) -> Result<(), CaseError> {
     let [heard, unsent, steps @ ..] = words else {
         return Err(BAD_WORDS);

@@ -1,4 +1,4 @@
--- One byte for each item: a literal as its lower case, and a special item as a byte that is no lower case.
+-- One byte for each item: a literal as its lower case, and a special item as an upper-case letter.
 use Rattle.std.specs.Prelude.{ℕ, ◌==◌, if◌then◌else◌, List, map}
 use Rattle.rfccase.specs.Casemapping.{low}
 use Rattle.wildmask.specs.declared.items.Item.{Item}
@@ -12,7 +12,7 @@ lower AnyText = AnyText
 lower NoSpace = NoSpace
 lower Spaces = Spaces
 
--- the bytes of A to D are no lower cases
+-- A to D are upper case, so no literal has them
 abbrev pub decoded : ℕ → Item
 decoded code =
     if code == 65 then AnyByte else

@@ -9,11 +9,11 @@ abbrev pub is_bind : MaskKind → Bool
 is_bind Bind = true
 is_bind Host = false
 
--- what a backslash takes its meaning from: ? * % ~ and the backslash, in both kinds of mask
+-- the bytes that a backslash makes literal: ? * % ~ and the backslash, in both kinds of mask
 abbrev pub is_special : ℕ → Bool
 is_special b = b == 63 || b == 42 || b == 37 || b == 126 || b == 92
 
--- the item of a byte without a backslash: ? and * in both kinds, % and ~ in bind masks alone
+-- the item of a byte without a backslash: ? and * are special in both kinds, % and ~ only in bind masks
 abbrev pub item_of : MaskKind → ℕ → Item
 item_of mask_kind b =
     if b == 63 then AnyByte else
@@ -21,7 +21,8 @@ item_of mask_kind b =
     (if b == 37 && is_bind mask_kind then NoSpace else
     (if b == 126 && is_bind mask_kind then Spaces else Literal b)))
 
--- the items of a mask's text: a backslash before a special byte makes it a literal, and elsewhere is one itself
+-- the items of a mask's text: a backslash before a special byte makes it a literal, and any other backslash is a
+-- literal
 abbrev pub items_of : MaskKind → List ℕ → List Item
 items_of mask_kind [] = []
 items_of mask_kind (b ∷ []) = item_of mask_kind b ∷ []
@@ -35,6 +36,6 @@ is_literal AnyText = false
 is_literal NoSpace = false
 is_literal Spaces = false
 
--- the number of literal items: of two masks that match, the one with more says more of the text
+-- the number of literal items: of two masks that match, the one with more says more about the text
 abbrev pub literals_of : MaskKind → List ℕ → ℕ
 literals_of mask_kind text = count_by is_literal (items_of mask_kind text)

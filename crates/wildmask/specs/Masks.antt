@@ -1,4 +1,4 @@
--- A mask as it was given, why a text is no mask, and what making one answers.
+-- A mask as it was given, why a text is not a mask, and what making one returns.
 use Rattle.std.specs.Prelude.{◌≡◌, ℕ, Bool, ◌==◌, ◌&&◌, ◌||◌, nat_lt, if◌then◌else◌, List, length, Option, Some, None, Result, Ok, Err, codes}
 use Rattle.std.specs.List.{list_all, list_any, after_first}
 use Rattle.wildmask.specs.declared.items.MaskKind.{MaskKind}
@@ -12,7 +12,7 @@ use Rattle.wildmask.specs.Items.{items_of, is_bind}
 use Rattle.wildmask.specs.Matching.{Matches}
 use Rattle.wildmask.specs.Tests.{items_match}
 
--- a mask: the text as it was given, and where it is used
+-- a mask: the text as it was given, and whether it is a bind's or a hostmask
 pub record GivenMask : Type 0 where
   pub kind : MaskKind
   pub text : List ℕ
@@ -31,18 +31,18 @@ mask_items mask = items_of mask.kind mask.text
 abbrev pub IsMatch : GivenMask → List ℕ → Type 0
 IsMatch mask text = Matches (items_of mask.kind mask.text) text
 
--- the same, as a test that computes
+-- IsMatch as a test that computes
 unfoldable pub is_match : GivenMask → List ℕ → Bool
 is_match mask text = items_match (items_of mask.kind mask.text) text
 
--- ---- why a text is no mask
+-- ---- why a text is not a mask
 
--- each byte is above 32, and after the first ! there is an @
+-- each byte is above 32, and an @ follows the first !
 abbrev pub is_hostmask : List ℕ → Bool
 is_hostmask text = list_all (λ b. nat_lt 32 b) text && list_any (λ b. b == 64) (after_first (λ b. b == 33) text)
 
--- the first fault of a mask's text: it is empty, it has more than 120 bytes, or it should be a hostmask and is none (our
--- own choice; Eggdrop cuts a long mask)
+-- the first fault of a mask's text: it is empty, it has more than 120 bytes, or it should be a hostmask and is not one
+-- (our own choice; Eggdrop cuts a long mask)
 abbrev pub fault_of : MaskKind → List ℕ → Option MaskFault
 fault_of mask_kind text =
     if length text == 0 then Some MaskEmpty else
@@ -55,14 +55,14 @@ bind_fault text = fault_of Bind text
 abbrev pub host_fault : List ℕ → Option MaskFault
 host_fault text = fault_of Host text
 
--- the letters of a fault
+-- the short code of a fault
 abbrev pub fault_code : MaskFault → List ℕ
 fault_code MaskEmpty = codes "M2"
 fault_code MaskTooLong = codes "M1"
 fault_code NotAHostmask = codes "M3"
 
--- ---- what making a mask answers: a text without a fault gives its mask, or there is no memory for it; any other is
--- refused for its first fault, whatever memory there is
+-- ---- what making a mask returns: for a text without a fault the mask, or NoMemory; for any other text its first
+-- fault, however much memory there is
 
 abbrev pub Makes : MaskKind → List ℕ → Result GivenMask (Failure MaskFault) → Type 0
 Makes mask_kind text (Ok mask) = (fault_of mask_kind text ≡ None) × (mask ≡ record { kind = mask_kind; text = text })

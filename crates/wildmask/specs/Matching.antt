@@ -4,8 +4,8 @@ use Rattle.rfccase.specs.Casemapping.{IsSame}
 use Rattle.wildmask.specs.declared.items.Item.{Item}
 use Rattle.wildmask.specs.declared.items.Item.TheVariants.{Literal, AnyByte, AnyText, NoSpace, Spaces}
 
--- the texts that an item takes: one byte that is the same by casemapping, one byte, any text, any text without a
--- space, and one or more spaces
+-- the texts that an item takes, in the order of the items below: one byte that is the same by casemapping, any one
+-- byte, any text, any text without a space, one or more spaces
 abbrev pub Takes : Item → List ℕ → Type 0
 Takes (Literal b) text = IsSame text (b ∷ [])
 Takes AnyByte text = length text ≡ 1
@@ -13,8 +13,8 @@ Takes AnyText text = Unit {0}
 Takes NoSpace text = All (λ c. c ≢ 32) text
 Takes Spaces text = (0 < length text) × All (λ c. c ≡ 32) text
 
--- no items match the empty text alone; an item before others matches a text where, for some cut, the item takes what
--- stands before the cut and the others match what stands after it
+-- an empty list of items matches only the empty text; an item before others matches a text if, for some cut, the item
+-- takes what is before the cut and the others match what is after it
 abbrev pub Matches : List Item → List ℕ → Type 0
 Matches [] text = text ≡ []
 Matches (item ∷ others) text =

@@ -4,7 +4,7 @@ use Rattle.rfccase.specs.Casemapping.{low, folded}
 use Rattle.wildmask.specs.declared.items.Item.{Item}
 use Rattle.wildmask.specs.declared.items.Item.TheVariants.{Literal, AnyByte, AnyText, NoSpace, Spaces}
 
--- a set of places: those below 128 as the bits of one number, and the others, less 128, as those of another
+-- a set of places: those below 128 as the bits of one number, and the others, less 128, as the bits of another
 pub record Pairs : Type 0 where
   pub first : ℕ
   pub second : ℕ
@@ -12,7 +12,7 @@ pub record Pairs : Type 0 where
 abbrev pub no_pairs : Pairs
 no_pairs = record { first = 0; second = 0 }
 
--- the places of both
+-- the union of two sets
 abbrev pub either : Pairs → Pairs → Pairs
 either a b = record { first = bit_or a.first b.first; second = bit_or a.second b.second }
 
@@ -32,11 +32,11 @@ pairs_of [] = no_pairs
 pairs_of (a ∷ []) = no_pairs
 pairs_of (a ∷ b ∷ text) = either (pair a b) (pairs_of (b ∷ text))
 
--- what a text has: the pairs of its lower cases
+-- the pairs that a text has, in lower case
 abbrev pub text_signature : List ℕ → Pairs
 text_signature text = pairs_of (folded text)
 
--- what two adjacent items need: two literals their pair, and a special item with another nothing
+-- the pair that two adjacent items need: that of two literals; with a special item, none
 abbrev pub needed : Item → Item → Pairs
 needed (Literal a) (Literal b) = pair (low a) (low b)
 needed (Literal a) AnyByte = no_pairs
@@ -48,16 +48,16 @@ needed AnyText item = no_pairs
 needed NoSpace item = no_pairs
 needed Spaces item = no_pairs
 
--- what a mask of these items needs
+-- the pairs that a mask with these items needs
 abbrev pub items_signature : List Item → Pairs
 items_signature [] = no_pairs
 items_signature (a ∷ []) = no_pairs
 items_signature (a ∷ b ∷ items) = either (needed a b) (items_signature (b ∷ items))
 
--- whether each place of the first is one of the second
+-- whether the second set has each place of the first
 abbrev pub is_within : Pairs → Pairs → Bool
 is_within needs has = (bit_and needs.first has.first == needs.first) && (bit_and needs.second has.second == needs.second)
 
--- whether two sets are one
+-- whether two sets are equal
 abbrev pub same_pairs : Pairs → Pairs → Bool
 same_pairs a b = (a.first == b.first) && (a.second == b.second)

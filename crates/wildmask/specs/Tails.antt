@@ -1,4 +1,4 @@
--- The literals at the end of a mask, and the ends of texts, as keys: a mask is looked for under its tail.
+-- The literals at the end of a mask, and the ends of texts, as keys: a mask is looked up by its tail.
 use Rattle.std.specs.Prelude.{ℕ, ◌-◌, min, List, [], ◌∷◌, ◌++◌, length, drop, replicate}
 use Rattle.std.specs.List.{suffix_len}
 use Rattle.rfccase.specs.Casemapping.{folded}
@@ -6,11 +6,11 @@ use Rattle.wildmask.specs.declared.items.Item.{Item}
 use Rattle.wildmask.specs.declared.items.Item.TheVariants.{Literal, AnyByte, AnyText, NoSpace, Spaces}
 use Rattle.wildmask.specs.Items.{is_literal}
 
--- the last bytes of a text, so many of them; all, where it has fewer
+-- the last `n` bytes of a text; all, if it has fewer
 abbrev pub last : ℕ → List ℕ → List ℕ
 last n text = drop (length text - n) text
 
--- a short text with zeros after it, to 16 bytes
+-- a short text, padded with zeros to 16 bytes
 abbrev pub padded : List ℕ → List ℕ
 padded xs = xs ++ replicate (16 - length xs) 0
 
@@ -23,11 +23,11 @@ bytes_of (AnyText ∷ items) = bytes_of items
 bytes_of (NoSpace ∷ items) = bytes_of items
 bytes_of (Spaces ∷ items) = bytes_of items
 
--- the key of a text's last bytes, so many of them and 16 at most: their lower cases
+-- the key of a text's last `n` bytes, 16 at most: their lower cases
 abbrev pub end_key : ℕ → List ℕ → List ℕ
 end_key n text = folded (last (min n 16) text)
 
--- how many items there are up to the last special one
+-- the number of items up to the last special one
 abbrev pub front_len : List Item → ℕ
 front_len items = length items - suffix_len is_literal items
 

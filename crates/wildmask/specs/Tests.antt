@@ -1,4 +1,5 @@
--- Whether items match a text, as a test that computes: the clauses of `Mask::matches` say that it is the relation.
+-- Whether items match a text, as a test that computes. The clauses of `Mask::matches` say that it agrees with the
+-- relation.
 use Rattle.std.specs.Prelude.{ℕ, zero, suc, Bool, true, not, ◌==◌, ◌&&◌, ◌||◌, nat_lt, List, [], ◌∷◌, length, take, drop}
 use Rattle.std.specs.List.{list_all}
 use Rattle.rfccase.specs.Casemapping.{is_same}
@@ -13,12 +14,12 @@ takes AnyText text = true
 takes NoSpace text = list_all (λ c. not (c == 32)) text
 takes Spaces text = nat_lt 0 (length text) && list_all (λ c. c == 32) text
 
--- whether a test passes at some number up to this one
+-- whether a test passes for any number up to this one
 abbrev pub some_upto : (ℕ → Bool) → ℕ → Bool
 some_upto test zero = test 0
 some_upto test (suc n) = test (suc n) || some_upto test n
 
--- whether items match a text: for some cut the first takes what stands before it, and the others match the rest
+-- whether items match a text: for some cut the first takes what is before it, and the others match the rest
 abbrev pub items_match : List Item → List ℕ → Bool
 items_match [] text = length text == 0
 items_match (item ∷ others) text = some_upto (λ cut. takes item (take cut text) && items_match others (drop cut text)) (length text)

@@ -6,7 +6,7 @@ use Rattle.wildmask.specs.declared.items.Item.TheVariants.{Literal, AnyByte, Any
 use Rattle.wildmask.specs.Codes.{lower}
 use Rattle.wildmask.specs.Matching.{Matches}
 
--- a place of the set, not before this one, from which on the items match the text
+-- the set has a place, at least `from`, from which on the items match the text
 abbrev pub MatchesFrom : ℕ → List Item → ℕ → List ℕ → Type 0
 MatchesFrom from items places text =
     (p : ℕ) × ((from ≤ p) × (p ≤ length items) × (bit_at places p ≡ 1) × Matches (drop p items) text)
@@ -16,7 +16,7 @@ abbrev pub IsIdle : List Item → ℕ → Option ℕ → Type 0
 IsIdle items places None = Unit {0}
 IsIdle items places (Some byte) = (text : List ℕ) → MatchesFrom 0 items places (byte ∷ text) ↔ MatchesFrom 0 items places text
 
--- whether an item takes nothing too
+-- whether an item can take the empty text
 abbrev pub may_be_empty : Item → Bool
 may_be_empty (Literal b) = false
 may_be_empty AnyByte = false
@@ -24,7 +24,7 @@ may_be_empty AnyText = true
 may_be_empty NoSpace = true
 may_be_empty Spaces = false
 
--- whether an item takes just one byte
+-- whether an item takes exactly one byte
 abbrev pub takes_one : Item → Bool
 takes_one (Literal b) = true
 takes_one AnyByte = true
@@ -32,7 +32,7 @@ takes_one AnyText = false
 takes_one NoSpace = false
 takes_one Spaces = false
 
--- whether a piece that an item takes may begin with a byte, of which the lower case is given
+-- whether a piece that an item takes may begin with a byte whose lower case is `lower`
 abbrev pub takes_byte : Item → ℕ → Bool
 takes_byte (Literal b) lower = b == lower
 takes_byte AnyByte lower = true
@@ -40,7 +40,7 @@ takes_byte AnyText lower = true
 takes_byte NoSpace lower = not (lower == 32)
 takes_byte Spaces lower = lower == 32
 
--- what is left to match after an item took a byte: the item may stay, be done, or both
+-- what is left to match after an item took a byte: the item may take more, be done, or either
 abbrev pub MatchesAfter : Item → List Item → List ℕ → Type 0
 MatchesAfter (Literal b) others text = Matches others text
 MatchesAfter AnyByte others text = Matches others text
@@ -48,17 +48,17 @@ MatchesAfter AnyText others text = Matches (AnyText ∷ others) text
 MatchesAfter NoSpace others text = Matches (NoSpace ∷ others) text
 MatchesAfter Spaces others text = Matches (Spaces ∷ others) text ⊎ Matches others text
 
--- each place of a set whose item may take nothing has the next one in the set
+-- if the item at a place of the set can take the empty text, the next place is in the set too
 abbrev pub IsClosed : List Item → ℕ → Type 0
 IsClosed items places =
     (p : ℕ) → p < length items → bit_at places p ≡ 1 → may_be_empty (get_or items p AnyByte) ≡ true → bit_at places (p + 1) ≡ 1
 
--- each literal of items is a lower case
+-- each literal among the items is in lower case
 abbrev pub AllLower : List Item → Type 0
 AllLower [] = Unit {0}
 AllLower (item ∷ items) = (lower item ≡ item) × AllLower items
 
--- each item takes just one byte
+-- each item takes exactly one byte
 abbrev pub AllOne : List Item → Type 0
 AllOne [] = Unit {0}
 AllOne (item ∷ items) = (takes_one item ≡ true) × AllOne items

@@ -6,24 +6,24 @@ ghost use Rattle.wildmask.specs.Masks.{fault_of, bind_fault, host_fault, is_host
 use crate::faults::MaskFault;
 use crate::items::MaskKind;
 
-/// The bytes that a mask has at most.
+/// The most bytes that a mask has.
 pub const MOST_BYTES: usize = 120;
 
-/// What [`Mask::bind`](crate::Mask::bind) would refuse this text for. Takes no memory.
+/// Returns the fault for which [`Mask::bind`](crate::Mask::bind) would reject `text`. Does not allocate.
 pub fn bind_fault(text: &[u8]) -> Option<MaskFault>
     ensures { result ≡ bind_fault text.now }
 {
     fault_of(MaskKind::Bind, text)
 }
 
-/// What [`Mask::host`](crate::Mask::host) would refuse this text for. Takes no memory.
+/// Returns the fault for which [`Mask::host`](crate::Mask::host) would reject `text`. Does not allocate.
 pub fn host_fault(text: &[u8]) -> Option<MaskFault>
     ensures { result ≡ host_fault text.now }
 {
     fault_of(MaskKind::Host, text)
 }
 
-/// The first fault of a mask's text.
+/// Returns the first fault of `text` as a mask of this `kind`.
 pub fn fault_of(kind: MaskKind, text: &[u8]) -> Option<MaskFault>
     ensures { result ≡ fault_of kind text.now }
 {
@@ -39,7 +39,7 @@ pub fn fault_of(kind: MaskKind, text: &[u8]) -> Option<MaskFault>
     }
 }
 
-// Whether each byte is above the space, and an `@` stands after the first `!`.
+// Whether each byte is above the space, and an `@` follows the first `!`.
 fn is_hostmask(text: &[u8]) -> bool
     ensures { result ≡ is_hostmask text.now }
 {
@@ -52,7 +52,7 @@ fn is_hostmask(text: &[u8]) -> bool
 fn is_printable(text: &[u8]) -> bool
     ensures { result ≡ list_all (λ b. nat_lt 32 b) text.now }
 {
-    // No early end, so that a compiler may look at many bytes at once.
+    // No early exit, so that a compiler may look at many bytes at once.
     let mut good = true;
     for byte in text {
         good &= *byte > b' ';

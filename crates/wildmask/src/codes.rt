@@ -7,7 +7,7 @@ ghost use Rattle.wildmask.specs.Items.{is_literal};
 use crate::items::Item;
 use rfccase::fold;
 
-// Bytes that are no lower case, so that no literal has them.
+// Upper-case bytes: no literal has them, since literals are kept in lower case.
 const ANY_BYTE: u8 = b'A';
 
 const ANY_TEXT: u8 = b'B';
@@ -16,7 +16,7 @@ const NO_SPACE: u8 = b'C';
 
 const SPACES: u8 = b'D';
 
-/// The byte of an item: the lower case of a literal, or one that no literal has.
+/// Returns the byte of `item`: the lower case of a literal, or a byte that no literal has.
 pub fn code_of(item: Item) -> u8
     ensures { decoded result ≡ lower item }
 {
@@ -29,7 +29,7 @@ pub fn code_of(item: Item) -> u8
     }
 }
 
-/// The item of a byte.
+/// Returns the item of the byte `code`.
 pub fn item_of(code: u8) -> Item
     ensures { result ≡ decoded code }
 {
@@ -42,14 +42,14 @@ pub fn item_of(code: u8) -> Item
     }
 }
 
-/// Whether the item of a byte is a literal.
+/// Returns whether the item of the byte `code` is a literal.
 pub fn is_literal(code: u8) -> bool
     ensures { result ≡ is_literal (decoded code) }
 {
     !(ANY_BYTE..=SPACES).contains(&code)
 }
 
-/// Whether the item of a byte is a star.
+/// Returns whether the item of the byte `code` is a star.
 pub fn is_star(code: u8) -> bool
     ensures { IsTrue result ↔ (decoded code ≡ AnyText) }
 {

@@ -1,10 +1,10 @@
-// How many comparisons were made, as clauses see it.
+// The number of comparisons made, for contracts.
 ghost use Rattle.std.specs.Prelude.{◌≡◌, ◌+◌, ℕ};
 
 use std::marker::{Model, PhantomData};
 
-/// A count of comparisons of an item with a byte. It holds nothing when a program runs: contracts alone see it, as the
-/// whole number `steps`.
+/// A count of comparisons of an item with a byte. It holds nothing at run time: only contracts see it, as the number
+/// `steps`.
 #[derive(Drop)]
 pub struct Count {
     marker: PhantomData<u8>,
@@ -19,7 +19,7 @@ impl Model for Count {
 }
 
 impl Count {
-    /// A count at zero.
+    /// Creates a count at zero.
     pub fn new() -> Count
         ensures { result.steps ≡ 0 }
     {
@@ -28,7 +28,7 @@ impl Count {
         }
     }
 
-    /// One comparison more.
+    /// Counts one more comparison.
     pub(crate) fn note(&mut self)
         ensures { self.new.steps ≡ self.old.steps + 1 }
     {}

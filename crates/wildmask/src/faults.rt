@@ -1,26 +1,26 @@
-// Why a text is no mask.
+// Why a text is not a mask.
 ghost use Rattle.std.specs.Prelude.{◌≡◌};
 ghost use Rattle.wildmask.specs.Masks.{fault_code};
 
 use bytetext::Failure;
 use thiserror::Error;
 
-/// Why a text is no mask, in the order in which it is looked at.
+/// Why a text is not a mask. The faults are tested in this order.
 #[derive(Clone, Copy, Debug, PartialEq, Eq, Error)]
 pub enum MaskFault {
-    /// M2: the text has no byte.
+    /// M2: the text is empty.
     #[error("the mask is empty: write at least one byte")]
     MaskEmpty,
     /// M1: the text has more than 120 bytes.
     #[error("the mask is too long: write at most 120 bytes")]
     MaskTooLong,
-    /// M3: no `@` stands after the first `!`, or a byte is a space or a control byte.
+    /// M3: no `@` follows the first `!`, or a byte is a space or a control byte.
     #[error("not a hostmask: write it as nick!user@host, without spaces or control bytes")]
     NotAHostmask,
 }
 
 impl MaskFault {
-    /// The fault's short name, as transcripts print it: M1, M2 or M3.
+    /// Returns the fault's short code, as transcripts print it: M1, M2 or M3.
     pub fn code(self) -> &'static str
         ensures { result.now ≡ fault_code self }
     {
@@ -32,5 +32,5 @@ impl MaskFault {
     }
 }
 
-/// Why no mask was made: `Refused` where the text is none, or else `NoMemory` where room for a copy of it is refused.
+/// Why no mask was made: `Refused` if the text is not a mask, or else `NoMemory` if a copy of it cannot be allocated.
 pub type MaskError = Failure<MaskFault>;

@@ -5,9 +5,9 @@ ghost use Rattle.wildmask.specs.Items.{items_of, item_of, is_special};
 /// Where a mask is used, which decides what `%` and `~` mean in it.
 #[derive(Clone, Copy, Debug, Drop)]
 pub enum MaskKind {
-    /// In a bind, where `%` and `~` are special.
+    /// In a bind: `%` and `~` are special.
     Bind,
-    /// As a hostmask, where they are literals.
+    /// As a hostmask: `%` and `~` are literals.
     Host,
 }
 
@@ -26,7 +26,8 @@ pub enum Item {
     Spaces,
 }
 
-/// The first item of what is left of a mask's text, and what is left after it; `None` at the end.
+/// Returns the first item of `mask`, the unread text of a mask of this `kind`, and the text after that item; `None` at
+/// the end.
 pub fn next_item(kind: MaskKind, mask: &[u8]) -> Option<(Item, &[u8])>
     ensures items { MatchOption result (mask.now ≡ [])
         (λ next. items_of kind mask.now ≡ next.0 ∷ items_of kind next.1.now) }
@@ -42,14 +43,14 @@ pub fn next_item(kind: MaskKind, mask: &[u8]) -> Option<(Item, &[u8])>
     }
 }
 
-// Whether a backslash before the byte takes its meaning away.
+// Whether a backslash before the byte makes it a literal.
 fn is_special(byte: u8) -> bool
     ensures { result ≡ is_special byte }
 {
     matches!(byte, b'?' | b'*' | b'%' | b'~' | b'\\')
 }
 
-// The item of a byte that no backslash stands before.
+// The item of a byte without a backslash before it.
 fn item_of(kind: MaskKind, byte: u8) -> Item
     ensures { result ≡ item_of kind byte }
 {

@@ -1,4 +1,4 @@
-//! Masks: texts with wildcards, which binds and hostmasks are matched by.
+//! Masks: texts with wildcards, for matching in binds and hostmasks.
 //!
 //! A mask is a list of items, and each item takes some texts:
 //!
@@ -9,12 +9,12 @@
 //! | `%` | any bytes without a space | the byte `%` |
 //! | `~` | one or more spaces | the byte `~` |
 //! | `\` before one of `? * % ~ \` | that byte | that byte |
-//! | any other byte, another `\` too | that byte, in either case | that byte, in either case |
+//! | any other byte, including any other `\` | that byte, in either case | that byte, in either case |
 //!
-//! A mask matches a text where the text can be cut so that each item takes its piece, in order. Cases are those of
+//! A mask matches a text if the text can be cut so that each item takes its piece, in order. Cases are those of
 //! casemapping (RFC 2812 section 2.2). The wildcards are Eggdrop's (its Tcl commands document, "bind"); the escape is
-//! this crate's own. A [`Mask`] is made by [`Mask::bind`] or [`Mask::host`], which refuse a text that is none.
-//! [`bind_fault`] and [`host_fault`] tell why without taking memory.
+//! this crate's own. [`Mask::bind`] and [`Mask::host`] make a [`Mask`], and reject a text that is not a mask.
+//! [`bind_fault`] and [`host_fault`] return the reason without allocating.
 //!
 //! ```text
 //! let mask = Mask::host(alloc, b"*!bo?@*.net")?;
@@ -22,8 +22,8 @@
 //! mask.literals()                          // 8: of two masks that match, the one with more decides
 //! ```
 //!
-//! A match goes over the text once, so that no mask that a stranger thinks of takes long: [`Mask::matches_counted`] says
-//! how many comparisons it takes at most. Who holds many masks need not try each: a mask that matches a text has a
+//! A match goes over the text once, so that no mask from a stranger takes long: [`Mask::matches_counted`] says how many
+//! comparisons it takes at most. A caller with many masks need not try each of them: a mask that matches a text has a
 //! [`Tail`] that the text ends with, and its [`Signature`] is within that of the text.
 #![tactic(auto)]
 

@@ -1,4 +1,4 @@
-// A mask.
+// A mask: its text, and what a match needs of it.
 
 use crate::checks::fault_of;
 use crate::counts::Count;
@@ -11,8 +11,8 @@ use bytetext::{NoMemory, Text, TryCopy, refuse};
 use std::alloc::Global;
 use std::marker::Model;
 
-/// A mask: a text with wildcards, which matches other texts. Contracts see the text as it was given, and whether it
-/// is a bind's or a hostmask.
+/// A mask: a text with wildcards, which matches other texts. Contracts see the text as it was given, and whether the
+/// mask is a bind's or a hostmask.
 ///
 /// ```text
 /// let mask = Mask::host(alloc, b"*!bo?@*.net")?;
@@ -52,23 +52,25 @@ impl Mask {
     ghost use Rattle.wildmask.specs.Signatures.{is_within, items_signature, text_signature};
     ghost use Rattle.wildmask.specs.Tails.{end_key, tail_of};
 
-    /// The mask of a bind (Eggdrop's Tcl commands document, "bind"): `?` is one byte, `*` any bytes, `%` any bytes
-    /// without a space, `~` one or more spaces, and `\` makes `? * % ~ \` literal. Other bytes are literals.
+    /// Creates the mask of a bind from `text` (Eggdrop's Tcl commands document, "bind"): `?` is one byte, `*` any
+    /// bytes, `%` any bytes without a space, `~` one or more spaces, and `\` makes `? * % ~ \` literal. Other bytes
+    /// are literals.
     ///
     /// # Errors
-    /// M2 where the text is empty; then M1 where it has more than 120 bytes; then `NoMemory` where room for a copy is
-    /// refused.
+    /// M2 if the text is empty; then M1 if it has more than 120 bytes; then `NoMemory` if a copy of it cannot be
+    /// allocated.
     pub fn bind(alloc: Global, text: &[u8]) -> Result<Mask, MaskError>
         ensures { Makes Bind text.now result }
     {
         Mask::of(alloc, MaskKind::Bind, text)
     }
 
-    /// A hostmask, for texts `nick!user@host`: as [`Mask::bind`], but `%` and `~` are literals.
+    /// Creates a hostmask from `text`, to match texts `nick!user@host`: as [`Mask::bind`], but `%` and `~` are
+    /// literals.
     ///
     /// # Errors
-    /// M2 where the text is empty; then M1 where it has more than 120 bytes; then M3 where no `@` stands after the
-    /// first `!`, or a byte is a space or below; then `NoMemory` where room for a copy is refused.
+    /// M2 if the text is empty; then M1 if it has more than 120 bytes; then M3 if no `@` follows the first `!`, or a
+    /// byte is a space or below; then `NoMemory` if a copy of the text cannot be allocated.
     pub fn host(alloc: Global, text: &[u8]) -> Result<Mask, MaskError>
         ensures { Makes Host text.now result }
     {
@@ -91,7 +93,7 @@ impl Mask {
         })
     }
 
-    /// Whether the mask matches all of this text, by casemapping. Takes no memory.
+    /// Returns whether the mask matches all of `text`, by casemapping. Does not allocate.
     pub fn matches(&self, text: &[u8]) -> bool
         ensures matches { IsTrue result ↔ IsMatch self.now text.now }
         ensures test { result ≡ is_match self.now text.now }
@@ -99,9 +101,10 @@ impl Mask {
         self.matches_counted(text, &mut Count::new())
     }
 
-    /// As [`Mask::matches`], with a count that grows by one for each comparison of an item with a byte. The literals at
-    /// the end are compared first, from the last on, and then a set of places among the other items is moved over the
-    /// text once. So no mask and no text take more comparisons than items and bytes, one more of each, multiplied.
+    /// Returns whether the mask matches all of `text`, and adds one to `count` for each comparison of an item with a
+    /// byte. It compares the literals at the end first, from the last one backwards, and then moves a set of places
+    /// among the other items over the text once. So a mask of `m` items and a text of `n` bytes take at most
+    /// `(m + 1) * (n + 1)` comparisons.
     pub fn matches_counted(&self, text: &[u8], count: &mut Count) -> bool
         ensures matches { IsTrue result ↔ IsMatch self.now text.now }
         ensures test { result ≡ is_match self.now text.now }
@@ -110,15 +113,15 @@ impl Mask {
         self.pattern().matches(text, count)
     }
 
-    /// How many items of the mask are literals, an escaped byte being one.
+    /// Returns the number of literals among the mask's items. An escaped byte counts as one.
     pub fn literals(&self) -> u8
         ensures { result ≡ literals_of self.now.kind self.now.text }
     {
         self.literals
     }
 
-    /// The mask's tail: the lower cases of the literals after its last special item, the last 16 at most. A text that
-    /// the mask matches ends with it.
+    /// Returns the mask's tail: the lower cases of the literals after its last special item, the last 16 at most. A
+    /// text that the mask matches ends with it.
     pub fn tail(&self) -> Tail
         ensures value { result ≡ tail_of (mask_items self.now) }
         ensures ends { (text : List ℕ) → IsMatch self.now text → result ≡ end_key (length result) text }
@@ -128,7 +131,7 @@ impl Mask {
         self.pattern().tail()
     }
 
-    /// The pairs of adjacent literals that the mask needs. A text that the mask matches has each of them.
+    /// Returns the pairs of adjacent literals that the mask needs. A text that the mask matches has each of them.
     pub fn signature(&self) -> Signature
         ensures value { result ≡ items_signature (mask_items self.now) }
         ensures needed { (text : List ℕ) → IsMatch self.now text → IsTrue (is_within result (text_signature text)) }
@@ -136,14 +139,14 @@ impl Mask {
         self.signature
     }
 
-    // The items of the mask, which are read off its text: many masks are kept, and few are matched, so none keeps them.
+    // Parses the items of the mask from its text. Many masks are kept and few are matched, so no mask keeps its items.
     fn pattern(&self) -> Pattern
         ensures { result ≡ map lower (mask_items self.now) }
     {
         Pattern::of(self.kind, self.text.as_bytes())
     }
 
-    /// The mask's text as it was given.
+    /// Returns the mask's text as it was given.
     pub fn text(&self) -> &[u8]
         ensures given { result.now ≡ self.now.text }
         ensures sound { fault_of self.now.kind self.now.text ≡ None }

@@ -1,4 +1,4 @@
-// The items of a mask, ready to match: apart from `Mask`, so that its text and its items are tied in one place.
+// The items of a mask, ready to match. They are apart from `Mask` so that one place ties its text to its items.
 ghost use Rattle.std.specs.Prelude.{◌≡◌, ◌↔◌, ◌+◌, ◌*◌, ◌≤◌, IsTrue, count_by, length, map};
 ghost use Rattle.wildmask.specs.Codes.{items_in, lower};
 ghost use Rattle.wildmask.specs.Items.{items_of, is_literal};
@@ -14,15 +14,15 @@ use crate::signatures::Signature;
 use crate::tails::Tail;
 use std::marker::Model;
 
-// The items that a mask has at most: as many as bytes.
+// The most items that a mask has: as many as bytes.
 const MOST_ITEMS: usize = 120;
 
-/// The items of a mask, each literal as its lower case. Contracts see the list of them.
+/// The items of a mask, each literal as its lower case. Contracts see the items as a list.
 #[derive(Debug, Drop)]
 pub struct Pattern {
     codes: [u8; MOST_ITEMS],
     len: usize,
-    // how many items there are up to the last special one
+    // the number of items up to the last special one
     front: usize,
 }
 
@@ -42,7 +42,7 @@ impl Model for Pattern {
 }
 
 impl Pattern {
-    /// The items of a mask's text.
+    /// Creates the items of a mask from its `kind` and `text`.
     pub fn of(kind: MaskKind, text: &[u8]) -> Pattern
         requires { length text.now ≤ 120 }
         ensures { result ≡ map lower (items_of kind text.now) }
@@ -59,7 +59,8 @@ impl Pattern {
         Pattern { codes, len, front }
     }
 
-    /// Whether the items match all of a text: the literals at the end first.
+    /// Returns whether the items match all of `text`, and adds the comparisons to `count`. The literals at the end are
+    /// compared first.
     pub fn matches(&self, text: &[u8], count: &mut Count) -> bool
         ensures matches { IsTrue result ↔ Matches self.now text.now }
         ensures counted { count.new.steps ≤ count.old.steps + (length self.now + 1) * (length text.now + 1) }
@@ -68,7 +69,7 @@ impl Pattern {
         matches_end_first(front, end, text, count)
     }
 
-    /// How many of the items are literals.
+    /// Returns the number of literals among the items.
     pub fn literals(&self) -> u8
         ensures { result ≡ count_by is_literal self.now }
     {
@@ -79,14 +80,14 @@ impl Pattern {
         count as u8
     }
 
-    /// The literals at the end.
+    /// Returns the literals at the end, the last 16 at most.
     pub fn tail(&self) -> Tail
         ensures { result ≡ tail_of self.now }
     {
         Tail::of_end(&self.codes[self.front..self.len], MOST_ITEMS)
     }
 
-    /// The pairs that the items need.
+    /// Returns the pairs that the items need.
     pub fn signature(&self) -> Signature
         ensures { result ≡ items_signature self.now }
     {
@@ -94,7 +95,7 @@ impl Pattern {
     }
 }
 
-// How many items there are up to the last special one.
+// The number of items up to the last special one.
 fn front_of(codes: &[u8]) -> usize
     ensures value { result ≡ front_len (items_in codes.now) }
     ensures within { result ≤ length codes.now }

@@ -9,21 +9,21 @@ pub struct Places {
 }
 
 impl Places {
-    /// The set without places.
+    /// Returns the set without places.
     pub fn none() -> Places
         ensures { result.bits ≡ 0 }
     {
         Places { bits: 0 }
     }
 
-    /// Whether the set has no place.
+    /// Returns whether the set has no places.
     pub fn is_none(self) -> bool
         ensures { result ≡ (self.bits == 0) }
     {
         self.bits == 0
     }
 
-    /// The set with this place too.
+    /// Returns the set with `place` added.
     pub fn with(self, place: usize) -> Places
         requires { place < 128 }
         ensures { (q : ℕ) → (bit_at result.bits q ≡ 1) ↔ ((bit_at self.bits q ≡ 1) ⊎ (q ≡ place)) }
@@ -33,7 +33,7 @@ impl Places {
         }
     }
 
-    /// The first place from this one on.
+    /// Returns the first place of the set that is at least `from`.
     pub fn first_from(self, from: usize) -> Option<usize>
         requires { from < 128 }
         ensures { MatchOption result ((q : ℕ) → from ≤ q → bit_at self.bits q ≡ 0)
@@ -46,7 +46,7 @@ impl Places {
         Some(from + rest.trailing_zeros() as usize)
     }
 
-    /// Whether this place is in the set.
+    /// Returns whether `place` is in the set.
     pub fn has(self, place: usize) -> bool
         requires { place < 128 }
         ensures { IsTrue result ↔ (bit_at self.bits place ≡ 1) }

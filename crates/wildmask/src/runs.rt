@@ -1,4 +1,4 @@
-// Runs of items that take one byte each, before, between and after stars. They are settled without a set of places.
+// Runs of items that take one byte each, before, between and after stars. They are matched without a set of places.
 ghost use Rattle.std.specs.Prelude.{◌≡◌, ◌↔◌, ℕ, List, ◌∷◌, ◌++◌, ◌+◌, ◌-◌, ◌*◌, ◌≤◌, IsTrue, MatchOption, length, take, true};
 ghost use Rattle.wildmask.specs.declared.items.Item.{Item};
 ghost use Rattle.wildmask.specs.declared.items.Item.TheVariants.{AnyText};
@@ -12,7 +12,8 @@ use crate::items::Item;
 use crate::walks::{takes, walk};
 use rfccase::fold;
 
-/// Whether the items match all of a text: first the literals after the last special item (`end`), from the last on.
+/// Returns whether the items of `front` and `end` match all of `text`, and adds the comparisons to `count`. The
+/// literals after the last special item (`end`) are compared first, from the last one backwards.
 pub fn matches_end_first(front: &[u8], end: &[u8], text: &[u8], count: &mut Count) -> bool
     requires few { length front.now ≤ 120 }
     requires lower { AllLower (items_in front.now) }
@@ -28,7 +29,7 @@ pub fn matches_end_first(front: &[u8], end: &[u8], text: &[u8], count: &mut Coun
     fits(end, last, count) && matches_run_first(front, rest, count)
 }
 
-// Whether the items match all of a text: first those that take one byte each.
+// Whether the items match all of a text. The items in front that take one byte each are compared first.
 fn matches_run_first(codes: &[u8], text: &[u8], count: &mut Count) -> bool
     requires few { length codes.now ≤ 120 }
     requires lower { AllLower (items_in codes.now) }
@@ -41,7 +42,7 @@ fn matches_run_first(codes: &[u8], text: &[u8], count: &mut Count) -> bool
     }
 }
 
-// What is left of items and of a text after the items in front that take one byte each; none where one of those does
+// What is left of items and of a text after the items in front that take one byte each; `None` if one of those does
 // not take its byte.
 fn after_first_run<'a, 'b>(
     codes: &'a [u8],
@@ -71,7 +72,7 @@ fn after_first_run<'a, 'b>(
     Some((left, rest))
 }
 
-// The first item, where it takes one byte, and the others.
+// The first item and the others, if the first takes one byte.
 fn first_of_run(codes: &[u8]) -> Option<(Item, &[u8])>
     ensures item { MatchOption result (Unit {0})
         (λ p. (items_in codes.now ≡ p.0 ∷ items_in p.1.now) × (takes_one p.0 ≡ true)) }
@@ -83,7 +84,8 @@ fn first_of_run(codes: &[u8]) -> Option<(Item, &[u8])>
     }
 }
 
-// Whether the items match all of a text: a run between two stars takes its first place, and what is left is walked.
+// Whether the items match all of a text: a run between two stars takes the first piece that fits, and `walk` matches
+// what is left.
 fn matches_stars(codes: &[u8], text: &[u8], count: &mut Count) -> bool
     requires few { length codes.now ≤ 120 }
     requires lower { AllLower (items_in codes.now) }
@@ -104,7 +106,7 @@ fn matches_stars(codes: &[u8], text: &[u8], count: &mut Count) -> bool
     walk(left, rest, count)
 }
 
-// Where a star stands first and after it a run and another star, the run, and what begins with the other star.
+// If the items are a star, a run and another star: the run, and the items from the other star on.
 fn run_between_stars(codes: &[u8]) -> Option<(&[u8], &[u8])>
     ensures parts { MatchOption result (Unit {0}) (λ parts. (items : List Item)
         × (items_in codes.now ≡ AnyText ∷ items_in parts.0.now ++ AnyText ∷ items)
@@ -136,7 +138,7 @@ fn split_run(codes: &[u8]) -> (&[u8], &[u8])
     codes.split_at(len)
 }
 
-// Whether an item takes just one byte.
+// Whether an item takes exactly one byte.
 fn takes_one(code: u8) -> bool
     ensures { result ≡ takes_one (decoded code) }
 {
@@ -146,7 +148,7 @@ fn takes_one(code: u8) -> bool
     }
 }
 
-// What is left of a text after the first piece that a run of items takes; none where it takes none.
+// What is left of a text after the first piece that a run of items takes; `None` if it takes no piece.
 fn after_run<'a>(run: &[u8], text: &'a [u8], count: &mut Count) -> Option<&'a [u8]>
     requires one { AllOne (items_in run.now) }
     requires lower { AllLower (items_in run.now) }
@@ -172,7 +174,7 @@ fn after_run<'a>(run: &[u8], text: &'a [u8], count: &mut Count) -> Option<&'a [u
     None
 }
 
-// Whether items that take one byte each match a text of as many bytes, from the last on.
+// Whether items that take one byte each match a text of as many bytes, compared from the last one backwards.
 fn fits(codes: &[u8], text: &[u8], count: &mut Count) -> bool
     requires len { length codes.now ≡ length text.now }
     requires one { AllOne (items_in codes.now) }

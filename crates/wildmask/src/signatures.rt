@@ -9,8 +9,8 @@ use rfccase::fold;
 use std::marker::Model;
 
 /// A set of pairs of adjacent bytes: those that a text has, or those of literals that a mask needs. A mask that needs a
-/// pair which a text hasn't does not match it. Several pairs share one of 256 places, so one that seems to be there may
-/// not be. Contracts see the places as the bits of two numbers.
+/// pair that a text lacks does not match it. Several pairs share one of 256 places, so a pair that seems to be in the
+/// set may not be. Contracts see the places as the bits of two numbers.
 #[derive(Clone, Copy, Debug, PartialEq, Eq)]
 pub struct Signature {
     first: u128,
@@ -27,14 +27,14 @@ impl Model for Signature {
     ghost inverse = { λ p. record { first = p.first; second = p.second } };
 }
 
-// No pair.
+// The set without pairs.
 const NONE: Signature = Signature {
     first: 0,
     second: 0,
 };
 
 impl Signature {
-    /// The pairs that a text has, by lower case. Takes no memory.
+    /// Returns the pairs of `text`, in lower case. Does not allocate.
     pub fn of(text: &[u8]) -> Signature
         ensures { result ≡ text_signature text.now }
     {
@@ -51,14 +51,15 @@ impl Signature {
         pairs
     }
 
-    /// Whether each pair of this signature, a mask's, is one of the other, a text's. Where not, the mask does not match.
+    /// Returns whether the signature of a text, `text`, has each pair of this one, a mask's. If not, the mask does not
+    /// match.
     pub fn is_within(self, text: Signature) -> bool
         ensures { result ≡ is_within self text }
     {
         self.first & text.first == self.first && self.second & text.second == self.second
     }
 
-    // The pairs that a mask of these items needs.
+    // The pairs that a mask with these items needs.
     pub(crate) fn needed_by(codes: &[u8]) -> Signature
         ensures { result ≡ items_signature (items_in codes.now) }
     {
@@ -82,7 +83,7 @@ impl Signature {
     }
 }
 
-// What two adjacent items need: two literals their pair.
+// The pair that two adjacent items need: only two literals need one.
 fn needed_pair(first: u8, second: u8) -> Signature
     ensures { result ≡ needed (decoded first) (decoded second) }
 {

@@ -11,12 +11,12 @@ use rfccase::fold_slice;
 use std::hash::{Hash, Hasher};
 use std::marker::Model;
 
-// The bytes that a tail has at most (our own choice).
+// The most bytes that a tail has (our own choice).
 const MOST_BYTES: usize = 16;
 
-/// The lower cases of a text's last bytes, 16 at most, as a key of a map. A mask is kept under its tail
-/// ([`Mask::tail`](crate::Mask::tail)) and looked for under the ends of a text.
-/// Contracts see the list of the lower cases.
+/// The lower cases of a text's last bytes, 16 at most, as a key of a map. A map keeps a mask under its tail
+/// ([`Mask::tail`](crate::Mask::tail)), and a look-up tries the ends of a text.
+/// Contracts see the lower cases as a list.
 #[derive(Clone, Copy, Debug)]
 pub struct Tail {
     bytes: [u8; MOST_BYTES],
@@ -37,7 +37,7 @@ impl Model for Tail {
 }
 
 impl Tail {
-    /// The key of the last `len` bytes of a text, 16 at most; of all, where it has fewer. Takes no memory.
+    /// Creates the key of the last `len` bytes of `text`, 16 at most; of all, if it has fewer. Does not allocate.
     pub fn of_end(text: &[u8], len: usize) -> Tail
         ensures { result ≡ end_key len text.now }
     {
@@ -50,7 +50,7 @@ impl Tail {
         Tail { bytes, len }
     }
 
-    /// The lower cases.
+    /// Returns the lower cases.
     pub fn as_bytes(&self) -> &[u8]
         ensures { result.now ≡ self.now }
     {

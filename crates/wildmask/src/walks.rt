@@ -1,4 +1,4 @@
-// Whether items match a text: a set of places among them is moved over the text once.
+// Whether items match a text: moves a set of places among them over the text once.
 ghost use Rattle.std.specs.Prelude.{◌≡◌, ◌↔◌, ◌⊎◌, ℕ, List, [], ◌∷◌, ◌+◌, ◌*◌, ◌≤◌, ◌<◌, IsTrue, MatchOption, drop, get_or, length, true};
 ghost use Rattle.std.specs.Int.{bit_at};
 ghost use Rattle.wildmask.specs.declared.items.Item.TheVariants.{AnyText};
@@ -12,7 +12,7 @@ use crate::items::Item;
 use crate::places::Places;
 use rfccase::fold;
 
-/// Whether the items match all of a text.
+/// Returns whether the items of `codes` match all of `text`. Adds the comparisons that it makes to `count`.
 pub fn walk(codes: &[u8], text: &[u8], count: &mut Count) -> bool
     requires few { length codes.now ≤ 120 }
     requires lower { AllLower (items_in codes.now) }
@@ -35,7 +35,7 @@ pub fn walk(codes: &[u8], text: &[u8], count: &mut Count) -> bool
     places.has(codes.len())
 }
 
-// The places after one more byte: those before it, where it is the byte that is known to leave them as they are.
+// The places after one more byte: unchanged if the byte is the one that is known to leave them as they are.
 fn step_unless_idle(
     codes: &[u8],
     places: Places,
@@ -58,7 +58,7 @@ fn step_unless_idle(
     }
 }
 
-// The byte, where it left the places as they were: a text that repeats one byte need not be walked.
+// The byte, if it left the places as they were: a text that repeats one byte need not be walked.
 fn idle_byte(before: Places, after: Places, byte: u8) -> Option<u8>
     ensures { MatchOption result (Unit {0}) (λ known. (known ≡ byte) × (before.bits ≡ after.bits)) }
 {
@@ -69,7 +69,7 @@ fn idle_byte(before: Places, after: Places, byte: u8) -> Option<u8>
     }
 }
 
-// Whether the last item is a star and one of the places: then whatever is left of the text matches.
+// Whether the last item is a star and in the set of places: then whatever is left of the text matches.
 fn is_at_last_star(codes: &[u8], places: Places) -> bool
     requires { length codes.now ≤ 120 }
     ensures { IsTrue result → (text : List ℕ) → MatchesFrom 0 (items_in codes.now) places.bits text }
@@ -100,7 +100,7 @@ fn step(codes: &[u8], places: Places, byte: u8, count: &mut Count) -> Places
     after
 }
 
-// The first place from this one on that has an item.
+// The first place of the set, from `from` on, that has an item.
 fn next_item(codes: &[u8], places: Places, from: usize) -> Option<usize>
     requires few { length codes.now ≤ 120 }
     requires from { from ≤ length codes.now }
@@ -114,8 +114,8 @@ fn next_item(codes: &[u8], places: Places, from: usize) -> Option<usize>
     }
 }
 
-// The places with those at which the mask stands after the item at a place met a byte of this lower case. A star drops the
-// others: whatever matches from them matches from the star too.
+// The places, and those that the mask reaches when the item at place `at` meets a byte with the lower case `lower`. A
+// star drops the others: whatever matches from them matches from the star too.
 fn moved(codes: &[u8], places: Places, at: usize, lower: u8, count: &mut Count) -> Places
     requires few { length codes.now ≤ 120 }
     requires at { at < length codes.now }
@@ -142,7 +142,7 @@ fn moved(codes: &[u8], places: Places, at: usize, lower: u8, count: &mut Count) 
     }
 }
 
-// The places with this one, and with those after it up to which the items may take nothing.
+// The places with `at`, and with each place after it that is reached over items that may take nothing.
 fn with_skipped(codes: &[u8], places: Places, at: usize) -> Places
     requires few { length codes.now ≤ 120 }
     requires at { at ≤ length codes.now }
@@ -160,7 +160,8 @@ fn with_skipped(codes: &[u8], places: Places, at: usize) -> Places
     places
 }
 
-/// Whether a piece that an item takes may begin with a byte of this lower case: the one comparison of an item with a byte.
+/// Returns whether a piece that `item` takes may begin with a byte whose lower case is `lower`. This is the
+/// comparison of an item with a byte that `count` counts.
 pub fn takes(item: Item, lower: u8, count: &mut Count) -> bool
     ensures value { result ≡ takes_byte item lower }
     ensures counted { count.new.steps ≡ count.old.steps + 1 }
@@ -174,7 +175,7 @@ pub fn takes(item: Item, lower: u8, count: &mut Count) -> bool
     }
 }
 
-// Whether an item takes nothing too.
+// Whether an item can take the empty text.
 fn may_be_empty(item: Item) -> bool
     ensures { result ≡ may_be_empty item }
 {

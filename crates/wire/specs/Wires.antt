@@ -1,4 +1,4 @@
--- What was handed on and told over a connection, beside what its stream gave and took.
+-- What was handed on and told over a connection, compared with what its stream gave and took.
 use Rattle.std.specs.Prelude.{◌≡◌, ℕ, Bool, true, false, List, [], ◌++◌, Result, Ok, Err}
 use Rattle.streams.specs.State.{Source, Sink}
 use Rattle.streams.specs.declared.stream.Given.{Given}
@@ -22,8 +22,8 @@ more_handed ledger bytes = record ledger { handed = ledger.handed ++ bytes }
 abbrev pub more_told : Ledger → List ℕ → Ledger
 more_told ledger bytes = record ledger { told = ledger.told ++ bytes }
 
--- Each byte that the stream gave since is handed on or held as heard, once and in order. Each byte that was told since is
--- taken by the stream or held as unsent, once and in order.
+-- Each byte that the stream gave since was handed on or is held as heard, once and in order. Each byte told since was
+-- taken by the stream or is held as unsent, once and in order.
 pub record Holds (ledger : Ledger) (source : Source) (sink : Sink) (heard unsent : List ℕ) : Type 0 where
   pub hears : source.past.given ≡ ledger.given ++ (ledger.handed ++ heard)
   pub tells : ledger.taken ++ ledger.told ≡ sink.past.taken ++ unsent
@@ -41,7 +41,7 @@ ends_telling (takes_bytes n) = false
 ends_telling Nothing = false
 ends_telling fails_to_take = true
 
--- what was told of these bytes: all of them or none
+-- the bytes that were told: all of these or none
 abbrev pub told_bytes : {E : Type 0} → Result Bool E → List ℕ → List ℕ
 told_bytes (Ok true) bytes = bytes
 told_bytes (Ok false) bytes = []

@@ -1,4 +1,4 @@
-// A stream with what was heard and what is unsent.
+// A stream, with the bytes heard from it and the bytes still to be sent to it.
 ghost use Rattle.std.specs.Prelude.{◌≡◌, ◌≤◌, ◌<◌, ◌+◌, ◌++◌, ◌||◌, ◌↔◌, not, true, false, [], length, IfOk, OnErr, vec_len};
 ghost use Rattle.std.specs.Vec.{vec_capacity};
 ghost use Rattle.streams.specs.Calls.{Takes, bytes_taken};
@@ -10,29 +10,29 @@ use std::alloc::Global;
 use std::mem;
 use streams::{Given, Stream, Taken};
 
-// How many bytes one reading hears at most.
+// The most bytes that one call of `read` hears.
 const PIECE: usize = 4_096;
 
 /// The most bytes that a wire holds.
 #[derive(Clone, Copy, Debug, PartialEq, Eq)]
 pub struct Bounds {
-    /// Of those that were heard and are not taken yet.
+    /// Bytes that were heard and are not taken yet.
     pub heard: usize,
-    /// Of those that are still to be sent.
+    /// Bytes that are still to be sent.
     pub unsent: usize,
 }
 
-/// A stream, what was heard of it, and what it is still to take.
+/// A stream, the bytes heard from it, and the bytes still to be sent to it.
 pub struct Wire<S: Stream + Drop> {
-    /// What gives and takes.
+    /// The stream, which gives and takes.
     pub stream: S,
-    /// What it gave and nobody took yet.
+    /// The bytes that the stream gave and nobody took yet.
     pub heard: Vec<u8>,
-    /// What it is still to take.
+    /// The bytes that are still to be sent.
     pub unsent: Vec<u8>,
-    /// How much either may be.
+    /// The most bytes that `heard` and `unsent` may hold.
     pub bounds: Bounds,
-    /// Whether it is to be let go: the stream was at its end or failed, or did not take enough.
+    /// Whether the connection is over and is to be dropped: the stream ended or failed, or did not take enough.
     pub is_over: bool,
     /// What was heard is within its bound.
     pub ghost heard_fits: { vec_len heard ≤ bounds.heard },
@@ -54,7 +54,8 @@ impl<S: Stream + Drop> Drop for Wire<S> {
 }
 
 impl<S: Stream + Drop> Wire<S> {
-    /// A connection on which nothing is heard or told yet. Takes no memory.
+    /// Creates a connection over `stream` that holds at most `bounds`; nothing is heard or told on it yet. Does not
+    /// allocate.
     pub fn new(alloc: Global, stream: S, bounds: Bounds) -> Wire<S>
         ensures stream { result.stream ≡ stream }
         ensures bounds { result.bounds ≡ bounds }
@@ -73,19 +74,19 @@ impl<S: Stream + Drop> Wire<S> {
         }
     }
 
-    /// Whether no more can be heard before what was heard is taken.
+    /// Returns whether nothing more can be heard until what was heard is taken.
     pub fn is_full(&self) -> bool
         ensures { (result ≡ false) ↔ (vec_len self.now.heard < self.now.bounds.heard) }
     {
         self.heard.len() >= self.bounds.heard
     }
 
-    /// Asks the stream once, for 4,096 bytes at most, and answers what it answered. It is over where it is at its end, or
+    /// Asks the stream once, for at most 4,096 bytes, and returns its answer. The wire is over if the stream ended or
     /// failed.
     ///
     /// # Errors
-    /// `NoMemory` where room is refused: never where there is room for all that the wire may hold of what was heard. The
-    /// stream was not asked then.
+    /// `NoMemory` if an allocation fails. It doesn't allocate if there is already room for all that the wire may hold
+    /// as heard. The stream was not asked then.
     pub fn read(&mut self) -> Result<Given, NoMemory>
         requires room { vec_len self.old.heard < self.old.bounds.heard }
         ensures heard { IfOk result (λ answer. ReadsPiece self.old.bounds.heard (S.source self.old.stream) self.old.heard.items answer
@@ -115,7 +116,7 @@ impl<S: Stream + Drop> Wire<S> {
         Ok(answer)
     }
 
-    /// What was heard and is not taken yet, which then is. Takes no memory.
+    /// Takes out and returns the bytes that were heard. Does not allocate.
     pub fn take_heard(&mut self, alloc: Global) -> Vec<u8>
         ensures all { result.items ≡ self.old.heard.items }
         ensures none { self.new.heard.items ≡ [] }
@@ -131,11 +132,11 @@ impl<S: Stream + Drop> Wire<S> {
         mem::replace(&mut self.heard, Vec::new(alloc))
     }
 
-    /// Leaves bytes for the stream, after those before. Whether they fit: where they don't, none of them is left, and the
-    /// wire is over.
+    /// Queues `bytes` for the stream after those queued before, and returns whether they fit. If they don't fit, none
+    /// of them is queued, and the wire is over.
     ///
     /// # Errors
-    /// `NoMemory` where room is refused: never where it is there already. The wire is then as before.
+    /// `NoMemory` if an allocation fails; it doesn't allocate if there is room already. The wire is then unchanged.
     pub fn tell(&mut self, bytes: &[u8]) -> Result<bool, NoMemory>
         // All of them or none.
         ensures told { self.new.unsent.items ≡ self.old.unsent.items ++ told_bytes result bytes.now }
@@ -159,8 +160,8 @@ impl<S: Stream + Drop> Wire<S> {
         Ok(true)
     }
 
-    /// Offers the stream all that is unsent, once, and answers what it answered. It is over where it failed. Takes no
-    /// memory.
+    /// Offers the stream all unsent bytes, once, and returns its answer. The wire is over if the stream failed. Does
+    /// not allocate.
     pub fn send(&mut self) -> Taken
         requires some { 0 < vec_len self.old.unsent }
         ensures sent { Takes (S.sink self.old.stream) result self.old.unsent.items (S.sink self.new.stream) }
