@@ -5,7 +5,6 @@ ghost use Rattle.bytetext.specs.declared.moment.TheConstants.{MOMENTS_END};
 use crate::bots::bot_of;
 use crate::procs::store_of;
 use botcore::Bot;
-use botdrive::{DriveEnd, drive};
 use bytetext::Text;
 use caselines::{BAD_NUMBER, BAD_WORDS, CaseError, Sink, number};
 use disks::MemDisk;
@@ -14,6 +13,7 @@ use std::alloc::Global;
 use std::io;
 use std::io::{ErrorKind, Read, Write};
 use streams::Duplex;
+use turns::{DriveEnd, drive};
 
 /// Answers `drive MOMENT MOST AFTER ROOM STREAM`: how driving the bot `egg` ends, what it wrote, and how many reads it
 /// made. `words` are those after `drive`.

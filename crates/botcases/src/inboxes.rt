@@ -1,16 +1,16 @@
 // Inboxes.
 ghost use Rattle.std.specs.Prelude.{IfOk};
 ghost use Rattle.std.specs.List.{AllByRecursion};
-ghost use Rattle.linkcalls.specs.Shapes.{HasGoodRecords};
+ghost use Rattle.sharelink.specs.Shapes.{HasGoodRecords};
 
 use botjournal::LAYOUT;
 use bytetext::Text;
 use caselines::{BAD_NUMBER, BAD_WORDS, CaseError, Sink, cut, number};
-use inbox::Inbox;
+use peers::Inbox;
 use sharewire::Packet;
 use std::alloc::Global;
 
-/// Answers `inbox STREAMS STEP..`: what each step answers, with ` | ` between. `words` are those after `inbox`.
+/// Answers `inbox STREAMS STEP..`: what each step answers, with ` | ` between. `words` are those after `peers`.
 pub fn inbox(alloc: Global, words: &[Text], out: &mut Sink) -> Result<(), CaseError> {
     let [streams, steps @ ..] = words else {
         return Err(BAD_WORDS);
@@ -32,7 +32,7 @@ pub fn inbox(alloc: Global, words: &[Text], out: &mut Sink) -> Result<(), CaseEr
     Ok(())
 }
 
-/// Puts the `packets` of `stream` into `inbox`. Returns a fault of the case if `inbox` has no such stream.
+/// Puts the `packets` of `stream` into `peers`. Returns a fault of the case if `peers` has no such stream.
 pub fn put_into(inbox: &mut Inbox, stream: usize, packets: Vec<Packet>) -> Result<(), CaseError>
     requires { AllByRecursion HasGoodRecords packets.items }
 {

@@ -3,7 +3,7 @@ use crate::procs::store_of;
 use crate::scripts::{put_fault, put_lines, script_of};
 use bytetext::Text;
 use caselines::{CaseError, Sink};
-use liveloop::{LiveError, live};
+use live::{LiveError, live};
 use std::net::Net;
 use streams::Duplex;
 

@@ -46,7 +46,7 @@
 //! each packet as its addressee, its kind and its first number: the version, the change's number, the request's number,
 //! or the bot that says a text. Reports have ` ; ` between.
 //!
-//! A step of `inbox` is `put STREAM COUNT`, which puts COUNT hellos of the leaf of that number and answers nothing;
+//! A step of `peers` is `put STREAM COUNT`, which puts COUNT hellos of the leaf of that number and answers nothing;
 //! `forget STREAM`; `count STREAM`, which answers how many wait; or `take`, which answers `took` and how many a turn
 //! takes of one stream after another, as `STREAM:COUNT`.
 //!

@@ -1,11 +1,11 @@
 // Packets as words.
 ghost use Rattle.std.specs.Prelude.{IfOk};
-ghost use Rattle.linkcalls.specs.Shapes.{HasGoodRecords};
+ghost use Rattle.sharelink.specs.Shapes.{HasGoodRecords};
 
 use botjournal::LAYOUT;
 use bytetext::Text;
 use caselines::{BAD_WORDS, CaseError, Sink, cut, number};
-use inbox::is_said_by;
+use peers::is_said_by;
 use sharewire::Packet;
 use std::alloc::Global;
 use userfile::Change;

@@ -1,7 +1,7 @@
 // What a turn reports.
 use botcore::{End, Note, Report};
 use caselines::{CaseError, Sink};
-use linkcalls::Outgoing;
+use sharelink::Outgoing;
 use sharewire::Packet;
 use std::alloc::Global;
 use turns::{Told, TurnEnd};

@@ -14,12 +14,12 @@ use Rattle.protocol.specs.Bots.{Works, noted, refused}
 use Rattle.protocol.specs.HubRules.{Hub, ask_taken}
 use Rattle.protocol.specs.LeafRules.{Leaf}
 use Rattle.protocol.specs.Network.Event.{Ask}
-use Rattle.linkcalls.specs.declared.answer.Answer.{Answer}
-use Rattle.linkcalls.specs.declared.error.LinkFault.{LinkFault}
-use Rattle.linkcalls.specs.declared.error.LinkFault.TheVariants as fault
-use Rattle.linkcalls.specs.Calls.{note_of, IsFault}
-use Rattle.linknet.specs.Ends.{End, AtHub, AtLeaf, end_asks, with_asks, end_did}
-use Rattle.botlink.specs.Links.{BotEnd, Asks}
+use Rattle.sharelink.specs.declared.answer.Answer.{Answer}
+use Rattle.sharelink.specs.declared.error.LinkFault.{LinkFault}
+use Rattle.sharelink.specs.declared.error.LinkFault.TheVariants as fault
+use Rattle.sharelink.specs.Calls.{note_of, IsFault}
+use Rattle.protocol.specs.Ends.{End, AtHub, AtLeaf, end_asks, with_asks, end_did}
+use Rattle.sharelink.specs.BotLinks.{BotEnd, Asks}
 use Rattle.botcore.specs.declared.fault.ActionFault.{ActionFault}
 use Rattle.botcore.specs.declared.fault.Fault.{Fault}
 use Rattle.botcore.specs.declared.report.End.TheVariants.{NoMemory as ends_no_memory}

@@ -24,15 +24,15 @@ use Rattle.protocol.specs.Bots.{Works, Row, refused, unless_down}
 use Rattle.protocol.specs.HubRules.{Hub, is_bad_text, text_told}
 use Rattle.protocol.specs.LeafRules.{Leaf}
 use Rattle.protocol.specs.Network.{Tell}
-use Rattle.linkcalls.specs.declared.answer.Answer.{Answer}
-use Rattle.linkcalls.specs.declared.answer.Outgoing.{Outgoing}
-use Rattle.linkcalls.specs.declared.error.LinkFault.{LinkFault}
-use Rattle.linkcalls.specs.declared.error.LinkFault.TheVariants.{TextsFull}
-use Rattle.linkcalls.specs.declared.TheConstants.{MAX_TEXTS}
-use Rattle.linkcalls.specs.Calls.{note_of}
-use Rattle.linkcalls.specs.Shapes.{AreGood, GoOut}
-use Rattle.linknet.specs.Ends.{End as LinkEnd, AtHub, AtLeaf, of_hub, of_leaf, end_did}
-use Rattle.botlink.specs.Links.{asked, told}
+use Rattle.sharelink.specs.declared.answer.Answer.{Answer}
+use Rattle.sharelink.specs.declared.answer.Outgoing.{Outgoing}
+use Rattle.sharelink.specs.declared.error.LinkFault.{LinkFault}
+use Rattle.sharelink.specs.declared.error.LinkFault.TheVariants.{TextsFull}
+use Rattle.sharelink.specs.declared.TheConstants.{MAX_TEXTS}
+use Rattle.sharelink.specs.Calls.{note_of}
+use Rattle.sharelink.specs.Shapes.{AreGood, GoOut}
+use Rattle.protocol.specs.Ends.{End as LinkEnd, AtHub, AtLeaf, of_hub, of_leaf, end_did}
+use Rattle.sharelink.specs.BotLinks.{asked, told}
 use Rattle.botcalls.specs.declared.made_call.MadeCall.{MadeCall}
 use Rattle.botcalls.specs.Calls.{Telling}
 use Rattle.botcalls.specs.Dispatching.{told_of}

@@ -1,7 +1,7 @@
 -- What a crash leaves on disks to which nothing has happened.
 use Rattle.std.proofs.Common.{List, ℕ, sym, subst, arith}
-use Rattle.storage.specs.State.{State, IsSettled}
-use Rattle.storage.specs.Laws.{only_now}
+use Rattle.disks.specs.State.{State, IsSettled}
+use Rattle.disks.specs.Laws.{only_now}
 use Rattle.botjournal.specs.Ledger.{AtEachMoment, device_on}
 
 -- at this moment a crash leaves what is seen on settled disks

@@ -7,12 +7,12 @@ use Rattle.sharewire.specs.declared.packet.Packet.{Packet}
 use Rattle.protocol.specs.Notes.{Note as Meaning, LinkFault as Meant}
 use Rattle.protocol.specs.Packets.{from_wire}
 use Rattle.protocol.specs.Bots.{Works}
-use Rattle.linkcalls.specs.declared.answer.Answer.{Answer}
-use Rattle.linkcalls.specs.declared.error.LinkFault.{LinkFault}
-use Rattle.linkcalls.specs.Calls.{note_of}
-use Rattle.linkcalls.specs.Meets.{how_of}
-use Rattle.linknet.specs.Ends.{End}
-use Rattle.botlink.specs.Links.{BotEnd, Calls, took}
+use Rattle.sharelink.specs.declared.answer.Answer.{Answer}
+use Rattle.sharelink.specs.declared.error.LinkFault.{LinkFault}
+use Rattle.sharelink.specs.Calls.{note_of}
+use Rattle.sharelink.specs.Meets.{how_of}
+use Rattle.protocol.specs.Ends.{End}
+use Rattle.sharelink.specs.BotLinks.{BotEnd, Calls, took}
 use Rattle.botcore.specs.declared.report.Report.{Report}
 use Rattle.botcore.specs.Bots.{Bot, bot_setting, with_device}
 use Rattle.botcalls.specs.Calls.{calls_in}

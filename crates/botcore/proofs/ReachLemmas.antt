@@ -12,12 +12,12 @@ use Rattle.procstore.specs.declared.action.TimerName.{TimerName}
 use Rattle.procstore.specs.declared.action.TimerWish.{TimerWish}
 use Rattle.outqueue.specs.declared.fault.QueueFault.{QueueFault}
 use Rattle.outqueue.specs.Refusals.{refusal}
-use Rattle.linkcalls.specs.declared.answer.Outgoing.{Outgoing}
-use Rattle.linkcalls.specs.declared.error.LinkFault.{LinkFault}
+use Rattle.sharelink.specs.declared.answer.Outgoing.{Outgoing}
+use Rattle.sharelink.specs.declared.error.LinkFault.{LinkFault}
 use Rattle.botcore.specs.Acting.{Acting, acted, acted_all, asked_if, made_unless, timer_made, timer_of, killed_if, sent_if, put_unless}
 use Rattle.protocol.specs.Notes.{Note as Meaning, LinkFault as Meant}
-use Rattle.linknet.specs.Ends.{End}
-use Rattle.botlink.specs.Links.{BotEnd, asked}
+use Rattle.protocol.specs.Ends.{End}
+use Rattle.sharelink.specs.BotLinks.{BotEnd, asked}
 use Rattle.botcore.specs.Links.{link_text}
 use Rattle.botcore.specs.Progress.{Progress, LeavesAll, acting_at}
 use Rattle.botcore.specs.Rising.{IsReached}

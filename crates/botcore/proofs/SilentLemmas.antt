@@ -19,7 +19,7 @@ use Rattle.protocol.specs.Bots.{How, Works, Row, noted, refused, journals}
 use Rattle.protocol.specs.Snapshots.{PartSet, records_from, joined, set_for, with_part, is_behind}
 use Rattle.protocol.specs.HubRules.{Hub, Accept, hub_folded, version_of, last_request, reply_to, is_no_leaf, accepts, replied, next_request, repeats, request_placed, request_of, hello_served, hello_met, text_passed, hub_received, hub_received_up}
 use Rattle.protocol.specs.LeafRules.{Leaf, Install, leaf_folded, is_out, change_placed, next_applied, reply_taken, reply_received, installed, set_taken, part_taken, leaf_received, leaf_received_up}
-use Rattle.linknet.specs.Ends.{End, AtHub, AtLeaf, end_received}
+use Rattle.protocol.specs.Ends.{End, AtHub, AtLeaf, end_received}
 use Rattle.botcore.specs.Happenings.{Saying, saying_of}
 
 -- a row that brings no text

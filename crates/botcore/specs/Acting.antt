@@ -17,12 +17,12 @@ use Rattle.procstore.specs.declared.action.Action.TheVariants.{Ask, Timer as tim
 use Rattle.procstore.specs.declared.action.PutWish.{PutWish}
 use Rattle.procstore.specs.declared.action.TimerName.{TimerName}
 use Rattle.procstore.specs.declared.action.TimerWish.{TimerWish}
-use Rattle.linkcalls.specs.declared.answer.Outgoing.{Outgoing}
-use Rattle.linkcalls.specs.declared.error.LinkFault.{LinkFault}
+use Rattle.sharelink.specs.declared.answer.Outgoing.{Outgoing}
+use Rattle.sharelink.specs.declared.error.LinkFault.{LinkFault}
 use Rattle.protocol.specs.Notes.{Note as Meaning, LinkFault as Meant}
 use Rattle.protocol.specs.Bots.{Row}
-use Rattle.linknet.specs.Ends.{End}
-use Rattle.botlink.specs.Links.{BotEnd, asked}
+use Rattle.protocol.specs.Ends.{End}
+use Rattle.sharelink.specs.BotLinks.{BotEnd, asked}
 use Rattle.botcore.specs.declared.fault.ActionFault.{ActionFault}
 use Rattle.botcore.specs.declared.fault.ActionFault.TheVariants.{Link as link_fault, Clock as clock_fault, Queue as queue_fault}
 use Rattle.botcore.specs.declared.fault.Fault.{Fault}

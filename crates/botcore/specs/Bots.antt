@@ -2,7 +2,7 @@
 use Rattle.std.specs.Prelude.{ℕ, Bool, false, List, [], Option, None}
 use Rattle.bottimers.specs.Held.{Held}
 use Rattle.botjournal.specs.Ledger.{Device}
-use Rattle.botlink.specs.Links.{BotEnd, new_bot_end}
+use Rattle.sharelink.specs.BotLinks.{BotEnd, new_bot_end}
 use Rattle.chanstate.specs.declared.state.ChanState.{ChanState}
 use Rattle.chanstate.specs.Views.{connected}
 use Rattle.outqueue.specs.Sending.{Sending, idle}

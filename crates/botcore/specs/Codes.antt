@@ -3,7 +3,7 @@ use Rattle.std.specs.Prelude.{ℕ, List, Option, Some, None, codes}
 use Rattle.bindtable.specs.Tables.{code_of}
 use Rattle.bottimers.specs.Faults.{letters_of}
 use Rattle.outqueue.specs.Refusals.{code_of as queue_code}
-use Rattle.linkcalls.specs.Codes.{link_code}
+use Rattle.sharelink.specs.Codes.{link_code}
 use Rattle.botcore.specs.declared.fault.ActionFault.{ActionFault}
 use Rattle.botcore.specs.declared.fault.ActionFault.TheVariants.{Link as link_action, Clock as clock_action, Queue as queue_action}
 use Rattle.botcore.specs.declared.fault.Refusal.{Refusal}

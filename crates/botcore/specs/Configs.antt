@@ -2,7 +2,7 @@
 use Rattle.std.specs.Prelude.{◌≡◌, ℕ, ◌≤◌, ◌==◌, nat_lt, nat_le, Bool, true, not, ◌&&◌, List, length, slice_index, codes}
 use Rattle.std.specs.List.{list_all}
 use Rattle.rfccase.specs.Channels.{is_channel_name}
-use Rattle.linkcalls.specs.declared.TheConstants.{MAX_LEAVES}
+use Rattle.sharelink.specs.declared.TheConstants.{MAX_LEAVES}
 use Rattle.bytejournal.specs.Faults.{code_of as journal_code}
 use Rattle.botcore.specs.declared.config.Config.{Config}
 use Rattle.botcore.specs.declared.fault.BotFault.{BotFault}

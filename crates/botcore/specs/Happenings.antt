@@ -11,7 +11,7 @@ use Rattle.bottimers.specs.Zones.{TzText, minute_at}
 use Rattle.protocol.specs.Notes.{Note as Meaning, LinkFault as Meant}
 use Rattle.protocol.specs.Notes.Note.{Text as text_note}
 use Rattle.protocol.specs.Bots.{Works}
-use Rattle.botlink.specs.Links.{took}
+use Rattle.sharelink.specs.BotLinks.{took}
 use Rattle.botcore.specs.declared.event.Event.{Event}
 use Rattle.botcore.specs.declared.event.Event.TheVariants.{Line, Receive, Clock}
 use Rattle.botcore.specs.Bots.{Bot}

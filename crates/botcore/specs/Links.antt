@@ -9,12 +9,12 @@ use Rattle.protocol.specs.Packets.Packet.{Hello, Change, Request, Accepted, Refu
 use Rattle.protocol.specs.Notes.{Note as Meaning, LinkFault as Fault}
 use Rattle.protocol.specs.Notes.LinkFault.{Down, BadChange, AsksFull, OtherLayout, Diverged, NumbersSpent, JournalFault, BadBotText, DiskFault}
 use Rattle.protocol.specs.Bots.{Row}
-use Rattle.linkcalls.specs.declared.answer.Outgoing.{Outgoing}
-use Rattle.linkcalls.specs.declared.error.LinkFault.{LinkFault}
-use Rattle.linkcalls.specs.declared.error.LinkFault.TheVariants as fault
-use Rattle.linkcalls.specs.declared.TheConstants.{MAX_TEXTS}
-use Rattle.linknet.specs.Ends.{End, end_records, end_version, end_asks, with_asks}
-use Rattle.botlink.specs.Links.{BotEnd, told}
+use Rattle.sharelink.specs.declared.answer.Outgoing.{Outgoing}
+use Rattle.sharelink.specs.declared.error.LinkFault.{LinkFault}
+use Rattle.sharelink.specs.declared.error.LinkFault.TheVariants as fault
+use Rattle.sharelink.specs.declared.TheConstants.{MAX_TEXTS}
+use Rattle.protocol.specs.Ends.{End, end_records, end_version, end_asks, with_asks}
+use Rattle.sharelink.specs.BotLinks.{BotEnd, told}
 
 abbrev pub link_records : BotEnd → Records
 link_records link = end_records link.end

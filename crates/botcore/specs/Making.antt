@@ -2,13 +2,13 @@
 use Rattle.std.specs.Prelude.{◌≡◌, Result, Ok, Err}
 use Rattle.bytetext.specs.declared.failure.Failure.{Failure}
 use Rattle.bytetext.specs.declared.failure.Failure.TheVariants.{Refused, NoMemory}
-use Rattle.storage.specs.State.{State}
+use Rattle.disks.specs.State.{State}
 use Rattle.bytejournal.specs.declared.fault.JournalFault.{JournalFault}
 use Rattle.bytejournal.specs.Opening.{CannotCreate}
-use Rattle.botlink.specs.Links.{BotEnd}
+use Rattle.sharelink.specs.BotLinks.{BotEnd}
 use Rattle.botjournal.specs.Contents.{meaning}
 use Rattle.botjournal.specs.Ledger.{Device, AtEachMoment, device_on}
-use Rattle.botlink.specs.Opening.{IsFound, IsLeft, FindsNone, MeanTheSame}
+use Rattle.sharelink.specs.BotOpening.{IsFound, IsLeft, FindsNone, MeanTheSame}
 use Rattle.botcore.specs.declared.config.Config.{Config}
 use Rattle.botcore.specs.declared.fault.BotFault.{BotFault}
 use Rattle.botcore.specs.declared.fault.BotFault.TheVariants.{BadConfig, Journal}

@@ -5,9 +5,9 @@ use Rattle.outqueue.specs.declared.queues.Counts.{Counts}
 use Rattle.bottimers.specs.Held.{Held}
 use Rattle.userfile.specs.declared.change.Change.{Change}
 use Rattle.procstore.specs.declared.action.Action.{Action}
-use Rattle.linkcalls.specs.declared.answer.Outgoing.{Outgoing}
+use Rattle.sharelink.specs.declared.answer.Outgoing.{Outgoing}
 use Rattle.botcore.specs.declared.fault.Fault.{Fault}
-use Rattle.botlink.specs.Links.{BotEnd, keeps_asks}
+use Rattle.sharelink.specs.BotLinks.{BotEnd, keeps_asks}
 use Rattle.botcore.specs.Acting.{Acting, Acted, acted_all, with_fault, action_faults}
 use Rattle.botcore.specs.Bots.{Bot}
 use Rattle.botcore.specs.Links.{link_with_asks}

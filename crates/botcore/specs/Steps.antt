@@ -19,12 +19,12 @@ use Rattle.botjournal.specs.Ledger.{Device}
 use Rattle.protocol.specs.Bots.{How, Works, Fails, Row}
 use Rattle.protocol.specs.Network.Event.{Pump as pumps, Compact as compacts}
 use Rattle.userfile.specs.declared.change.Change.{Change}
-use Rattle.linkcalls.specs.declared.answer.Answer.{Answer}
-use Rattle.linkcalls.specs.declared.error.LinkFault.{LinkFault}
-use Rattle.linkcalls.specs.declared.note.Note.TheVariants.{Text as told_text}
-use Rattle.linkcalls.specs.Shapes.{HasGoodRecords}
-use Rattle.linknet.specs.Ends.{End as LinkEnd}
-use Rattle.botlink.specs.Links.{BotEnd, did, took, Calls, CallsRestart, Asks, LeavesOwn}
+use Rattle.sharelink.specs.declared.answer.Answer.{Answer}
+use Rattle.sharelink.specs.declared.error.LinkFault.{LinkFault}
+use Rattle.sharelink.specs.declared.note.Note.TheVariants.{Text as told_text}
+use Rattle.sharelink.specs.Shapes.{HasGoodRecords}
+use Rattle.protocol.specs.Ends.{End as LinkEnd}
+use Rattle.sharelink.specs.BotLinks.{BotEnd, did, took, Calls, CallsRestart, Asks, LeavesOwn}
 use Rattle.botcore.specs.declared.event.Event.{Event}
 use Rattle.botcore.specs.declared.event.Event.TheVariants.{Connect, Line, Ask, Pump, Receive, Clock, Bind, Unbind, Compact, Restart}
 use Rattle.botcore.specs.declared.event.NewBind.{NewBind}

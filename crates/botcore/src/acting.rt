@@ -4,15 +4,14 @@ use crate::fault::{ActionFault, Fault};
 use crate::putting::put;
 use crate::report::Faults;
 use botcalls::MadeCall;
-use botlink::BotLink;
 use bottimers::{TimerKind, Timers};
 use bytetext::{Failure, NoMemory, Seq, TryCopy};
-use linkcalls::Outgoings;
+use disks::Disk;
 use outqueue::Queues;
 use procstore::{Action, BotWish, PutWish, TimerName, TimerWish};
+use sharelink::{BotLink, Outgoings};
 use std::alloc::Global;
 use std::marker::Model;
-use storage::Disk;
 use userfile::Change;
 
 // What actions have changed so far besides the link, and what went wrong.
@@ -33,7 +32,7 @@ pub(crate) struct Doing {
 impl Model for Doing {
     ghost use Rattle.std.specs.Prelude.{◌≤◌, length};
     ghost use Rattle.bottimers.specs.Held.{IsNotBelow};
-    ghost use Rattle.linkcalls.specs.declared.TheConstants.{MAX_TEXTS};
+    ghost use Rattle.sharelink.specs.declared.TheConstants.{MAX_TEXTS};
     ghost use Rattle.botcore.specs.Progress.{Progress};
 
     ghost Value = { Progress };
@@ -47,7 +46,7 @@ impl Doing {
     ghost use Rattle.std.specs.Prelude.{◌≡◌, ◌++◌, ◌∷◌, [], length, OnOk};
     ghost use Rattle.bottimers.specs.Held.{IsNotBelow, holds_named};
     ghost use Rattle.botcore.specs.declared.fault.Fault.TheVariants.{Action as action_fault};
-    ghost use Rattle.botlink.specs.Links.{BotEnd, asked};
+    ghost use Rattle.sharelink.specs.BotLinks.{BotEnd, asked};
     ghost use Rattle.botcore.specs.Acting.{acted, actions_of, asked_to, killed_if, put_unless, sent_if, timer_made};
     ghost use Rattle.botcore.specs.Links.{link_text};
     ghost use Rattle.botcore.specs.Putting.{HasMoreLines};

@@ -11,11 +11,11 @@ use crate::limits::MAX_NICK;
 use crate::sticky::on_mode;
 use crate::wish::{alone, wish};
 use bytetext::{NoMemory, Text};
+use disks::Disk;
 use ircline::{Message, source};
 use outqueue::Queue;
 use procstore::PutWish;
 use std::alloc::Global;
-use storage::Disk;
 
 impl<D: Disk> Bot<D> {
     ghost use Rattle.std.specs.Prelude.{◌≡◌, [], IfOk, IsOk};

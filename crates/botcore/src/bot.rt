@@ -2,12 +2,12 @@
 use crate::config::Config;
 use crate::presence::Presence;
 use bindtable::BindTable;
-use botlink::BotLink;
 use bottimers::{Clock, Timers};
 use bytejournal::Disks;
+use disks::Disk;
 use outqueue::Queues;
+use sharelink::BotLink;
 use std::marker::Model;
-use storage::Disk;
 use userfile::Userfile;
 
 /// A bot: its end of the sharing link over a journal on two disks, its binds, the channels that it is on, its clock,
@@ -69,8 +69,8 @@ impl<D: Disk> Model for Bot<D> {
 
 impl<D: Disk> Bot<D> {
     ghost use Rattle.std.specs.Prelude.{◌≡◌};
-    ghost use Rattle.linknet.specs.Ends.{end_is_down};
-    ghost use Rattle.botlink.specs.Links.{MayLeave};
+    ghost use Rattle.protocol.specs.Ends.{end_is_down};
+    ghost use Rattle.sharelink.specs.BotLinks.{MayLeave};
     ghost use Rattle.botcore.specs.Links.{ask_count, link_records, link_version};
 
     /// Returns the configuration with which the bot was made.

@@ -10,12 +10,12 @@ use crate::report::Faults;
 use botcalls::{Dispatch, MadeCall, Occasion, Scene, Unbound, call_procs};
 use bottimers::Timers;
 use bytetext::{NoMemory, Seq, Texts, TryCopy};
-use linkcalls::Outgoings;
+use disks::Disk;
 use outqueue::Queues;
 use procstore::{ProcStore, Promise, Run, View};
+use sharelink::Outgoings;
 use std::alloc::Global;
 use std::mem;
-use storage::Disk;
 
 // What actions leave, besides the link and the queues.
 #[derive(Drop)]
@@ -42,7 +42,7 @@ pub(crate) struct Told {
 impl<D: Disk> Bot<D> {
     ghost use Rattle.std.specs.Prelude.{◌≡◌, ◌≤◌, ◌++◌, [], length, unwrap_or, IfOk, IfSome, IsOk, OnOk};
     ghost use Rattle.botcore.specs.Rising.{IsReached};
-    ghost use Rattle.linkcalls.specs.declared.TheConstants.{MAX_TEXTS};
+    ghost use Rattle.sharelink.specs.declared.TheConstants.{MAX_TEXTS};
     ghost use Rattle.botcore.specs.Acting.{action_faults, actions_of, faults_of};
     ghost use Rattle.botcore.specs.Bots.{bot_setting, seen_at};
     ghost use Rattle.botcalls.specs.Dispatched.{IsDispatched};

@@ -9,8 +9,8 @@ use crate::fault::BotFault;
 use crate::limits::MAX_NICK;
 use bottimers::Zone;
 use bytetext::{NoMemory, Text, Texts, TryCopy};
-use linkcalls::MAX_LEAVES;
 use rfccase::is_channel_name;
+use sharelink::MAX_LEAVES;
 use std::alloc::Global;
 
 /// The configuration with which a bot is made.

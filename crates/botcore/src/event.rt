@@ -2,7 +2,7 @@
 use bindtable::BindKind;
 use bytetext::{NoMemory, Text, TryCopy};
 use ircline::Line;
-use linkcalls::Packet;
+use sharelink::Packet;
 use std::alloc::Global;
 use userfile::Change;
 

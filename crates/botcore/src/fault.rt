@@ -10,8 +10,8 @@ use botcalls::Unbound;
 use bottimers::ClockFault;
 use bytejournal::{JournalError, JournalFault};
 use bytetext::{Failure, NoMemory, TryCopy};
-use linkcalls::LinkFault;
 use outqueue::QueueFault;
+use sharelink::LinkFault;
 use std::alloc::Global;
 use thiserror::Error;
 

@@ -12,10 +12,10 @@ use crate::report::{End, Faults, Note, Report};
 use botcalls::{Dispatch, MadeCall, Occasion, Unbound, has_raw_one, starts_with_word};
 use bytetext::{NoMemory, Seq, Text, TryCopy};
 use chanstate::{ChanState, events};
+use disks::Disk;
 use ircline::Message;
 use procstore::{ProcStore, Promise, PutWish, Run};
 use std::alloc::Global;
-use storage::Disk;
 
 impl<D: Disk> Bot<D> {
     ghost use Rattle.std.specs.Prelude.{◌≡◌, ◌≢◌, ◌≤◌, ◌++◌, [], false, length, map, IfOk, IsOk, IsOkAnd, OnOk, OnErr};
@@ -23,7 +23,7 @@ impl<D: Disk> Bot<D> {
     ghost use Rattle.chanstate.specs.Events.{events_of};
     ghost use Rattle.chanstate.specs.Memory.{takes_memory};
     ghost use Rattle.chanstate.specs.Views.{connected};
-    ghost use Rattle.linkcalls.specs.declared.TheConstants.{MAX_TEXTS};
+    ghost use Rattle.sharelink.specs.declared.TheConstants.{MAX_TEXTS};
     ghost use Rattle.botcalls.specs.declared.occasion.Occasion.TheVariants.{Heard as heard_event};
     ghost use Rattle.botcore.specs.Acting.{faults_of};
     ghost use Rattle.botcore.specs.Bots.{bot_seen, bot_setting};
@@ -217,7 +217,7 @@ impl<D: Disk> Bot<D> {
         let (calls, unbound) = made.into_parts();
         match self.settle(alloc, calls.as_slice(), unbound) {
             Ok(told) => {
-                let note = Note::Link(linkcalls::Note::Text { from, text });
+                let note = Note::Link(sharelink::Note::Text { from, text });
                 Report::told(Some(note), calls, told.packets, told.lines, told.faults)
             }
             Err(NoMemory) => Report::cut_short(alloc, calls),

@@ -9,13 +9,13 @@ use crate::config::Config;
 use crate::fault::{BotError, of_journal};
 use crate::presence::Presence;
 use bindtable::BindTable;
-use botlink::BotLink;
 use bottimers::{Clock, Timers};
 use bytejournal::Disks;
 use bytetext::{Failure, NoMemory};
+use disks::Disk;
 use outqueue::Queues;
+use sharelink::BotLink;
 use std::alloc::Global;
-use storage::Disk;
 
 /// The disks of a bot that was not made or opened, and why.
 #[derive(Drop)]
@@ -28,9 +28,9 @@ pub struct Returned<D: Disk> {
 
 impl<D: Disk> Bot<D> {
     ghost use Rattle.std.specs.Prelude.{◌≡◌, IfOk};
-    ghost use Rattle.storage.specs.State.{IsSettled};
+    ghost use Rattle.disks.specs.State.{IsSettled};
     ghost use Rattle.botjournal.specs.Ledger.{AreStill};
-    ghost use Rattle.botlink.specs.Opening.{AreCurrent};
+    ghost use Rattle.sharelink.specs.BotOpening.{AreCurrent};
     ghost use Rattle.botcore.specs.Bots.{begun};
     ghost use Rattle.botcore.specs.Configs.{IsGood};
     ghost use Rattle.botcore.specs.Making.{Makes, Finds, FindsAtEachMoment};

@@ -1,7 +1,7 @@
 // Counts of a bot's asks and lines, by which those that came later can be taken back.
 use crate::bot::Bot;
+use disks::Disk;
 use outqueue::Counts;
-use storage::Disk;
 
 // The number of asks and of lines that wait.
 #[derive(Clone, Copy)]

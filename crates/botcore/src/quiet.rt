@@ -12,8 +12,8 @@ ghost use Rattle.botcore.specs.Steps.{is_stale};
 use crate::bot::Bot;
 use bottimers::{Clock, MAX_SECONDS, Timers};
 use bytetext::{NoMemory, Texts};
+use disks::Disk;
 use std::alloc::Global;
-use storage::Disk;
 
 impl<D: Disk> Bot<D> {
     ghost use Rattle.std.specs.Prelude.{◌≡◌, ◌<◌, [], false, IfOk, IsOk, OnOk, OnErr};

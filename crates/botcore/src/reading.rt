@@ -11,10 +11,10 @@ use crate::running::run_seconds;
 use botcalls::{MadeCall, Occasion, Unbound};
 use bottimers::{Clock, ClockFault, Timers};
 use bytetext::{MOMENTS_END, NoMemory, Seq, Texts, TryCopy};
+use disks::Disk;
 use procstore::{ProcStore, Promise, Run};
 use std::alloc::Global;
 use std::mem;
-use storage::Disk;
 
 // What happens in the seconds of a reading, and the clock and the timers after them.
 #[derive(Drop)]
@@ -29,7 +29,7 @@ impl<D: Disk> Bot<D> {
     ghost use Rattle.bytetext.specs.declared.moment.TheConstants.{MOMENTS_END as end_of_moments};
     ghost use Rattle.botcore.specs.Rising.{IsReached};
     ghost use Rattle.bottimers.specs.Seconds.{reading_fault, seconds_run};
-    ghost use Rattle.linkcalls.specs.declared.TheConstants.{MAX_TEXTS};
+    ghost use Rattle.sharelink.specs.declared.TheConstants.{MAX_TEXTS};
     ghost use Rattle.botcore.specs.Acting.{faults_of};
     ghost use Rattle.botcore.specs.Happenings.{seconds_of};
     ghost use Rattle.botcore.specs.Lines.{acting_of, acting_after, finish_reading};

@@ -8,7 +8,7 @@ use crate::fault::{Fault, Refusal};
 use bindtable::{BindError, BindFault};
 use botcalls::{MadeCalls, is_logged};
 use bytetext::{Failure, NoMemory, Seq, Texts, TryCopy};
-use linkcalls::{Answer, LinkError, Outgoings};
+use sharelink::{Answer, LinkError, Outgoings};
 use std::alloc::Global;
 
 /// How a step ends.
@@ -26,7 +26,7 @@ pub enum End {
 #[derive(Debug, Drop)]
 pub enum Note {
     /// The result of a call of the link.
-    Link(linkcalls::Note),
+    Link(sharelink::Note),
     /// The bind has this number.
     Bound(u32),
     /// The bind with this number is removed.

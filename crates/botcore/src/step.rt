@@ -6,23 +6,23 @@ use crate::putting::put_all;
 use crate::report::{End, Faults, Note, Report};
 use bottimers::{Clock, Timers};
 use bytetext::{NoMemory, Seq};
+use disks::Disk;
 use ircline::Line;
-use linkcalls::{Answer, Packet};
 use outqueue::Queues;
 use procstore::{ProcStore, Promise, Run};
+use sharelink::{Answer, Packet};
 use std::alloc::Global;
-use storage::Disk;
 use userfile::Change;
 
 impl<D: Disk> Bot<D> {
     ghost use Rattle.std.specs.Prelude.{◌≡◌, ◌≢◌, ◌≤◌, ◌+◌, [], Some, None, Ok, length, IfOk, OnOk, OnErr};
     ghost use Rattle.botcore.specs.Happenings.{Saying, saying_in};
     ghost use Rattle.botcore.specs.Reports.{answer_report};
-    ghost use Rattle.linkcalls.specs.declared.TheConstants.{MAX_LEAVES, MAX_TEXTS};
-    ghost use Rattle.linkcalls.specs.Calls.{note_of};
-    ghost use Rattle.linkcalls.specs.Shapes.{AreGood, HasGoodRecords};
+    ghost use Rattle.sharelink.specs.declared.TheConstants.{MAX_LEAVES, MAX_TEXTS};
+    ghost use Rattle.sharelink.specs.Calls.{note_of};
+    ghost use Rattle.sharelink.specs.Shapes.{AreGood, HasGoodRecords};
     ghost use Rattle.protocol.specs.Network.Event.{Pump as pumps, Compact as compacts};
-    ghost use Rattle.botlink.specs.Links.{did};
+    ghost use Rattle.sharelink.specs.BotLinks.{did};
     ghost use Rattle.botcore.specs.Bots.{restarted};
     ghost use Rattle.botcore.specs.Quiet.{NeedsNone};
     ghost use Rattle.botcore.specs.Steps.{TakesStep, TakesText, IsGoodEvent};
@@ -227,7 +227,7 @@ impl<D: Disk> Bot<D> {
     {
         let Answer { note, packets } = answer;
         match note {
-            linkcalls::Note::Text { from, text } => self.hear_text(alloc, store, from, text),
+            sharelink::Note::Text { from, text } => self.hear_text(alloc, store, from, text),
             note => Report::of_answer(alloc, Ok(Answer { note, packets })),
         }
     }

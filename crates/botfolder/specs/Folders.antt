@@ -1,6 +1,6 @@
 -- The disks of a bot's folder.
 use Rattle.std.specs.Prelude.{◌≡◌, [], pos, ◌≤ℤ◌}
-use Rattle.storage.specs.State.{IsSettled}
+use Rattle.disks.specs.State.{IsSettled}
 use Rattle.disks.specs.Memory.{state_of}
 use Rattle.disks.specs.Files.{FileState, IsKept}
 use Rattle.disks.specs.declared.pair.Pair.{Pair}

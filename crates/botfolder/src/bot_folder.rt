@@ -11,13 +11,12 @@ use crate::paths::{
     control_of,
 };
 use bytetext::Failure;
-use disks::{FileDisk, Pair, make_folder, rename_folder};
+use disks::{Disk, FileDisk, Pair, make_folder, rename_folder};
 use std::fs;
 use std::fs::File;
 use std::io::ErrorKind;
 use std::os::unix::fs::MetadataExt;
 use std::rt::Files;
-use storage::Disk;
 
 /// A bot's folder that this program has taken. No other program can take it while this value lives. It must live as
 /// long as the bot.

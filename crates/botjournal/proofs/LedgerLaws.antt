@@ -3,10 +3,10 @@ use Rattle.std.proofs.Common.{◌≡◌, ◌⊎◌, inl, inr, ⊎_elim, ℕ, Boo
 use Rattle.std.specs.Prelude.{IsSome, option_map}
 use Rattle.bytetext.specs.declared.failure.Failure.{Failure}
 use Rattle.bytetext.specs.declared.failure.Failure.TheVariants.{Refused, NoMemory}
-use Rattle.storage.specs.declared.disk.DiskFault.{DiskFault}
-use Rattle.storage.specs.Events.{openings}
-use Rattle.storage.specs.State.{State, Rose, moment, may_leave, left_since}
-use Rattle.storage.specs.Laws.{counts_now, only_now}
+use Rattle.disks.specs.declared.disk.DiskFault.{DiskFault}
+use Rattle.disks.specs.Events.{openings}
+use Rattle.disks.specs.State.{State, Rose, moment, may_leave, left_since}
+use Rattle.disks.specs.Laws.{counts_now, only_now}
 use Rattle.bytejournal.specs.declared.fault.JournalFault.{JournalFault}
 use Rattle.bytejournal.specs.declared.fault.JournalFault.TheVariants.{DiskFault as DiskFailed, NotAJournal, Spent, GenerationsSpent}
 use Rattle.bytejournal.specs.declared.journal.Journal.{Journal as OfTexts}

@@ -2,8 +2,8 @@
 use Rattle.std.proofs.Common.{◌≡◌, ◌⊎◌, inl, inr, ⊎_elim, ℕ, Bool, true, false, Option, Some, None, List, refl, sym, ap, subst, ◌∙◌}
 use Rattle.std.specs.Prelude.{IsSome, if◌then◌else◌}
 use Rattle.std.specs.Option.{is_some}
-use Rattle.storage.specs.State.{State, moment}
-use Rattle.storage.specs.Laws.{seen_is_left, counts_now}
+use Rattle.disks.specs.State.{State, moment}
+use Rattle.disks.specs.Laws.{seen_is_left, counts_now}
 use Rattle.bytejournal.specs.declared.journal.Journal.{Journal}
 use Rattle.bytejournal.specs.declared.opening.Older.{Older}
 use Rattle.bytejournal.specs.Meaning.{Contents as Texts, Held, held, chosen, meaning as meaning_in_texts}

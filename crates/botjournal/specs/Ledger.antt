@@ -3,9 +3,9 @@ use Rattle.std.specs.Prelude.{◌≡◌, ◌≢◌, ◌⊎◌, ◌≤◌, ◌+�
 use Rattle.bytetext.specs.declared.failure.Failure.{Failure}
 use Rattle.bytetext.specs.declared.failure.Failure.TheVariants.{Refused, NoMemory}
 use Rattle.std.specs.List.{AllByRecursion}
-use Rattle.storage.specs.declared.disk.DiskFault.{DiskFault}
-use Rattle.storage.specs.Events.{openings}
-use Rattle.storage.specs.State.{State, Rose, may_leave}
+use Rattle.disks.specs.declared.disk.DiskFault.{DiskFault}
+use Rattle.disks.specs.Events.{openings}
+use Rattle.disks.specs.State.{State, Rose, may_leave}
 use Rattle.bytejournal.specs.declared.fault.JournalFault.{JournalFault}
 use Rattle.bytejournal.specs.declared.fault.JournalFault.TheVariants.{DiskFault as DiskFailed, NotAJournal, Spent, GenerationsSpent as NoMoreLeft}
 use Rattle.bytejournal.specs.declared.opening.Returned.{Returned}

@@ -3,7 +3,7 @@
 use Rattle.std.specs.Prelude.{◌≡◌, ◌≢◌, false, true, List, ℕ, IsSome, option_map, Result, Ok, Err}
 use Rattle.bytetext.specs.declared.failure.Failure.{Failure}
 use Rattle.bytetext.specs.declared.failure.Failure.TheVariants.{Refused}
-use Rattle.storage.specs.State.{State, IsSettled}
+use Rattle.disks.specs.State.{State, IsSettled}
 use Rattle.bytejournal.specs.declared.fault.JournalFault.{JournalFault}
 use Rattle.bytejournal.specs.declared.fault.JournalFault.TheVariants.{NotAJournal}
 use Rattle.bytejournal.specs.declared.journal.Journal.{Journal as OfTexts}

@@ -2,8 +2,8 @@
 use Rattle.std.specs.Prelude.{◌≡◌, Bool, true, false, Option, None, Some, [], option_map, Result}
 use Rattle.bytetext.specs.declared.failure.Failure.{Failure}
 use Rattle.bytetext.specs.declared.failure.Failure.TheVariants.{Refused, NoMemory}
-use Rattle.storage.specs.declared.disk.DiskFault.{DiskFault}
-use Rattle.storage.specs.State.{State}
+use Rattle.disks.specs.declared.disk.DiskFault.{DiskFault}
+use Rattle.disks.specs.State.{State}
 use Rattle.bytejournal.specs.declared.fault.JournalFault.{JournalFault}
 use Rattle.bytejournal.specs.declared.opening.Disks.{Disks}
 use Rattle.bytejournal.specs.declared.journal.Journal.{Journal as OfTexts}

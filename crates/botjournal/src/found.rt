@@ -2,7 +2,7 @@
 use crate::base::Base;
 use crate::entry::Entry;
 use bytetext::{Failure, Seq};
-use storage::DiskFault;
+use disks::DiskFault;
 use thiserror::Error;
 
 /// What a ledger's disks held when it was opened.

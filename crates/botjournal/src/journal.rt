@@ -17,9 +17,9 @@ use crate::entries::write_entry;
 use crate::entry::Entry;
 use bytejournal::{JournalError, JournalFault};
 use bytetext::Failure;
+use disks::Disk;
 use std::alloc::Global;
 use std::marker::Model;
-use storage::Disk;
 
 /// A bot's base and the entries appended since, on two disks. Contracts see the journal of texts that it stands on.
 #[derive(Drop)]

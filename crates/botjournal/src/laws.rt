@@ -15,7 +15,7 @@ ghost use Rattle.botjournal.specs.declared.opening.Opened.{Opened};
 ghost use Rattle.botjournal.specs.Journal.{IsSound, Creates, Opens, Restarts};
 ghost use Rattle.botjournal.specs.Recovery.{Calls, IsJournal, FindsJournal};
 
-use storage::Disk;
+use disks::Disk;
 
 /// The law of the spellings of entries. The function does nothing: its clauses hold for any entries.
 pub fn laws_of_entries()

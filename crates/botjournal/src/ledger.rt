@@ -1,6 +1,6 @@
 // A bot's journal that survives a fault of its disks.
 ghost use Rattle.std.specs.Prelude.{◌≡◌, ◌↔◌, ◌-◌, ◌^◌, IsTrue, IfOk, Some, false};
-ghost use Rattle.storage.specs.State.{IsSettled};
+ghost use Rattle.disks.specs.State.{IsSettled};
 ghost use Rattle.botjournal.specs.Bases.{IsGoodBase};
 ghost use Rattle.botjournal.specs.Entries.{IsGoodEntry};
 ghost use Rattle.botjournal.specs.declared.TheConstants.{LAYOUT};
@@ -17,11 +17,11 @@ use crate::opening::Opened;
 use crate::store::{Doubt, Store};
 use bytejournal::{Disks, JournalError, JournalFault, Returned};
 use bytetext::Failure;
+use disks::{Disk, DiskFault};
 use std::alloc::Global;
 use std::marker::Model;
 use std::mem;
 use std::snapshot::Snapshot;
-use storage::{Disk, DiskFault};
 
 /// A bot's base and the entries appended since, on two disks that may fail.
 pub struct Ledger<D: Disk> {

@@ -1,7 +1,7 @@
 // How a journal is created, opened and taken apart.
 ghost use Rattle.std.specs.Prelude.{◌≡◌, IfOk, IfSome, Some, false};
 ghost use Rattle.std.specs.List.{AllByRecursion};
-ghost use Rattle.storage.specs.State.{IsSettled};
+ghost use Rattle.disks.specs.State.{IsSettled};
 ghost use Rattle.bytetext.specs.declared.failure.Failure.TheVariants.{Refused};
 ghost use Rattle.bytejournal.specs.Journal.{first_disk, second_disk};
 ghost use Rattle.botjournal.specs.Bases.{IsGoodBase};
@@ -18,8 +18,8 @@ use crate::journal::Journal;
 use crate::layouts::{Layout, layout_of};
 use bytejournal::{Disks, JournalFault, Older, Returned};
 use bytetext::{Failure, NoMemory, Seq, Text};
+use disks::Disk;
 use std::alloc::Global;
-use storage::Disk;
 
 /// A journal that was opened, and what it holds.
 #[derive(Drop)]

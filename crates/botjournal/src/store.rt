@@ -5,8 +5,8 @@ use crate::base::Base;
 use crate::entry::Entry;
 use crate::journal::Journal;
 use bytejournal::Disks;
+use disks::Disk;
 use std::snapshot::Snapshot;
-use storage::Disk;
 
 #[derive(Drop)]
 pub(crate) enum Store<D: Disk> {

@@ -4,8 +4,8 @@ use Rattle.userfile.specs.declared.change.Change.{Change}
 use Rattle.procstore.specs.Promises.{Promised}
 use Rattle.botcore.specs.Bots.{Bot}
 use Rattle.turns.specs.declared.turn.Heard.{Heard}
-use Rattle.botlinks.specs.declared.links.Links.{Links}
-use Rattle.botlinks.specs.Tells.{TakesPackets}
+use Rattle.peers.specs.declared.links.Links.{Links}
+use Rattle.peers.specs.Tells.{TakesPackets}
 use Rattle.serverlink.specs.Told.{Talk}
 use Rattle.botrun.specs.declared.outcome.Outcome.{Outcome}
 use Rattle.botrun.specs.Taking.{Hears, TakesTurn, TakesChanges}

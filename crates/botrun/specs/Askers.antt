@@ -12,11 +12,11 @@ use Rattle.procstore.specs.declared.kind.Kind.TheVariants.{Bot, Time, Cron, Time
 use Rattle.botcalls.specs.declared.made_call.MadeCall.{MadeCall}
 use Rattle.sharewire.specs.declared.packet.Packet.{Packet}
 use Rattle.sharewire.specs.declared.packet.Packet.TheVariants as wire
-use Rattle.linkcalls.specs.declared.answer.Outgoing.{Outgoing}
-use Rattle.linkcalls.specs.declared.error.LinkFault.{LinkFault}
-use Rattle.linkcalls.specs.declared.error.LinkFault.TheVariants as refuses
-use Rattle.linkcalls.specs.declared.note.Note.{Note as LinkNote}
-use Rattle.linkcalls.specs.declared.note.Note.TheVariants as says
+use Rattle.sharelink.specs.declared.answer.Outgoing.{Outgoing}
+use Rattle.sharelink.specs.declared.error.LinkFault.{LinkFault}
+use Rattle.sharelink.specs.declared.error.LinkFault.TheVariants as refuses
+use Rattle.sharelink.specs.declared.note.Note.{Note as LinkNote}
+use Rattle.sharelink.specs.declared.note.Note.TheVariants as says
 use Rattle.botcore.specs.declared.fault.Fault.{Fault}
 use Rattle.botcore.specs.declared.fault.Fault.TheVariants.{Action as by_action, Unbound as lacks_proc, Line as by_line}
 use Rattle.botcore.specs.declared.fault.ActionFault.{ActionFault}

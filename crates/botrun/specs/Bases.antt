@@ -1,7 +1,7 @@
 -- When a bot's journal is rewritten.
 use Rattle.std.specs.Prelude.{ℕ, Bool, ◌-◌, ◌==◌, ◌&&◌, ◌||◌, nat_le, nat_lt, if◌then◌else◌}
-use Rattle.botlinks.specs.declared.pumps.TheConstants.{REST}
-use Rattle.upkeep.specs.Lines.{is_base_due}
+use Rattle.peers.specs.declared.pumps.TheConstants.{REST}
+use Rattle.serverlink.specs.Lines.{is_base_due}
 use Rattle.botrun.specs.declared.bases.Bases.{Bases}
 use Rattle.botrun.specs.declared.bases.TheConstants.{MOST}
 

@@ -1,3 +1,4 @@
+pub mod RecordSums
 pub mod Askers
 pub mod Bases
 pub mod Ending

@@ -1,8 +1,8 @@
 -- How a bot is connected to the others of its net.
 use Rattle.std.specs.Prelude.{◌≡◌, ◌<◌, ℕ, List, Option, MatchOption}
 use Rattle.settings.specs.declared.settings.Station.{Station}
-use Rattle.botlinks.specs.declared.links.Links.{Links}
-use Rattle.botlinks.specs.declared.links.Links.TheVariants.{Alone, Hub, Leaf}
+use Rattle.peers.specs.declared.links.Links.{Links}
+use Rattle.peers.specs.declared.links.Links.TheVariants.{Alone, Hub, Leaf}
 
 -- a bot of a net of several knows a secret, and one that is alone knows none
 abbrev pub IsKnownWhereWanted : Station → Option (List ℕ) → Type 0

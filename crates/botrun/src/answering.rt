@@ -1,6 +1,6 @@
 // What a turn's reports mean for the other bots, and for those who asked for changes.
 ghost use Rattle.std.specs.Prelude.{◌≡◌, Bool, OnOk};
-ghost use Rattle.linkcalls.specs.Shapes.{AreGood};
+ghost use Rattle.sharelink.specs.Shapes.{AreGood};
 ghost use Rattle.turns.specs.Turns.{AllGood};
 ghost use Rattle.botrun.specs.Askers.{answered, askers_after, noted, operator_if, turn_askers};
 
@@ -14,10 +14,10 @@ use crate::operators::Operators;
 use crate::others::Others;
 use crate::outcome::{Outcome, told_by};
 use botcore::{End, Note, Refusal, Report};
-use botlinks::Links;
 use bytetext::NoMemory;
-use linkcalls::{LinkFault, Outgoings};
+use peers::Links;
 use serverlink::Uplink;
+use sharelink::{LinkFault, Outgoings};
 use std::alloc::Global;
 
 impl Others {
@@ -160,7 +160,7 @@ fn note_all(
         return Ok(());
     };
     links.note(note, more);
-    if let linkcalls::Note::Queued = note {
+    if let sharelink::Note::Queued = note {
         let asker = operator_if(asks.asker);
         asks.put(asker)?;
     }

@@ -9,8 +9,8 @@ ghost use Rattle.botrun.specs.Askers.{is_operator, is_refused_ask, is_spoken, pr
 use botcalls::{MadeCall, MadeCalls};
 use botcore::{ActionFault, Fault, Faults, Report};
 use bytetext::{NoMemory, Text, TryCopy};
-use linkcalls::LinkFault;
 use procstore::{Action, Call, Kind};
+use sharelink::LinkFault;
 use std::alloc::Global;
 use std::collections::VecDeque;
 

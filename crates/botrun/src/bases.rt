@@ -2,8 +2,8 @@
 ghost use Rattle.std.specs.Prelude.{◌≡◌};
 ghost use Rattle.botrun.specs.Bases.{begun, is_due, seen, written};
 
-use botlinks::REST;
-use upkeep::{A_BASE, is_base_due};
+use peers::REST;
+use serverlink::{A_BASE, is_base_due};
 
 // After this many changes the journal is rewritten even if more keep coming.
 const MOST: u32 = 10 * A_BASE;

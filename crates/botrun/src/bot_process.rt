@@ -15,12 +15,12 @@ use crate::process::{Process, Turned};
 use crate::starting::{bind_all, bot_of, folder_of};
 use crate::sums::Sums;
 use botfolder::BotFolder;
-use handshake::Key;
 use ircline::LineReader;
+use net::{Timeline, Watch};
+use peers::Key;
 use procstore::{ProcStore, Promise, Run};
 use serverlink::Uplink;
 use settings::Settings;
-use sockets::Watch;
 use std::alloc::Global;
 use std::fs::File;
 use std::io::ErrorKind;
@@ -28,7 +28,6 @@ use std::net::Net;
 use std::random::RandomSource;
 use std::rt::Files;
 use std::time::Clock;
-use timeline::Timeline;
 
 // The most events that one wait reports.
 const EVENTS: usize = 64;

@@ -14,10 +14,9 @@ use bytetext::{NoMemory, Text};
 use control::UnbindWords;
 use procstore::{ProcStore, Promise, Run};
 use recordtext::put_records;
-use serverlink::Why;
+use serverlink::{MAX_LINE, Why};
 use settings::{BindWords, Settings};
 use std::alloc::Global;
-use upkeep::MAX_LINE;
 use userfile::Change;
 
 // At the end, the process waits at most this many seconds for what is still unsent.

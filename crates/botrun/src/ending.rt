@@ -6,11 +6,11 @@ ghost use Rattle.botrun.specs.declared.ending.RunError.TheVariants.{NoMemory as 
 use bindtable::BindFault;
 use botcore::{BotError, BotFault};
 use botfolder::{FolderError, FolderFault};
-use botlinks::SecretFault;
 use bytejournal::JournalFault;
 use bytetext::{Failure, NoMemory};
+use net::DoorFault;
+use peers::SecretFault;
 use serverlink::put;
-use sockets::DoorFault;
 use std::alloc::{AllocError, AllocFailed};
 use std::error::Error;
 use std::fmt;

@@ -6,12 +6,11 @@ use crate::entry::Entry;
 use crate::log::log;
 use bytetext::NoMemory;
 use control::MAX_COMMAND;
-use sockets::{DoorFault, Registry, UnixDoor, UnixSocket};
+use net::{Bounds, DoorFault, Registry, UnixDoor, UnixSocket, Wire};
 use std::alloc::Global;
 use std::net::Net;
 use std::rt::Files;
 use streams::{Given, Taken};
-use wire::{Bounds, Wire};
 
 /// The most operators at once. If another one waits, the operator that has been silent for longest is disconnected, if
 /// it was silent for at least 30 seconds and nothing waits for it: no command of its own, no byte of an answer, and no

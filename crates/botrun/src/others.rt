@@ -1,12 +1,12 @@
 // The other bots, and who asked for the changes that wait at a leaf.
 ghost use Rattle.std.specs.Prelude.{◌≡◌, [], IfOk};
 ghost use Rattle.std.specs.List.{AllByRecursion};
-ghost use Rattle.linkcalls.specs.Shapes.{HasGoodRecords};
-ghost use Rattle.botlinks.specs.Tells.{TakesPackets};
+ghost use Rattle.sharelink.specs.Shapes.{HasGoodRecords};
+ghost use Rattle.peers.specs.Tells.{TakesPackets};
 
 use crate::asks::Asks;
-use botlinks::Links;
 use bytetext::NoMemory;
+use peers::Links;
 use std::alloc::Global;
 use turns::Heard;
 

@@ -3,7 +3,7 @@ ghost use Rattle.std.specs.Prelude.{◌≡◌};
 ghost use Rattle.botrun.specs.Outcomes.{is_told, of_end, of_fault, of_note, of_refusal, outcome_of, told_by};
 
 use botcore::{End, Note, Refusal, Report};
-use linkcalls::LinkFault;
+use sharelink::LinkFault;
 use userfile::ChangeFault;
 
 // The outcome of a change that was asked for, or of a pump.
@@ -93,27 +93,27 @@ fn of_end(note: &Option<Note>) -> Outcome
     }
 }
 
-fn of_note(note: &linkcalls::Note) -> Outcome
+fn of_note(note: &sharelink::Note) -> Outcome
     ensures { result ≡ of_note note.now }
 {
     match note {
-        linkcalls::Note::Accepted(number) => Outcome::Accepted(*number),
-        linkcalls::Note::Refused(fault) => Outcome::Refused(*fault),
-        linkcalls::Note::Queued
-        | linkcalls::Note::Idle
-        | linkcalls::Note::Sent(_)
-        | linkcalls::Note::Served(_)
-        | linkcalls::Note::Old
-        | linkcalls::Note::Repeat
-        | linkcalls::Note::Gap
-        | linkcalls::Note::Early
-        | linkcalls::Note::Applied(_)
-        | linkcalls::Note::Kept(_)
-        | linkcalls::Note::Installed(_)
-        | linkcalls::Note::Compacted
-        | linkcalls::Note::Relayed
-        | linkcalls::Note::Text { from: _, text: _ }
-        | linkcalls::Note::Stray
-        | linkcalls::Note::Restarted(_) => Outcome::Nothing,
+        sharelink::Note::Accepted(number) => Outcome::Accepted(*number),
+        sharelink::Note::Refused(fault) => Outcome::Refused(*fault),
+        sharelink::Note::Queued
+        | sharelink::Note::Idle
+        | sharelink::Note::Sent(_)
+        | sharelink::Note::Served(_)
+        | sharelink::Note::Old
+        | sharelink::Note::Repeat
+        | sharelink::Note::Gap
+        | sharelink::Note::Early
+        | sharelink::Note::Applied(_)
+        | sharelink::Note::Kept(_)
+        | sharelink::Note::Installed(_)
+        | sharelink::Note::Compacted
+        | sharelink::Note::Relayed
+        | sharelink::Note::Text { from: _, text: _ }
+        | sharelink::Note::Stray
+        | sharelink::Note::Restarted(_) => Outcome::Nothing,
     }
 }

@@ -11,10 +11,10 @@ use botcore::Bot;
 use bytetext::NoMemory;
 use disks::FileDisk;
 use ircline::LineReader;
+use net::Registry;
 use procstore::{ProcStore, Promise, Run};
 use serverlink::Uplink;
 use settings::Settings;
-use sockets::Registry;
 use std::net::Net;
 use std::random::RandomSource;
 

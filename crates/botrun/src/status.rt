@@ -1,8 +1,8 @@
 // A bot's state, as lines.
 use crate::process::Process;
-use botlinks::put_status;
 use bytetext::NoMemory;
 use itoa::Buffer;
+use peers::put_status;
 use serverlink::Session;
 use settings::Settings;
 use std::alloc::Global;

@@ -1,7 +1,7 @@
 // The steps of a bot in one turn of its process.
 ghost use Rattle.std.specs.Prelude.{◌<◌, ◌≡◌, ◌∷◌, [], true, IfOk, OnOk};
 ghost use Rattle.std.specs.List.{AllByRecursion};
-ghost use Rattle.linkcalls.specs.Shapes.{HasGoodRecords};
+ghost use Rattle.sharelink.specs.Shapes.{HasGoodRecords};
 ghost use Rattle.bytetext.specs.declared.moment.TheConstants.{MOMENTS_END};
 ghost use Rattle.serverlink.specs.Talks.{heard_in, talk_in};
 ghost use Rattle.botrun.specs.Taking.{Hears, TakesTurn, TakesChanges};
@@ -12,9 +12,9 @@ use crate::log::log;
 use crate::outcome::{Outcome, outcome_of};
 use crate::passing::pass_all;
 use crate::process::Process;
-use linkcalls::MAX_ASKS;
 use procstore::{ProcStore, Promise, Run};
 use settings::Settings;
+use sharelink::MAX_ASKS;
 use std::alloc::Global;
 use turns::{Heard, TurnEnd, take_turn};
 use userfile::Change;

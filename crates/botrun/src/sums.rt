@@ -5,8 +5,8 @@ ghost use Rattle.botrun.specs.Sums.{is_due, told_at, untold};
 use crate::entry::Entry;
 use crate::log::log;
 use crate::process::Process;
+use crate::record_sum::sum_of;
 use bytetext::NoMemory;
-use recordsum::sum_of;
 
 // At least this many seconds pass between two of these lines, except at the bot's end, so that their cost is bounded.
 const APART: u64 = 5;

@@ -28,19 +28,19 @@ use Rattle.protocol.specs.Truth.{IsKeptAnswer, AllOutgoing}
 use Rattle.protocol.specs.Network.{Ask, Tell, posted}
 use Rattle.protocol.proofs.Growing.{Grows-refl, Grows-trans}
 use Rattle.protocol.proofs.Truth.{AllOutgoing-append}
-use Rattle.linkcalls.specs.declared.answer.Outgoing.{Outgoing}
-use Rattle.linkcalls.specs.declared.error.LinkFault.{LinkFault}
-use Rattle.linkcalls.specs.declared.error.LinkFault.TheVariants.{TextsFull}
-use Rattle.linkcalls.specs.declared.TheConstants.{MAX_TEXTS}
-use Rattle.linkcalls.specs.Calls.{outgoings_of}
-use Rattle.linknet.specs.Ends.{End as LinkEnd, AtHub, AtLeaf, of_hub, of_leaf, end_did}
-use Rattle.linknet.specs.Nets.{IsMoment, RowFollows}
-use Rattle.botlink.specs.Links.{BotEnd, asked, told}
+use Rattle.sharelink.specs.declared.answer.Outgoing.{Outgoing}
+use Rattle.sharelink.specs.declared.error.LinkFault.{LinkFault}
+use Rattle.sharelink.specs.declared.error.LinkFault.TheVariants.{TextsFull}
+use Rattle.sharelink.specs.declared.TheConstants.{MAX_TEXTS}
+use Rattle.sharelink.specs.Calls.{outgoings_of}
+use Rattle.protocol.specs.Ends.{End as LinkEnd, AtHub, AtLeaf, of_hub, of_leaf, end_did}
+use Rattle.protocol.specs.Nets.{IsMoment, RowFollows}
+use Rattle.sharelink.specs.BotLinks.{BotEnd, asked, told}
 use Rattle.botcore.specs.Acting.{Acting, acted, acted_all, asked_if, timer_of, made_unless, killed_if, sent_if, put_unless}
 use Rattle.botcore.specs.Links.{packet_told, outgoing_told, text_sent}
 use Rattle.botworld.proofs.BotEnds.{IsQuiet, refused_is_quiet, queued_is_quiet, relayed_is_quiet, IsAmong, did_row, set-same, set-set, posted-append}
 use Rattle.botworld.proofs.Lists.{slice_get-set-same}
-use Rattle.linkcalls.proofs.OutgoingLemmas.{outgoings-append}
+use Rattle.sharelink.proofs.OutgoingLemmas.{outgoings-append}
 
 -- ---- rows that accept nothing
 

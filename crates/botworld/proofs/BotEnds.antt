@@ -15,16 +15,16 @@ use Rattle.protocol.specs.Truth.{IsKeptAnswer, AllOutgoing}
 use Rattle.protocol.specs.Network.{Event, Restart, posted}
 use Rattle.protocol.specs.Claims.{IsFine as IsFineTold}
 use Rattle.protocol.proofs.Growing.{Grows-refl}
-use Rattle.linkcalls.specs.declared.answer.Answer.{Answer}
-use Rattle.linkcalls.specs.declared.answer.Outgoing.{Outgoing}
-use Rattle.linkcalls.specs.declared.error.LinkFault.{LinkFault}
-use Rattle.linkcalls.specs.declared.error.LinkFault.TheVariants.{Down, BadChange, AsksFull, OtherLayout, Diverged, NumbersSpent, JournalFault, BadBotText, TextsFull, DiskFault}
-use Rattle.linkcalls.specs.Calls.{outgoings_of, IsFault}
-use Rattle.linkcalls.specs.Meets.{how_of, Answers, Refuses}
-use Rattle.linknet.specs.Ends.{End as LinkEnd, AtHub, AtLeaf, end_did}
-use Rattle.linknet.specs.Nets.{IsMoment, MovesAsTold, RowFollows}
-use Rattle.linknet.proofs.Goes.{did_goes}
-use Rattle.botlink.specs.Links.{BotEnd, did, asked, told, Calls, CallsRestart, Asks}
+use Rattle.sharelink.specs.declared.answer.Answer.{Answer}
+use Rattle.sharelink.specs.declared.answer.Outgoing.{Outgoing}
+use Rattle.sharelink.specs.declared.error.LinkFault.{LinkFault}
+use Rattle.sharelink.specs.declared.error.LinkFault.TheVariants.{Down, BadChange, AsksFull, OtherLayout, Diverged, NumbersSpent, JournalFault, BadBotText, TextsFull, DiskFault}
+use Rattle.sharelink.specs.Calls.{outgoings_of, IsFault}
+use Rattle.sharelink.specs.Meets.{how_of, Answers, Refuses}
+use Rattle.protocol.specs.Ends.{End as LinkEnd, AtHub, AtLeaf, end_did}
+use Rattle.protocol.specs.Nets.{IsMoment, MovesAsTold, RowFollows}
+use Rattle.protocol.proofs.NetGoes.{did_goes}
+use Rattle.sharelink.specs.BotLinks.{BotEnd, did, asked, told, Calls, CallsRestart, Asks}
 use Rattle.botcore.specs.declared.fault.Refusal.TheVariants.{Link as link_refusal}
 use Rattle.botcore.specs.declared.report.End.{End}
 use Rattle.botcore.specs.declared.report.End.TheVariants.{Done, Refused as refused_end, NoMemory}

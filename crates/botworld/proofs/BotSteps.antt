@@ -15,12 +15,12 @@ use Rattle.protocol.specs.History.{History}
 use Rattle.protocol.specs.Truth.{IsKeptAnswer, AllOutgoing}
 use Rattle.protocol.specs.Network.{posted}
 use Rattle.protocol.specs.Network.Event.{Ask as asks, Pump as pumps, Compact as compacts, Restart as restarts}
-use Rattle.linknet.specs.Ends.{End as LinkEnd, end_received}
-use Rattle.linknet.specs.Nets.{IsMoment, RowFollows}
-use Rattle.linknet.proofs.Goes.{received_goes}
-use Rattle.linkcalls.specs.declared.answer.Outgoing.{Outgoing}
-use Rattle.linkcalls.specs.Calls.{outgoings_of}
-use Rattle.botlink.specs.Links.{BotEnd, did, took, Calls}
+use Rattle.protocol.specs.Ends.{End as LinkEnd, end_received}
+use Rattle.protocol.specs.Nets.{IsMoment, RowFollows}
+use Rattle.protocol.proofs.NetGoes.{received_goes}
+use Rattle.sharelink.specs.declared.answer.Outgoing.{Outgoing}
+use Rattle.sharelink.specs.Calls.{outgoings_of}
+use Rattle.sharelink.specs.BotLinks.{BotEnd, did, took, Calls}
 use Rattle.botcore.specs.declared.event.Event.{Event}
 use Rattle.botcore.specs.declared.event.Event.TheVariants.{Connect, Line, Ask, Pump, Receive, Clock, Bind, Unbind, Compact, Restart}
 use Rattle.botcore.specs.declared.event.OldBind.{OldBind}

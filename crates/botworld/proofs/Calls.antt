@@ -22,9 +22,9 @@ use Rattle.protocol.specs.Packets.{AcceptedChange}
 use Rattle.protocol.specs.Bots.{Works}
 use Rattle.protocol.specs.History.{Extends, records_of}
 use Rattle.protocol.proofs.Lists.{Extends-length, records_of-more}
-use Rattle.linkcalls.specs.declared.answer.Answer.{Answer}
-use Rattle.linkcalls.specs.declared.error.LinkFault.{LinkFault}
-use Rattle.botlink.specs.Links.{BotEnd, took}
+use Rattle.sharelink.specs.declared.answer.Answer.{Answer}
+use Rattle.sharelink.specs.declared.error.LinkFault.{LinkFault}
+use Rattle.sharelink.specs.BotLinks.{BotEnd, took}
 use Rattle.procstore.specs.Promises.{Promised, code_at}
 use Rattle.procstore.specs.Seen.{Sight}
 use Rattle.procstore.specs.declared.call.Call.{Call}

@@ -8,9 +8,9 @@ use Rattle.protocol.specs.Truth.{IsKeptAnswer, AllSent}
 use Rattle.protocol.specs.Network.{posted as link_posted}
 use Rattle.protocol.proofs.Growing.{Grows-refl}
 use Rattle.protocol.proofs.Truth.{AllSent-posted}
-use Rattle.linkcalls.specs.Calls.{outgoings_of}
-use Rattle.linknet.specs.Ends.{End as LinkEnd}
-use Rattle.linknet.specs.Nets.{IsMoment}
+use Rattle.sharelink.specs.Calls.{outgoings_of}
+use Rattle.protocol.specs.Ends.{End as LinkEnd}
+use Rattle.protocol.specs.Nets.{IsMoment}
 use Rattle.procstore.specs.Promises.{Promised}
 use Rattle.botcore.specs.declared.event.Event.{Event}
 use Rattle.botcore.specs.declared.event.Event.TheVariants.{Connect, Line, Ask, Pump, Receive, Clock, Bind, Unbind, Compact, Restart}

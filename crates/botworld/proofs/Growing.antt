@@ -1,7 +1,7 @@
 -- How packets are put on the network one by one.
 use Rattle.std.proofs.Common.{◌≡◌, ℕ, List, [], ◌∷◌, ◌++◌, refl, ap, sym, ◌∙◌, append_assoc}
 use Rattle.std.proofs.lemmas.List.{append-nil}
-use Rattle.linkcalls.specs.declared.answer.Outgoing.{Outgoing}
+use Rattle.sharelink.specs.declared.answer.Outgoing.{Outgoing}
 use Rattle.botworld.specs.declared.sent.Sent.{Sent}
 use Rattle.botworld.specs.Net.{posted}
 

@@ -23,14 +23,14 @@ use Rattle.protocol.specs.Standing.{HubStands}
 use Rattle.protocol.specs.Network.Event.{Pump as pumps}
 use Rattle.protocol.proofs.Moves.{next_is_applied, pump_accepts}
 use Rattle.protocol.proofs.HubGoes.{version_stands}
-use Rattle.linkcalls.specs.declared.answer.Answer.{Answer}
-use Rattle.linkcalls.specs.declared.note.Note.{Note as LinkNote}
-use Rattle.linkcalls.specs.declared.note.Note.TheVariants as note
-use Rattle.linkcalls.specs.declared.error.LinkFault.{LinkFault}
-use Rattle.linkcalls.specs.Calls.{note_of}
-use Rattle.linknet.specs.Ends.{End as LinkEnd, AtHub, AtLeaf, end_asks, end_version}
-use Rattle.linknet.specs.Nets.{leaf_ends, ends_of as ends_in, MovesAsTold}
-use Rattle.botlink.specs.Links.{did, took, Calls}
+use Rattle.sharelink.specs.declared.answer.Answer.{Answer}
+use Rattle.sharelink.specs.declared.note.Note.{Note as LinkNote}
+use Rattle.sharelink.specs.declared.note.Note.TheVariants as note
+use Rattle.sharelink.specs.declared.error.LinkFault.{LinkFault}
+use Rattle.sharelink.specs.Calls.{note_of}
+use Rattle.protocol.specs.Ends.{End as LinkEnd, AtHub, AtLeaf, end_asks, end_version}
+use Rattle.protocol.specs.Nets.{leaf_ends, ends_of as ends_in, MovesAsTold}
+use Rattle.sharelink.specs.BotLinks.{did, took, Calls}
 use Rattle.procstore.specs.Promises.{Promised}
 use Rattle.botcore.specs.declared.event.Event.{Event}
 use Rattle.botcore.specs.declared.event.Event.TheVariants.{Pump, Receive}

@@ -11,10 +11,10 @@ use Rattle.protocol.specs.Network.{Net as LinkNet, posted as link_posted}
 use Rattle.protocol.specs.Claims.{Holds, shown_version as link_shows_version, shown_records as link_shows_records}
 use Rattle.protocol.proofs.Holding.{holds, same_records, versions_grow}
 use Rattle.protocol.proofs.Truth.{AllSent-at}
-use Rattle.linkcalls.specs.declared.answer.Outgoing.{Outgoing}
-use Rattle.linkcalls.specs.Calls.{outgoings_of}
-use Rattle.linknet.specs.Ends.{End as LinkEnd, end_version, end_records}
-use Rattle.linknet.specs.Nets.{leaf_ends, ends_of as ends_in}
+use Rattle.sharelink.specs.declared.answer.Outgoing.{Outgoing}
+use Rattle.sharelink.specs.Calls.{outgoings_of}
+use Rattle.protocol.specs.Ends.{End as LinkEnd, end_version, end_records}
+use Rattle.protocol.specs.Nets.{leaf_ends, ends_of as ends_in}
 use Rattle.botcore.specs.Bots.{Bot}
 use Rattle.botcore.specs.Links.{link_version, link_records}
 use Rattle.botworld.specs.declared.sent.Sent.{Sent}

@@ -1,9 +1,9 @@
 -- A new world's first moment is sound.
 use Rattle.std.proofs.Common.{◌≡◌, ℕ, zero, suc, ◌+◌, ◌<◌, List, [], ◌∷◌, length, slice_get, Some, refl, ap, sym, subst, ◌∙◌, arith}
 use Rattle.protocol.specs.History.{History, start as start_of_links}
-use Rattle.linknet.specs.Ends.{End as LinkEnd, new_end}
-use Rattle.linknet.specs.Nets.{IsMoment}
-use Rattle.linknet.proofs.Moments.{begins}
+use Rattle.protocol.specs.Ends.{End as LinkEnd, new_end}
+use Rattle.protocol.specs.Nets.{IsMoment}
+use Rattle.protocol.proofs.Moments.{begins}
 use Rattle.botcore.specs.Bots.{Bot}
 use Rattle.botworld.specs.declared.sent.Sent.{Sent}
 use Rattle.botworld.specs.Network.{State, ends_of, all_sent, leaf_count, IsStart, IsSound}

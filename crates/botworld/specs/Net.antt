@@ -4,8 +4,8 @@ use Rattle.std.specs.Prelude.{Option, None, Some, Result, Ok, Err, IsOk}
 use Rattle.std.specs.Option.{option_map}
 use Rattle.userfile.specs.Records.{Records}
 use Rattle.procstore.specs.Promises.{Promised}
-use Rattle.linkcalls.specs.declared.answer.Outgoing.{Outgoing}
-use Rattle.linkcalls.specs.Shapes.{HasGoodRecords}
+use Rattle.sharelink.specs.declared.answer.Outgoing.{Outgoing}
+use Rattle.sharelink.specs.Shapes.{HasGoodRecords}
 use Rattle.botcore.specs.declared.event.Event.{Event}
 use Rattle.botcore.specs.declared.event.Event.TheVariants.{Receive}
 use Rattle.botcore.specs.declared.report.Report.{Report as BotReport}

@@ -8,11 +8,11 @@ use Rattle.protocol.specs.History.{History, start as start_of_links, asked_of, r
 use Rattle.protocol.specs.Truth.{IsTrue, IsKeptAnswer, AllSent}
 use Rattle.protocol.specs.Claims.{Holds}
 use Rattle.protocol.specs.Network.{Net as LinkNet}
-use Rattle.linkcalls.specs.Calls.{note_of}
-use Rattle.linkcalls.specs.declared.note.Note.TheVariants.{Accepted}
-use Rattle.linkcalls.specs.declared.error.LinkFault.TheVariants.{OtherLayout, Diverged}
-use Rattle.linknet.specs.Ends.{End as LinkEnd, end_asks}
-use Rattle.linknet.specs.Nets.{IsMoment, MovesAsTold, ends_of as ends_in}
+use Rattle.sharelink.specs.Calls.{note_of}
+use Rattle.sharelink.specs.declared.note.Note.TheVariants.{Accepted}
+use Rattle.sharelink.specs.declared.error.LinkFault.TheVariants.{OtherLayout, Diverged}
+use Rattle.protocol.specs.Ends.{End as LinkEnd, end_asks}
+use Rattle.protocol.specs.Nets.{IsMoment, MovesAsTold, ends_of as ends_in}
 use Rattle.procstore.specs.Promises.{Promised}
 use Rattle.botcore.specs.declared.event.Event.TheVariants.{Pump}
 use Rattle.botcore.specs.declared.fault.Refusal.TheVariants.{Link as link_refusal}

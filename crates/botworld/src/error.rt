@@ -3,8 +3,8 @@ ghost use Rattle.std.specs.Prelude.{◌≡◌};
 ghost use Rattle.botworld.specs.Codes.{fault_code};
 
 use botcore::Bot;
+use disks::Disk;
 use procstore::{Body, ProcStore, Promise, Run};
-use storage::Disk;
 use thiserror::Error;
 
 /// A refusal to make a world.

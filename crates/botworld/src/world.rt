@@ -1,6 +1,6 @@
 // The world.
 ghost use Rattle.std.specs.Prelude.{◌≡◌, ◌+◌, ◌≤◌, ◌++◌, ◌↔◌, IsTrue, length, vec_len, vec_capacity};
-ghost use Rattle.linkcalls.specs.declared.TheConstants.{MAX_LEAVES};
+ghost use Rattle.sharelink.specs.declared.TheConstants.{MAX_LEAVES};
 ghost use Rattle.botworld.specs.Net.{is_packet, posted, report_of};
 ghost use Rattle.botworld.specs.Network.{IsNumberedAt, AreNumbered};
 ghost use Rattle.botworld.specs.declared.world.TheConstants.{MOST_SENT};
@@ -12,11 +12,11 @@ use crate::sent::Sent;
 use crate::step::{Part, Step};
 use botcore::{Bot, Event, Report as BotReport};
 use bytetext::{NoMemory, Seq, TryCopy};
-use linkcalls::Outgoing;
+use disks::Disk;
 use procstore::{Body, ProcStore, Promise, Run};
+use sharelink::Outgoing;
 use std::alloc::Global;
 use std::marker::Model;
-use storage::Disk;
 use userfile::Userfile;
 
 /// The room that is reserved for the packets of a step: one to each of 1,000 leaves, and an answer.

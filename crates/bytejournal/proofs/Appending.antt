@@ -3,7 +3,7 @@ use Rattle.std.proofs.Common.{◌≡◌, ◌≢◌, inl, inr, ⊎_elim, ◌<◌,
 use Rattle.std.specs.Prelude.{option_map}
 use Rattle.std.proofs.lemmas.List.{take_at, length-take}
 use Rattle.std.proofs.Math.Seq.{get_or-append_seam}
-use Rattle.storage.specs.State.{State, IsSettled, LeavesOnly}
+use Rattle.disks.specs.State.{State, IsSettled, LeavesOnly}
 use Rattle.bytejournal.specs.declared.journal.Journal.{Journal}
 use Rattle.bytejournal.specs.Gates.{with_gate, IsHalfWritten}
 use Rattle.bytejournal.specs.Meaning.{Contents, Held, added, held, chosen, meaning, IsFront}

@@ -4,7 +4,7 @@ use Rattle.std.proofs.lemmas.List.{append-nil, get_or-drop}
 use Rattle.std.proofs.lemmas.Bool.Decides.{nat_tests}
 use Rattle.std.specs.Prelude.{option_map}
 use Rattle.std.specs.Option.{is_some}
-use Rattle.storage.specs.State.{State, IsSettled}
+use Rattle.disks.specs.State.{State, IsSettled}
 use Rattle.bytejournal.specs.declared.reading.Found.{Found}
 use Rattle.bytejournal.specs.declared.opening.Opened.{Opened}
 use Rattle.bytejournal.specs.Meaning.{Contents, Held, held, chosen, IsWhole}

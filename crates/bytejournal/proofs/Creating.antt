@@ -2,7 +2,7 @@
 use Rattle.std.proofs.Common.{◌≡◌, ◌<◌, ◌+◌, ◌^◌, ℕ, false, Some, List, [], ◌∷◌, ◌++◌, length, get_or, take, drop, refl, sym, ◌∙◌, ap, subst, arith, length-append}
 use Rattle.std.proofs.lemmas.List.{take_at}
 use Rattle.std.proofs.Math.Seq.{get_or-append_seam}
-use Rattle.storage.specs.State.{State, IsSettled}
+use Rattle.disks.specs.State.{State, IsSettled}
 use Rattle.bytejournal.specs.Gates.{with_gate, with_first}
 use Rattle.bytejournal.specs.Meaning.{IsFront, IsWhole}
 use Rattle.bytejournal.specs.Journal.{IsAtRest, contents_of}

@@ -1,10 +1,10 @@
 -- What torn writes at a gate and after it may leave.
 use Rattle.std.proofs.Common.{Bool, true, false, refl, subst, ◌≡◌, ◌<◌, ◌≤◌, ◌+◌, inl, inr, ℕ, List, ◌∷◌, ◌++◌, length, take, drop, get_or, sym, ◌∙◌, ap, arith, length-append, take-append-drop}
 use Rattle.std.proofs.lemmas.List.{take_at, drop_at, drop_more, length-take, take-take}
-use Rattle.storage.specs.Events.{Torn}
-use Rattle.storage.specs.Calls.{Holds}
-use Rattle.storage.specs.State.{State, IsSettled, LeavesOnly}
-use Rattle.storage.specs.Calls.{SameBytes}
+use Rattle.disks.specs.Events.{Torn}
+use Rattle.disks.specs.Calls.{Holds}
+use Rattle.disks.specs.State.{State, IsSettled, LeavesOnly}
+use Rattle.disks.specs.Calls.{SameBytes}
 use Rattle.bytejournal.specs.Gates.{with_first, closed_first, IsHalfWritten, IsHalfReplaced}
 use Rattle.bytejournal.proofs.Moments.{joined, kept}
 

@@ -1,7 +1,7 @@
 -- What each call and each crash keeps stands over any number of them, whatever it is that two images have to be.
 use Rattle.std.proofs.Common.{⊎_elim, ℕ, List, sym, subst, arith}
-use Rattle.storage.specs.State.{State, moment, may_leave, left_since}
-use Rattle.storage.specs.Laws.{seen_is_left, counts_now, only_now}
+use Rattle.disks.specs.State.{State, moment, may_leave, left_since}
+use Rattle.disks.specs.Laws.{seen_is_left, counts_now, only_now}
 use Rattle.bytejournal.specs.declared.journal.Journal.{Journal}
 use Rattle.bytejournal.specs.Journal.{EachMoment}
 use Rattle.bytejournal.specs.Opening.{Untouched, Reopened}

@@ -12,3 +12,4 @@ pub mod Choosing
 pub mod Creating
 pub mod Lasting
 pub mod Recovering
+pub mod UnmadeLemmas

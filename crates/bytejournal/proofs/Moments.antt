@@ -1,9 +1,9 @@
 -- How one run of device calls goes on from another.
 use Rattle.std.proofs.Common.{◌≡◌, ◌≤◌, ⊎_elim, inl, inr, List, ℕ, refl, subst, sym, ◌∙◌, arith}
-use Rattle.storage.specs.Events.{Torn}
-use Rattle.storage.specs.State.{State, IsSettled, LeavesOnly, moment, may_leave}
-use Rattle.storage.specs.Calls.{SameBytes, Elapses, Tears}
-use Rattle.storage.specs.Laws.{counts_now, only_now}
+use Rattle.disks.specs.Events.{Torn}
+use Rattle.disks.specs.State.{State, IsSettled, LeavesOnly, moment, may_leave}
+use Rattle.disks.specs.Calls.{SameBytes, Elapses, Tears}
+use Rattle.disks.specs.Laws.{counts_now, only_now}
 use Rattle.bytejournal.specs.Opening.{Untouched}
 
 -- two runs, one after the other

@@ -1,8 +1,8 @@
 -- What two disks mean, and what a crash may leave on both.
 use Rattle.std.proofs.Common.{◌≡◌, ◌⊎◌, inl, inr, ⊎_elim, ◌<◌, ℕ, Bool, true, false, not, Option, None, Some, List, [], ◌∷◌, length, if◌then◌else◌, refl, sym, ◌∙◌, subst, arith, ltb}
 use Rattle.std.proofs.lemmas.Bool.Decides.{nat_tests}
-use Rattle.storage.specs.State.{State, IsSettled, LeavesOnly, moment, left_since}
-use Rattle.storage.specs.Laws.{only_now}
+use Rattle.disks.specs.State.{State, IsSettled, LeavesOnly, moment, left_since}
+use Rattle.disks.specs.Laws.{only_now}
 use Rattle.bytejournal.specs.Meaning.{Contents, Held, held, chosen, meaning}
 use Rattle.bytejournal.specs.Meaning.Held.{Shut, Broken, Open}
 use Rattle.bytejournal.specs.Journal.{IsEither, EachMoment}

@@ -6,7 +6,7 @@ use Rattle.std.proofs.lemmas.List.{take_at}
 use Rattle.std.proofs.lemmas.Bool.{cases_eq}
 use Rattle.std.proofs.lemmas.Nat.{from_be_bytes-to_be_bytes_4}
 use Rattle.std.proofs.Math.Seq.{get_or-append_seam}
-use Rattle.storage.specs.State.{State, IsSettled, LeavesOnly}
+use Rattle.disks.specs.State.{State, IsSettled, LeavesOnly}
 use Rattle.bytejournal.specs.declared.journal.Journal.{Journal}
 use Rattle.bytejournal.specs.Gates.{with_gate, with_first, closed_first, IsHalfWritten, IsHalfReplaced}
 use Rattle.bytejournal.specs.Meaning.{Contents, Held, rebased, held, chosen, meaning, IsFront, IsWhole}

@@ -6,3 +6,4 @@ pub mod Writing
 pub mod Journal
 pub mod Opening
 pub mod Recovery
+pub mod Unmade

@@ -3,9 +3,9 @@ use Rattle.std.specs.Prelude.{◌≡◌, ◌⊎◌, ◌+◌, ◌≤◌, ◌<◌,
 use Rattle.std.specs.Option.{is_some}
 use Rattle.bytetext.specs.declared.failure.Failure.{Failure}
 use Rattle.bytetext.specs.declared.failure.Failure.TheVariants.{Refused, NoMemory}
-use Rattle.storage.specs.State.{State, IsSettled, Rose, LeavesOnly, may_leave}
-use Rattle.storage.specs.Calls.{Elapses}
-use Rattle.storage.specs.Events.{openings}
+use Rattle.disks.specs.State.{State, IsSettled, Rose, LeavesOnly, may_leave}
+use Rattle.disks.specs.Calls.{Elapses}
+use Rattle.disks.specs.Events.{openings}
 use Rattle.bytejournal.specs.declared.fault.JournalFault.{JournalFault}
 use Rattle.bytejournal.specs.declared.fault.JournalFault.TheVariants.{DiskFault, NotAJournal, Spent, GenerationsSpent}
 use Rattle.bytejournal.specs.declared.journal.Journal.{Journal}

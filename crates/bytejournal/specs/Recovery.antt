@@ -3,7 +3,7 @@
 use Rattle.std.specs.Prelude.{◌≡◌, ◌≢◌, false, true, ℕ, List, IsSome, option_map, Result, Ok, Err}
 use Rattle.bytetext.specs.declared.failure.Failure.{Failure}
 use Rattle.bytetext.specs.declared.failure.Failure.TheVariants.{Refused}
-use Rattle.storage.specs.State.{State, IsSettled, moment, may_leave, left_since}
+use Rattle.disks.specs.State.{State, IsSettled, moment, may_leave, left_since}
 use Rattle.bytejournal.specs.declared.fault.JournalFault.{JournalFault}
 use Rattle.bytejournal.specs.declared.fault.JournalFault.TheVariants.{NotAJournal}
 use Rattle.bytejournal.specs.declared.journal.Journal.{Journal}

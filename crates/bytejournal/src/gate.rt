@@ -1,11 +1,11 @@
 // What is written after a gate, and the gate's own byte.
 ghost use Rattle.std.specs.Prelude.{◌≡◌, ◌<◌, ◌≤◌, ◌+◌, ◌^◌, ℕ, length, OnOk};
-ghost use Rattle.storage.specs.State.{IsSettled, LeavesOnly};
-ghost use Rattle.storage.specs.Events.{Torn};
-ghost use Rattle.storage.specs.Calls.{Holds, HasCause};
+ghost use Rattle.disks.specs.State.{IsSettled, LeavesOnly};
+ghost use Rattle.disks.specs.Events.{Torn};
+ghost use Rattle.disks.specs.Calls.{Holds, HasCause};
 ghost use Rattle.bytejournal.specs.Gates.{with_gate, IsHalfWritten, with_first};
 
-use storage::{Disk, DiskFault};
+use disks::{Disk, DiskFault};
 
 /// Writes `text` at the offset `at`, and waits until it is kept. Until then a crash may leave any bytes in the range.
 pub(crate) fn write_and_sync<D: Disk>(disk: &mut D, at: usize, text: &[u8]) -> Result<(), DiskFault>

@@ -7,9 +7,9 @@ use crate::fault::{JournalError, JournalFault};
 use crate::spelling::{base_text, entry_text};
 use crate::writing::{put_after_gate, replace};
 use bytetext::Failure;
+use disks::Disk;
 use std::alloc::Global;
 use std::mem;
-use storage::Disk;
 
 /// A base and the entries appended since, on two disks, one of which is active.
 #[derive(Drop)]

@@ -1,7 +1,7 @@
 // How a journal is created, opened and taken apart.
 ghost use Rattle.std.specs.Prelude.{◌≡◌, ◌≤◌, ◌<◌, ◌+◌, ◌^◌, ◌⊎◌, ◌↔◌, IsTrue, OnOk, OnErr};
 ghost use Rattle.std.specs.Prelude.{Bool, true, false, length, option_map};
-ghost use Rattle.storage.specs.State.{IsSettled, Rose};
+ghost use Rattle.disks.specs.State.{IsSettled, Rose};
 ghost use Rattle.bytejournal.specs.Gates.{with_gate, with_first};
 ghost use Rattle.bytejournal.specs.Reading.{Reads};
 ghost use Rattle.bytetext.specs.declared.failure.Failure.TheVariants.{Refused};
@@ -16,8 +16,8 @@ use crate::reading::{Found, Reading, START, read_disk};
 use crate::spelling::base_text;
 use crate::writing::end_after;
 use bytetext::{Failure, Text, Texts};
+use disks::{Disk, DiskFault};
 use std::alloc::Global;
-use storage::{Disk, DiskFault};
 
 /// The two disks of a journal, in the order in which they were given.
 #[derive(Drop)]

@@ -8,7 +8,7 @@ ghost use Rattle.bytejournal.specs.Recovery.{Stage, Calls, Lives, IsJournal, IsI
 ghost use Rattle.bytejournal.specs.Recovery.Stage.{InProgram};
 ghost use Rattle.bytejournal.specs.Journal.{IsSound, first_disk, second_disk};
 
-use storage::Disk;
+use disks::Disk;
 
 /// The laws of a journal that only this library writes. The function does nothing: its clauses hold for any disks.
 pub fn laws_of_journals<D: Disk>()

@@ -2,14 +2,14 @@
 ghost use Rattle.std.specs.Prelude.{◌≡◌, ◌<◌, ◌≤◌, ◌+◌, ◌^◌, Ok, Err, OnOk, IfSome, MatchResult, length};
 ghost use Rattle.bytetext.specs.declared.failure.Failure.TheVariants.{Refused};
 ghost use Rattle.bytejournal.specs.declared.fault.JournalFault.TheVariants.{DiskFault as disk_fault};
-ghost use Rattle.storage.specs.State.{IsSettled, LeavesOnly};
+ghost use Rattle.disks.specs.State.{IsSettled, LeavesOnly};
 ghost use Rattle.bytejournal.specs.Gates.{with_gate, closed_first, IsHalfWritten, IsHalfReplaced};
 ghost use Rattle.bytejournal.specs.Writing.{Puts};
 
 use crate::fault::{JournalError, JournalFault};
 use crate::gate::{close_first_gate, write_after_gate};
 use bytetext::Failure;
-use storage::{Disk, DiskFault};
+use disks::{Disk, DiskFault};
 
 /// Puts `text` after the closed gate at the offset `gate`, and opens the gate.
 pub(crate) fn put_after_gate<D: Disk>(

@@ -4,8 +4,8 @@ use Rattle.std.specs.List.{list_any}
 use Rattle.bytetext.specs.declared.failure.Failure.{Failure}
 use Rattle.bytetext.specs.declared.failure.Failure.TheVariants.{Refused, NoMemory}
 use Rattle.userfile.specs.declared.change.Change.{Change}
-use Rattle.scriptwords.specs.Words.{words_of, is_empty, rest_of}
-use Rattle.scriptwords.specs.Changes.{change_named}
+use Rattle.recordtext.specs.Words.{words_of, is_empty, rest_of}
+use Rattle.recordtext.specs.Changes.{change_named}
 use Rattle.control.specs.declared.TheConstants.{MAX_COMMAND, MAX_LINE}
 use Rattle.control.specs.declared.word.Word.{Word}
 use Rattle.control.specs.declared.word.Word.TheVariants as word

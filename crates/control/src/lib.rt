@@ -5,7 +5,7 @@
 //!
 //! | Line | What the bot does |
 //! |---|---|
-//! | a change, such as `adduser alice` or `chan alice #egg o` | changes the userfile so ([`scriptwords`]) |
+//! | a change, such as `adduser alice` or `chan alice #egg o` | changes the userfile so ([`recordtext`]) |
 //! | `show` | shows the version and the records |
 //! | `status` | shows its status |
 //! | `bind` type flags proc MASK | adds the bind, until the bot ends |

@@ -9,7 +9,7 @@ use crate::command::{Command, UnbindWords};
 use crate::word::Word;
 use crate::{MAX_COMMAND, MAX_LINE};
 use bytetext::{Failure, NoMemory, Text};
-use scriptwords::{change_named, pieces_of, rest_of};
+use recordtext::{change_named, pieces_of, rest_of};
 use settings::BindWords;
 use std::alloc::Global;
 

@@ -1,9 +1,9 @@
 -- What a disk in memory keeps when an event is noted.
 use Rattle.std.proofs.Common.{◌≡◌, inl, inr, ⊎_elim, ◌≤◌, ◌+◌, Bool, true, false, IsTrue, ℕ, min, List, ◌∷◌, ◌++◌, length, take, drop, refl, sym, ◌∙◌, ap, subst, arith, append_assoc, length-append, length-drop}
 use Rattle.std.proofs.lemmas.List.{take_at, drop_at, length-take, take-take}
-use Rattle.storage.specs.Calls.{Holds, SameBytes}
-use Rattle.storage.specs.Events.{Event, Torn, Images, LeftSince}
-use Rattle.storage.specs.Laws.{images_seen}
+use Rattle.disks.specs.Calls.{Holds, SameBytes}
+use Rattle.disks.specs.Events.{Event, Torn, Images, LeftSince}
+use Rattle.disks.specs.Laws.{images_seen}
 use Rattle.disks.specs.Memory.{Memory, state_of, IsKept}
 
 -- a write is one of the ways in which it may be torn

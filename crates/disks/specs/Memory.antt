@@ -1,7 +1,7 @@
 -- A disk in memory, as contracts see it.
 use Rattle.std.specs.Prelude.{◌≡◌, ◌≤◌, ◌^◌, ℕ, List, [], length, take}
-use Rattle.storage.specs.State.{State, Rose}
-use Rattle.storage.specs.Events.{Event, Images}
+use Rattle.disks.specs.State.{State, Rose}
+use Rattle.disks.specs.Events.{Event, Images}
 use Rattle.disks.specs.Plans.{Plan, no_plan}
 
 -- what contracts see of a disk

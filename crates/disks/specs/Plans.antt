@@ -1,6 +1,6 @@
 -- Which call of a disk in memory is planned to fail, and what the planned crash leaves.
 use Rattle.std.specs.Prelude.{◌≡◌, ◌-◌, ◌≤◌, ℕ, zero, suc, Option, None, Some, List, length, replicate}
-use Rattle.storage.specs.Calls.{Holds}
+use Rattle.disks.specs.Calls.{Holds}
 use Rattle.disks.specs.declared.tear.Tear.{Tear}
 use Rattle.disks.specs.declared.tear.Tear.TheVariants.{Old, New, Fill}
 

@@ -1,6 +1,6 @@
 -- A file as contracts see it: what was written to it, as far as the system reported.
 use Rattle.std.specs.Prelude.{ℕ, ℤ, ◌+◌, List, [], ◌∷◌, ◌++◌, length, take, drop, Bool}
-use Rattle.storage.specs.Events.{Event}
+use Rattle.disks.specs.Events.{Event}
 
 pub record Told : Type 0 where
   pub holds : List ℕ  -- what was found in it, with what was written to it since

@@ -1,7 +1,7 @@
 // Puts texts over bytes in room that was made before.
 ghost use Rattle.std.specs.Prelude.{◌≡◌, ◌<◌, ◌≤◌, ◌+◌, ◌++◌, length, take, drop, replicate, vec_len, OnOk, OnErr};
 ghost use Rattle.std.specs.Vec.{vec_capacity};
-ghost use Rattle.storage.specs.Calls.{Holds, read_count};
+ghost use Rattle.disks.specs.Calls.{Holds, read_count};
 
 use bytetext::NoMemory;
 

@@ -1,11 +1,12 @@
 // A disk in a file, with a mirror in memory of what it holds.
 ghost use Rattle.std.specs.Prelude.{◌≡◌, ◌≤ℤ◌, pos, ◌≤◌, ◌<◌, ◌+◌, [], length, true, false, IsTrue, IfOk, OnOk, OnErr};
-ghost use Rattle.storage.specs.Events.{openings};
-ghost use Rattle.storage.specs.State.{IsSettled, may_leave};
-ghost use Rattle.storage.specs.Calls.{Holds, Tears, Elapses, HasCause, Spends, SameBytes};
+ghost use Rattle.disks.specs.Events.{openings};
+ghost use Rattle.disks.specs.State.{IsSettled, may_leave};
+ghost use Rattle.disks.specs.Calls.{Holds, Tears, Elapses, HasCause, Spends, SameBytes};
 ghost use Rattle.disks.specs.Memory.{state_of, Fails};
 ghost use Rattle.disks.specs.Files.{IsTold, IsKept};
 
+use crate::disk::{Disk, DiskFault};
 use crate::file_fault::{FileDiskError, error_of};
 use crate::folder::{folder_of, sync_folder};
 use crate::mem_disk::MemDisk;
@@ -16,7 +17,6 @@ use std::fs::{File, OpenOptions};
 use std::marker::Model;
 use std::os::unix::fs::OpenOptionsExt;
 use std::rt::Files;
-use storage::{Disk, DiskFault};
 
 /// A disk in a file. Each write and sync goes to the file, and a read gives what the mirror in memory holds.
 ///

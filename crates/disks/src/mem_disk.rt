@@ -1,19 +1,20 @@
 // A disk in memory, whose faults and crashes can be planned.
 ghost use Rattle.std.specs.Prelude.{◌≡◌, ◌<◌, ◌≤◌, ◌+◌, ◌++◌, ◌↔◌, [], length, take, drop, vec_len, IfOk, IfErr, OnOk, OnErr, IsErr};
-ghost use Rattle.storage.specs.Events.{openings};
-ghost use Rattle.storage.specs.State.{IsSettled, may_leave};
-ghost use Rattle.storage.specs.Calls.{Holds, Tears, Elapses, HasCause, Spends, SameBytes, read_count};
+ghost use Rattle.disks.specs.Events.{openings};
+ghost use Rattle.disks.specs.State.{IsSettled, may_leave};
+ghost use Rattle.disks.specs.Calls.{Holds, Tears, Elapses, HasCause, Spends, SameBytes, read_count};
 ghost use Rattle.disks.specs.Plans.{IsDue, Leaves, no_plan, with_crash, with_read, after_call, after_read, after_crash};
 ghost use Rattle.disks.specs.Memory.{state_of, empty, with_plan, Fails};
 
 use crate::bytes::{copy_rest, make_room, put, put_after, read_from};
 use crate::countdown::{is_due, is_over};
+use crate::disk::{Disk, DiskFault};
+use crate::history::History;
 use crate::tear::{Tear, tear_range};
 use bytetext::NoMemory;
 use std::alloc::Global;
 use std::marker::Model;
 use std::mem;
-use storage::{Disk, DiskFault, History};
 
 /// A disk in memory. It fails when a plan says so, and a crash leaves what the plan says of the writes that weren't
 /// kept.

@@ -1,12 +1,12 @@
 // The two files of a journal.
 ghost use Rattle.std.specs.Prelude.{◌≡◌, [], IfOk, IfSome};
 
+use crate::disk::Disk;
 use crate::file_disk::FileDisk;
 use crate::file_fault::{FileDiskError, FileFault};
 use bytetext::Failure;
 use std::fs::File;
 use std::rt::Files;
-use storage::Disk;
 
 /// The two disks of a journal, in the order in which the journal takes them.
 #[derive(Drop)]

@@ -1,7 +1,7 @@
 // What a planned crash leaves of a write that wasn't kept.
 ghost use Rattle.std.specs.Prelude.{◌≡◌, ◌≤◌, ◌+◌, length, vec_len};
 ghost use Rattle.std.specs.Vec.{vec_capacity};
-ghost use Rattle.storage.specs.Events.{Torn};
+ghost use Rattle.disks.specs.Events.{Torn};
 ghost use Rattle.disks.specs.Plans.{Leaves};
 
 use crate::bytes::{fill, put};

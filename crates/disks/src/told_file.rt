@@ -1,9 +1,11 @@
 // A file, and a record of what was written to it.
 ghost use Rattle.std.specs.Prelude.{◌≡◌, ◌≤ℤ◌, pos, IfOk, OnOk, IsTrue};
 ghost use Rattle.std.specs.Fd.{file_raw_fd};
-ghost use Rattle.storage.specs.Calls.{Holds};
+ghost use Rattle.disks.specs.Calls.{Holds};
 
+use crate::disk::DiskFault;
 use crate::file_fault::{FileDiskError, FileFault, error_of, not_kept};
+use crate::history::History;
 use bytetext::Failure;
 use std::alloc::Global;
 use std::fs::{File, TryLockError};
@@ -11,7 +13,6 @@ use std::marker::Model;
 use std::os::fd::AsRawFd;
 use std::os::unix::fs::FileExt;
 use std::snapshot::Snapshot;
-use storage::{DiskFault, History};
 
 /// The first descriptor that belongs to none of the standard streams.
 const FIRST_OWN: i32 = 3;

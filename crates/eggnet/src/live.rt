@@ -1,6 +1,6 @@
 // Scripts, played live.
 use eggprocs::Ours;
-use liveloop::{LiveError, live};
+use live::{LiveError, live};
 use procstore::{ProcStore, Run};
 use replaying::{FAULT, STREAM_FAULT, out_of_memory};
 use std::io;

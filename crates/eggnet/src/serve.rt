@@ -1,8 +1,7 @@
 // The small server on loopback, for other programs.
 
 use bytetext::NoMemory;
-use liveloop::LiveError;
-use loopback::{House, SocketFault};
+use live::{House, LiveError, SocketFault};
 use replaying::{STREAM_FAULT, not_written, out_of_memory};
 use std::alloc::Global;
 use std::io;

@@ -1,7 +1,7 @@
 -- What `ban`, `unban` and `lift` request.
 use Rattle.std.specs.Prelude.{ℕ, nat_lt, nat_le, ◌==◌, ◌*◌, ◌&&◌, List, [], ◌∷◌, ◌++◌, take, min, length, Bool, if◌then◌else◌, codes, Option, Some, None}
 use Rattle.bytetext.specs.declared.moment.TheConstants.{MOMENTS_END}
-use Rattle.scriptwords.specs.Words.{number_below}
+use Rattle.recordtext.specs.Words.{number_below}
 use Rattle.userfile.specs.declared.change.Change.{Change}
 use Rattle.userfile.specs.declared.change.Change.TheVariants.{AddBan, DelBan}
 use Rattle.userfile.specs.declared.limits.TheConstants.{MAX_COMMENT}

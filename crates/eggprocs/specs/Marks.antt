@@ -1,6 +1,6 @@
 -- What `stick`, `unstick` and `bans` request.
 use Rattle.std.specs.Prelude.{ℕ, ◌-◌, Bool, true, false, List, [], ◌∷◌, ◌++◌, map, take, drop, if◌then◌else◌, unwrap_or, codes, Option, Some, None}
-use Rattle.scriptwords.specs.Words.{number_below}
+use Rattle.recordtext.specs.Words.{number_below}
 use Rattle.userfile.specs.declared.change.Change.{Change}
 use Rattle.userfile.specs.declared.change.Change.TheVariants.{SetSticky}
 use Rattle.userfile.specs.declared.ban.Ban.{Ban}

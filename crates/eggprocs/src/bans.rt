@@ -10,7 +10,7 @@ use crate::rights::{is_op_of, is_timer};
 use bytetext::{MOMENTS_END, NoMemory, Text};
 use outqueue::Queue;
 use procstore::{Action, Actions, Call, PutWish, TimerWish, View};
-use scriptwords::number;
+use recordtext::number;
 use std::alloc::Global;
 use userfile::{Change, MAX_COMMENT, expires_at, is_hostmask};
 

@@ -10,7 +10,7 @@ use crate::people::{FOR_MASTERS, only_told, told};
 use crate::rights::{Standing, standing_of};
 use bytetext::{NoMemory, Text};
 use procstore::{Action, Actions, Call, MAX_ACTIONS, View};
-use scriptwords::bot_number;
+use recordtext::bot_number;
 use std::alloc::Global;
 use userfile::{Ban, Change, Userfile};
 

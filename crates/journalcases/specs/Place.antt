@@ -1,5 +1,5 @@
 -- What a place of a journal is ready for.
-use Rattle.storage.specs.State.{IsSettled}
+use Rattle.disks.specs.State.{IsSettled}
 use Rattle.disks.specs.Memory.{state_of}
 use Rattle.botjournal.specs.Journal.{IsSound}
 use Rattle.journalcases.specs.declared.place.Place.{Place}

@@ -1,6 +1,6 @@
 // Steps that use two disks.
 ghost use Rattle.std.specs.Prelude.{◌<◌, IfOk, OnOk};
-ghost use Rattle.storage.specs.State.{IsSettled};
+ghost use Rattle.disks.specs.State.{IsSettled};
 ghost use Rattle.disks.specs.Memory.{state_of};
 ghost use Rattle.journalcases.specs.Place.{IsReady};
 
@@ -9,9 +9,8 @@ use crate::stop::{BAD_WORDS, CaseError};
 use crate::words::{bytes_of, call_of, cut, tear_of};
 use bytejournal::Disks;
 use bytetext::NoMemory;
-use disks::{MemDisk, Tear};
+use disks::{Disk, MemDisk, Tear};
 use std::alloc::Global;
-use storage::Disk;
 
 /// Plays `disks FIRST SECOND`, where `rest` has the words.
 pub fn new_disks(alloc: Global, rest: &[u8]) -> Result<Place, CaseError>

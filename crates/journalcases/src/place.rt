@@ -1,6 +1,6 @@
 // Where a journal is.
 ghost use Rattle.std.specs.Prelude.{IfOk};
-ghost use Rattle.storage.specs.State.{IsSettled};
+ghost use Rattle.disks.specs.State.{IsSettled};
 ghost use Rattle.disks.specs.Memory.{state_of};
 ghost use Rattle.botjournal.specs.Journal.{IsSound};
 ghost use Rattle.journalcases.specs.Place.{IsReady};
@@ -9,8 +9,7 @@ use crate::stop::{CaseError, CaseFault};
 use botjournal::Journal;
 use bytejournal::Disks;
 use bytetext::Failure;
-use disks::MemDisk;
-use storage::Disk;
+use disks::{Disk, MemDisk};
 
 /// Where the journal of a case is.
 #[derive(Drop)]

@@ -1,15 +1,15 @@
 // A hub in two files.
 ghost use Rattle.disks.specs.Memory.{state_of};
-ghost use Rattle.storage.specs.State.{IsSettled};
+ghost use Rattle.disks.specs.State.{IsSettled};
 ghost use Rattle.botcore.specs.Steps.{IsGoodEvent};
 
 use crate::stop::Stop;
 use crate::words::Asked;
 use botcore::{Bot, Config, End, Event};
 use bottimers::Zone;
+use bytejournal::was_never_made;
 use bytetext::{NoMemory, Text, Texts};
 use disks::{FileDisk, Pair};
-use journalstart::was_never_made;
 use procstore::{Nobodies, ProcStore};
 use std::alloc::Global;
 use std::fs::File;

@@ -1,11 +1,10 @@
 // Why the program ends early.
 use botcore::{BotError, BotFault, Refusal};
 use bytetext::{Failure, NoMemory};
-use disks::{FileDiskError, FileFault};
+use disks::{DiskFault, FileDiskError, FileFault};
 use std::alloc::AllocError;
 use std::io;
 use std::io::ErrorKind;
-use storage::DiskFault;
 use thiserror::Error;
 
 /// Why the program ends early.

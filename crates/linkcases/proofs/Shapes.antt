@@ -2,7 +2,7 @@
 use Rattle.sharewire.specs.declared.packet.Packet.{Packet}
 use Rattle.sharewire.specs.declared.packet.Packet.TheVariants.{Hello, Change, Part, Request, Accepted, Refused, BotText}
 use Rattle.sharewire.specs.Frames.{IsGoodPacket}
-use Rattle.linkcalls.specs.Shapes.{HasGoodRecords}
+use Rattle.sharelink.specs.Shapes.{HasGoodRecords}
 
 -- a packet that has a frame has records of good shape
 pub good_records : (packet : Packet) → IsGoodPacket packet → HasGoodRecords packet

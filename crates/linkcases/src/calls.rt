@@ -1,15 +1,14 @@
 // Calls of a bot's link.
 ghost use Rattle.std.specs.Prelude.{◌+◌};
-ghost use Rattle.linkcalls.specs.declared.TheConstants.{MAX_LEAVES};
-ghost use Rattle.linkcalls.specs.Shapes.{AreGood, GoOut};
+ghost use Rattle.sharelink.specs.declared.TheConstants.{MAX_LEAVES};
+ghost use Rattle.sharelink.specs.Shapes.{AreGood, GoOut};
 
 use crate::net::{Good, Net, Place, Sent};
 use crate::print::{put, put_code, put_note, put_number, put_packet, records_text};
 use crate::stop::CaseError;
-use botlink::BotLink;
 use bytetext::{Failure, NoMemory, TryCopy};
 use disks::MemDisk;
-use linkcalls::{Answer, LinkError, Outgoing};
+use sharelink::{Answer, BotLink, LinkError, Outgoing};
 use std::alloc::Global;
 use userfile::Change;
 

@@ -1,6 +1,6 @@
 // Steps that use a bot's disks.
 ghost use Rattle.std.specs.Prelude.{◌<◌, ◌≤◌, IfOk, OnOk};
-ghost use Rattle.storage.specs.State.{IsSettled};
+ghost use Rattle.disks.specs.State.{IsSettled};
 ghost use Rattle.disks.specs.Memory.{state_of};
 
 use crate::calls::see;
@@ -8,10 +8,10 @@ use crate::net::{Leaves, Net, Place, disks_of};
 use crate::print::{put, put_code, put_counted, put_number};
 use crate::stop::{CaseError, NO_STEP};
 use crate::words::{bytes_of, cut, number};
-use botlink::BotLink;
 use bytejournal::{Disks, Returned};
 use bytetext::{Failure, NoMemory};
 use disks::{MemDisk, Tear};
+use sharelink::BotLink;
 use std::alloc::Global;
 use std::mem;
 

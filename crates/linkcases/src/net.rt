@@ -1,19 +1,17 @@
 // A net of bots, and the packets that they sent.
 ghost use Rattle.std.specs.Prelude.{◌≤◌};
-ghost use Rattle.storage.specs.State.{IsSettled};
+ghost use Rattle.disks.specs.State.{IsSettled};
 ghost use Rattle.disks.specs.Memory.{state_of};
-ghost use Rattle.linkcalls.specs.declared.TheConstants.{MAX_LEAVES};
+ghost use Rattle.sharelink.specs.declared.TheConstants.{MAX_LEAVES};
 
 use crate::seen::Seen;
 use crate::stop::{CaseError, NO_STEP};
-use botlink::BotLink;
 use bytejournal::{Disks, Returned};
 use bytetext::{Failure, NoMemory, TryCopy};
-use disks::MemDisk;
-use linkcalls::{MAX_LEAVES, Packet};
+use disks::{Disk, MemDisk};
+use sharelink::{BotLink, MAX_LEAVES, Packet};
 use std::alloc::Global;
 use std::marker::Model;
-use storage::Disk;
 
 /// How many leaves a net has: at most `MAX_LEAVES`.
 #[derive(Drop)]
@@ -23,7 +21,7 @@ pub struct Leaves {
 
 impl Model for Leaves {
     ghost use Rattle.std.specs.Prelude.{ℕ, ◌≤◌};
-    ghost use Rattle.linkcalls.specs.declared.TheConstants.{MAX_LEAVES};
+    ghost use Rattle.sharelink.specs.declared.TheConstants.{MAX_LEAVES};
 
     ghost Value = { ℕ };
 
@@ -34,7 +32,7 @@ impl Model for Leaves {
 
 impl Leaves {
     ghost use Rattle.std.specs.Prelude.{◌≡◌, ◌≤◌};
-    ghost use Rattle.linkcalls.specs.declared.TheConstants.{MAX_LEAVES};
+    ghost use Rattle.sharelink.specs.declared.TheConstants.{MAX_LEAVES};
 
     /// Makes a count of `count` leaves. Returns `NO_STEP` above `MAX_LEAVES`.
     pub fn new(count: u16) -> Result<Leaves, CaseError> {
@@ -61,7 +59,7 @@ pub struct Good {
 
 impl Model for Good {
     ghost use Rattle.sharewire.specs.declared.packet.Packet.{Packet};
-    ghost use Rattle.linkcalls.specs.Shapes.{HasGoodRecords};
+    ghost use Rattle.sharelink.specs.Shapes.{HasGoodRecords};
 
     ghost Value = { Packet };
 
@@ -73,7 +71,7 @@ impl Model for Good {
 impl Good {
     ghost use Rattle.std.specs.Prelude.{◌≡◌};
     ghost use Rattle.sharewire.specs.Frames.{IsGoodPacket};
-    ghost use Rattle.linkcalls.specs.Shapes.{HasGoodRecords};
+    ghost use Rattle.sharelink.specs.Shapes.{HasGoodRecords};
 
     /// Copies `packet`, which was read from bytes.
     #[tactic(auto, using(crate::proofs::Shapes::good_records))]

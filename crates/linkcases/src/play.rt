@@ -10,7 +10,7 @@ use crate::print::{put, put_number, records_text};
 use crate::stop::{CaseError, NO_STEP, Stop};
 use crate::words::{bytes_of, cut, number};
 use bytetext::{NoMemory, Seq};
-use scriptwords::change_of;
+use recordtext::change_of;
 use sharewire::{Packet, WireReader};
 use std::alloc::Global;
 

@@ -1,7 +1,7 @@
 // What the steps print.
 use bytetext::NoMemory;
 use itoa::Buffer;
-use linkcalls::{Note, Packet};
+use sharelink::{Note, Packet};
 use std::alloc::Global;
 use userfile::{Ban, User, Userfile};
 

@@ -7,9 +7,8 @@ use botcore::{Bot, Config, Event, Returned};
 use bottimers::Zone;
 use bytejournal::Disks;
 use bytetext::{Failure, NoMemory, Text, Texts};
-use disks::MemDisk;
+use disks::{Disk, MemDisk};
 use std::alloc::Global;
-use storage::Disk;
 use userfile::Change;
 
 // Returns the configuration of the bot of this `number`, in a net of one leaf.

@@ -5,8 +5,8 @@ use botjournal::LAYOUT;
 use botworld::{Outcome, Step, Transcript, World};
 use bytetext::TryCopy;
 use disks::MemDisk;
-use linkcalls::Packet;
 use procstore::Nobody;
+use sharelink::Packet;
 use std::alloc::Global;
 use std::slice;
 

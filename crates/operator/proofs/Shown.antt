@@ -7,10 +7,10 @@ use Rattle.protocol.specs.Notes.LinkFault.{Down, NumbersSpent}
 use Rattle.protocol.specs.HubRules.{Hub, Rebase, version_of, hub_folded}
 use Rattle.protocol.specs.LeafRules.{Leaf, Compact, leaf_folded}
 use Rattle.protocol.specs.Numbers.{last_number}
-use Rattle.linkcalls.specs.declared.TheConstants.{MAX_LEAVES}
-use Rattle.linknet.specs.Ends.{End, AtHub, AtLeaf, end_version, end_records}
-use Rattle.linkstate.specs.Opening.{AreKept, Keeps}
-use Rattle.botlink.specs.Links.{end_meaning, compacted, RenewsEnd}
+use Rattle.sharelink.specs.declared.TheConstants.{MAX_LEAVES}
+use Rattle.protocol.specs.Ends.{End, AtHub, AtLeaf, end_version, end_records}
+use Rattle.sharelink.specs.StateOpening.{AreKept, Keeps}
+use Rattle.sharelink.specs.BotLinks.{end_meaning, compacted, RenewsEnd}
 use Rattle.recordtext.specs.Text.{shown_text}
 use Rattle.operator.specs.Showing.{IsShown}
 

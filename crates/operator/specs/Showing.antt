@@ -1,9 +1,9 @@
 -- What is shown of a bot that does not run: what its journal means, whatever its layout.
 use Rattle.std.specs.Prelude.{◌≡◌, ℕ, List, Some}
 use Rattle.botjournal.specs.Contents.{Contents, meaning}
-use Rattle.linkcalls.specs.declared.TheConstants.{MAX_LEAVES}
-use Rattle.linknet.specs.Ends.{End, end_version, end_records}
-use Rattle.botlink.specs.Links.{end_meaning}
+use Rattle.sharelink.specs.declared.TheConstants.{MAX_LEAVES}
+use Rattle.protocol.specs.Ends.{End, end_version, end_records}
+use Rattle.sharelink.specs.BotLinks.{end_meaning}
 use Rattle.recordtext.specs.Text.{shown_text}
 
 -- the text has the version and the records of the bot whose journal these bytes of two disks are

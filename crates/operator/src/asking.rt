@@ -3,12 +3,11 @@ use crate::fault::{AskError, AskFault, command_error, machine_error, socket_erro
 use botfolder::{FolderFault, MAX_PATH, control_of};
 use bytetext::{Failure, NoMemory};
 use control::{Command, body_of};
-use sockets::{UnixSocket, Watch};
+use net::{Bounds, UnixSocket, Watch, Wire};
 use std::alloc::Global;
 use std::net::Net;
 use std::time::Clock;
 use streams::{Given, Taken};
-use wire::{Bounds, Wire};
 
 /// How many seconds a bot may say nothing before [`ask`] gives up.
 pub const PATIENCE: u64 = 60;

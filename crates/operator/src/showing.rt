@@ -1,7 +1,7 @@
 // A bot's version and records.
 ghost use Rattle.std.specs.Prelude.{◌≡◌, ◌≤◌, IfOk, Some};
-ghost use Rattle.linknet.specs.Ends.{end_version, end_records};
-ghost use Rattle.linkcalls.specs.declared.TheConstants.{MAX_LEAVES};
+ghost use Rattle.protocol.specs.Ends.{end_version, end_records};
+ghost use Rattle.sharelink.specs.declared.TheConstants.{MAX_LEAVES};
 ghost use Rattle.botfolder.specs.Folders.{AreCopies};
 ghost use Rattle.recordtext.specs.Text.{shown_text};
 ghost use Rattle.operator.specs.Showing.{IsShown};
@@ -10,11 +10,10 @@ use crate::asking::ask;
 use crate::fault::{AskError, AskFault, folder_error, journal_error};
 use botfolder::{FolderFault, Stopped, read_stopped};
 use botjournal::Journal;
-use botlink::BotLink;
 use bytetext::Failure;
 use disks::MemDisk;
-use linkcalls::MAX_LEAVES;
 use recordtext::put_records;
+use sharelink::{BotLink, MAX_LEAVES};
 use std::alloc::Global;
 use std::fs::File;
 use std::net::Net;

@@ -6,8 +6,8 @@ use Rattle.procstore.specs.Promises.{Promised}
 use Rattle.protocol.specs.History.{History, start, records_of, Grows}
 use Rattle.protocol.specs.Packets.{AcceptedChange}
 use Rattle.protocol.proofs.Growing.{Grows-refl, Grows-trans}
-use Rattle.linknet.proofs.Moments.{shows}
-use Rattle.botlink.specs.Links.{BotEnd}
+use Rattle.protocol.proofs.Moments.{shows}
+use Rattle.sharelink.specs.BotLinks.{BotEnd}
 use Rattle.botcalls.specs.Dispatching.{told_of}
 use Rattle.botcore.specs.Links.{link_version, link_records}
 use Rattle.botcore.specs.declared.report.End.{End}

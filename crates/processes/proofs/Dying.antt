@@ -9,8 +9,8 @@ use Rattle.bottimers.specs.Held.{add_fault, holds_named}
 use Rattle.bottimers.specs.Seconds.{reading_fault}
 use Rattle.ircline.specs.declared.line.Line.TheVariants.{Message as a_message, Bad as a_bad_line}
 use Rattle.sharewire.specs.declared.packet.Packet.{Packet}
-use Rattle.storage.specs.State.{moment, left_since}
-use Rattle.storage.specs.Laws.{only_now}
+use Rattle.disks.specs.State.{moment, left_since}
+use Rattle.disks.specs.Laws.{only_now}
 use Rattle.procstore.specs.declared.action.Action.{Action}
 use Rattle.procstore.specs.Promises.{Promised}
 use Rattle.procstore.specs.declared.action.Action.TheVariants.{Ask as ask_wished, Timer as timer_wished, Utimer, KillTimer, SendBot, Put}
@@ -20,10 +20,10 @@ use Rattle.bindtable.specs.declared.fault.BindFault.{BindFault}
 use Rattle.bindtable.specs.Tables.{Asked, refusal}
 use Rattle.botjournal.specs.Ledger.{Device}
 use Rattle.protocol.specs.Bots.{Works, Fails}
-use Rattle.linknet.specs.Ends.{End as LinkEnd}
-use Rattle.linkcalls.specs.declared.answer.Answer.{Answer}
-use Rattle.linkcalls.specs.declared.error.LinkFault.{LinkFault}
-use Rattle.botlink.specs.Links.{BotEnd, took, asked, MayLeave, LeavesOwn, Asks}
+use Rattle.protocol.specs.Ends.{End as LinkEnd}
+use Rattle.sharelink.specs.declared.answer.Answer.{Answer}
+use Rattle.sharelink.specs.declared.error.LinkFault.{LinkFault}
+use Rattle.sharelink.specs.BotLinks.{BotEnd, took, asked, MayLeave, LeavesOwn, Asks}
 use Rattle.botcalls.specs.declared.made_call.MadeCall.{MadeCall}
 use Rattle.botcalls.specs.Calls.{Telling as Told}
 use Rattle.botcore.specs.declared.event.Event.{Event}

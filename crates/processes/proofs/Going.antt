@@ -10,12 +10,12 @@ use Rattle.protocol.specs.Network.{posted as link_posted}
 use Rattle.protocol.specs.Network.Event.{Pump as pumps, Compact as compacts, Restart as restarts}
 use Rattle.protocol.specs.History.{History}
 use Rattle.protocol.proofs.Growing.{Grows-trans}
-use Rattle.linkcalls.specs.Calls.{outgoings_of}
-use Rattle.linknet.specs.Ends.{End as LinkEnd, end_received}
-use Rattle.linknet.specs.Nets.{IsMoment, RowFollows}
-use Rattle.linknet.proofs.Goes.{received_goes}
-use Rattle.linkstate.specs.Opening.{ArePutAnew}
-use Rattle.botlink.specs.Links.{BotEnd, did, took, end_meaning, compacted, RenewsEnd}
+use Rattle.sharelink.specs.Calls.{outgoings_of}
+use Rattle.protocol.specs.Ends.{End as LinkEnd, end_received}
+use Rattle.protocol.specs.Nets.{IsMoment, RowFollows}
+use Rattle.protocol.proofs.NetGoes.{received_goes}
+use Rattle.sharelink.specs.StateOpening.{ArePutAnew}
+use Rattle.sharelink.specs.BotLinks.{BotEnd, did, took, end_meaning, compacted, RenewsEnd}
 use Rattle.botcore.specs.declared.event.Event.{Event}
 use Rattle.botcore.specs.declared.event.Event.TheVariants.{Connect, Line, Ask, Pump, Receive, Clock, Bind, Unbind}
 use Rattle.botcore.specs.declared.event.Event.TheVariants.{Compact, Restart}

@@ -9,7 +9,7 @@ use Rattle.protocol.specs.HubRules.{Hub, HubState, Rebase, hub_folded}
 use Rattle.protocol.specs.LeafRules.{Leaf, LeafState, Compact, leaf_folded, no_loose}
 use Rattle.protocol.specs.Network.{hub_event, leaf_event}
 use Rattle.protocol.specs.Network.Event.{Compact as compacts, Restart as restarts}
-use Rattle.linknet.specs.Ends.{End as LinkEnd, AtHub, AtLeaf, end_did}
+use Rattle.protocol.specs.Ends.{End as LinkEnd, AtHub, AtLeaf, end_did}
 
 -- what a call leaves that is the one row or the other stays, where it stays after each of them
 stays_if : {S : Type 0} (again : S → S) (b : Bool) (one other : Row S) → again one.after ≡ one.after

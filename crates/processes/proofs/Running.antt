@@ -11,10 +11,10 @@ use Rattle.protocol.specs.History.{History, start}
 use Rattle.protocol.specs.Claims.{Holds, WasSent}
 use Rattle.protocol.proofs.Growing.{Grows-refl, Grows-trans}
 use Rattle.protocol.proofs.Holding.{holds}
-use Rattle.linknet.specs.Ends.{End as LinkEnd, new_end, end_version, end_records}
-use Rattle.linknet.specs.Nets.{Keeps}
-use Rattle.linknet.proofs.Moments.{begins, keeps}
-use Rattle.botlink.specs.Links.{BotEnd}
+use Rattle.protocol.specs.Ends.{End as LinkEnd, new_end, end_version, end_records}
+use Rattle.protocol.specs.Nets.{Keeps}
+use Rattle.protocol.proofs.Moments.{begins, keeps}
+use Rattle.sharelink.specs.BotLinks.{BotEnd}
 use Rattle.botcore.specs.Bots.{Bot}
 use Rattle.botcore.specs.Links.{link_version}
 use Rattle.botworld.specs.declared.sent.Sent.{Sent}

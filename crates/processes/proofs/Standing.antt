@@ -5,9 +5,9 @@ use Rattle.std.proofs.lemmas.List.{length-set, append-nil}
 use Rattle.protocol.specs.Packets.{Sent as LinkSent}
 use Rattle.protocol.specs.History.{History, Grows}
 use Rattle.protocol.proofs.Growing.{Grows-refl}
-use Rattle.linknet.specs.Ends.{End as LinkEnd}
-use Rattle.linknet.specs.Nets.{IsMoment}
-use Rattle.botlink.specs.Links.{BotEnd}
+use Rattle.protocol.specs.Ends.{End as LinkEnd}
+use Rattle.protocol.specs.Nets.{IsMoment}
+use Rattle.sharelink.specs.BotLinks.{BotEnd}
 use Rattle.botworld.specs.declared.sent.Sent.{Sent}
 use Rattle.botworld.proofs.Lists.{slice_get-set, slice_get-set-same}
 use Rattle.botworld.proofs.BotEnds.{set-same}

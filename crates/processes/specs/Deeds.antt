@@ -3,13 +3,13 @@ use Rattle.std.specs.Prelude.{◌≡◌, ℕ, ◌+◌, List, [], ◌∷◌, ◌+
 use Rattle.userfile.specs.Records.{Records}
 use Rattle.sharewire.specs.declared.packet.Packet.{Packet}
 use Rattle.procstore.specs.Promises.{Promised}
-use Rattle.storage.specs.State.{moment, left_since}
+use Rattle.disks.specs.State.{moment, left_since}
 use Rattle.botjournal.specs.Contents.{meaning}
 use Rattle.protocol.specs.Bots.{Fails}
 use Rattle.protocol.specs.Network.Event.{Pump as pumps, Compact as compacts}
-use Rattle.linknet.specs.Ends.{End}
-use Rattle.botlink.specs.Links.{BotEnd, did, took, AreOf}
-use Rattle.botlink.specs.Opening.{IsKeptOf, IsLeft}
+use Rattle.protocol.specs.Ends.{End}
+use Rattle.sharelink.specs.BotLinks.{BotEnd, did, took, AreOf}
+use Rattle.sharelink.specs.BotOpening.{IsKeptOf, IsLeft}
 use Rattle.botcore.specs.declared.event.Event.{Event}
 use Rattle.botcore.specs.declared.event.Event.TheVariants.{Connect, Line, Ask, Pump, Receive, Clock, Bind, Unbind}
 use Rattle.botcore.specs.declared.event.Event.TheVariants.{Compact, Restart}

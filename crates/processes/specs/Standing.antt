@@ -3,10 +3,10 @@ use Rattle.std.specs.Prelude.{◌≡◌, ◌+◌, ℕ, List, [], ◌∷◌, leng
 use Rattle.protocol.specs.Packets.{Sent as LinkSent}
 use Rattle.protocol.specs.Numbers.{item_at}
 use Rattle.protocol.specs.History.{History, Grows}
-use Rattle.linknet.specs.Ends.{End as LinkEnd}
-use Rattle.linknet.specs.Nets.{IsMoment}
-use Rattle.botlink.specs.Links.{BotEnd}
-use Rattle.botlink.specs.Links.{AreOf}
+use Rattle.protocol.specs.Ends.{End as LinkEnd}
+use Rattle.protocol.specs.Nets.{IsMoment}
+use Rattle.sharelink.specs.BotLinks.{BotEnd}
+use Rattle.sharelink.specs.BotLinks.{AreOf}
 use Rattle.botworld.specs.declared.sent.Sent.{Sent}
 use Rattle.botworld.specs.Network.{sent_as}
 use Rattle.processes.specs.Deeds.{Process, Runs, Ended, Net}

@@ -1,9 +1,9 @@
 // The laws of the deeds of bots in processes of their own.
 ghost use Rattle.std.specs.Prelude.{◌≡◌, ◌⊎◌, ◌≤◌, ◌+◌, ◌++◌, ℕ, suc, true, List, slice_get, Some, Ok};
 ghost use Rattle.protocol.specs.History.{History, start};
-ghost use Rattle.storage.specs.State.{may_leave, moment, left_since};
+ghost use Rattle.disks.specs.State.{may_leave, moment, left_since};
 ghost use Rattle.botjournal.specs.Ledger.{Device};
-ghost use Rattle.botlink.specs.Links.{BotEnd, MayLeave};
+ghost use Rattle.sharelink.specs.BotLinks.{BotEnd, MayLeave};
 ghost use Rattle.botcore.specs.declared.config.Config.{Config};
 ghost use Rattle.botcore.specs.Bots.{Bot};
 ghost use Rattle.botcore.specs.declared.event.Event.{Event};
@@ -16,8 +16,8 @@ ghost use Rattle.processes.specs.Deeds.{shown_version, shown_records};
 ghost use Rattle.processes.specs.Standing.{Stands, Reaches};
 ghost use Rattle.processes.specs.Promises.{Once, calling_of};
 
+use disks::Disk;
 use procstore::Promise;
-use storage::Disk;
 
 /// States what holds of all deeds of bots in processes of their own, over procs that keep the promise `P` and disks of
 /// the type `D`. The call does nothing.

@@ -15,3 +15,7 @@ pub mod Runs
 pub mod Moves
 pub mod Journals
 pub mod Examples
+pub mod NetLists
+pub mod Telling
+pub mod NetGoes
+pub mod Moments

@@ -12,3 +12,5 @@ pub mod Network
 pub mod Standing
 pub mod Claims
 pub mod Journals
+pub mod Ends
+pub mod Nets

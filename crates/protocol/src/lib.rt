@@ -24,8 +24,19 @@
 //! - `Claims`: what the link promises of each moment, each step and each run.
 //! - `Journals`, `Recovery`: what a journal means as a link's state, what a link writes into it, and what a restart
 //!   finds; [`laws_of_link_journals`] says that what was written reads back.
+//!
+//! The ends of a net's links in one list, the hub's first, and what the link's laws say of them. This crate has no code
+//! of a bot.
+//!
+//! `protocol` speaks of a hub and of a list of leaves beside it. A caller that holds all bots of a net in one list
+//! needs the same statements about one kind of end. [`laws_of_ends`] makes them, in words that are defined in `specs/`:
+//!
+//! - `Ends`: an end is the hub's or a leaf's, what it shows, and its calls as rows of one kind.
+//! - `Nets`: when ends and packets are a moment of history, what each moment shows, and what a call leaves.
 #![tactic(auto)]
 
 mod laws;
+mod net_laws;
 
 pub use crate::laws::{laws_of_link_journals, laws_of_the_link};
+pub use crate::net_laws::laws_of_ends;

@@ -1,1 +1,5 @@
 pub mod Lines
+pub mod Values
+pub mod Rests
+pub mod Asks
+pub mod Cuts

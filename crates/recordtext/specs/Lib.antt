@@ -1,2 +1,4 @@
 pub mod Text
 pub mod Users
+pub mod Words
+pub mod Changes

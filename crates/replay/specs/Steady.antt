@@ -1,5 +1,5 @@
 -- A disk that never fails, as contracts see it.
-use Rattle.storage.specs.State.{State}
+use Rattle.disks.specs.State.{State}
 use Rattle.disks.specs.Memory.{Memory, state_of}
 
 -- a disk in memory that has not failed

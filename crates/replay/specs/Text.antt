@@ -5,8 +5,8 @@ use Rattle.ircline.specs.Codes.{code_of as line_code}
 use Rattle.userfile.specs.Codes.{fault_code}
 use Rattle.procstore.specs.declared.reply.Code.{Code}
 use Rattle.procstore.specs.declared.reply.Code.TheVariants.{Zero, One}
-use Rattle.linkcalls.specs.declared.note.Note.{Note as LinkNote}
-use Rattle.linkcalls.specs.declared.note.Note.TheVariants.{Queued, Idle, Sent as request_sent, Accepted, Refused, Served, Old, Repeat, Gap, Early, Applied, Kept, Installed, Compacted, Relayed, Text, Stray, Restarted}
+use Rattle.sharelink.specs.declared.note.Note.{Note as LinkNote}
+use Rattle.sharelink.specs.declared.note.Note.TheVariants.{Queued, Idle, Sent as request_sent, Accepted, Refused, Served, Old, Repeat, Gap, Early, Applied, Kept, Installed, Compacted, Relayed, Text, Stray, Restarted}
 use Rattle.sharewire.specs.declared.packet.Packet.{Packet}
 use Rattle.sharewire.specs.declared.packet.Packet.TheVariants.{Hello, Change as change_packet, Request, Accepted as accepted_packet, Refused as refused_packet, BotText, Part}
 use Rattle.outqueue.specs.Refusals.{code_of as queue_code}

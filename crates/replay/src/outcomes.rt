@@ -13,9 +13,9 @@ use botcalls::MadeCall;
 use botcore::Fault;
 use botworld::{Outcome, Report, Sent, World};
 use bytetext::{NoMemory, Text};
+use disks::Disk;
 use procstore::{Code, Promise, Run};
 use recordtext::{put, put_number};
-use storage::Disk;
 
 /// Appends to `out` the lines of the step with this `outcome`, whose packets `world` holds.
 ///

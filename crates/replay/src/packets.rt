@@ -4,8 +4,8 @@ ghost use Rattle.replay.specs.Text.{packet_text, sent_line};
 
 use botworld::Sent;
 use bytetext::NoMemory;
-use linkcalls::Packet;
 use recordtext::{put, put_counted, put_number};
+use sharelink::Packet;
 
 /// Appends the packet `sent` to `out` under its `number`, as `send K A>B KIND DETAIL`.
 #[tactic(auto, using(std::proofs::Common::append_assoc))]

@@ -4,10 +4,10 @@ ghost use Rattle.replay.specs.Deeds.{net_text};
 
 use botworld::World;
 use bytetext::NoMemory;
+use disks::Disk;
 use procstore::{Promise, Run};
 use recordtext::put_records;
 use std::alloc::Global;
-use storage::Disk;
 
 /// Appends to `out` the version, the users and the bans that `bot` has in `world`, or that no such bot exists.
 pub fn put_shown<P: Promise, D: Disk, B: Run>(

@@ -1,6 +1,6 @@
 // The bots of a script before its first step.
 ghost use Rattle.std.specs.Prelude.{◌≡◌, ◌+◌, ◌≤◌, IfOk};
-ghost use Rattle.linkcalls.specs.declared.TheConstants.{MAX_LEAVES};
+ghost use Rattle.sharelink.specs.declared.TheConstants.{MAX_LEAVES};
 ghost use Rattle.botcore.specs.Bots.{new_bot};
 ghost use Rattle.botworld.specs.Network.{State};
 ghost use Rattle.botworld.specs.Standing.{Stands, beginning};

@@ -1,16 +1,15 @@
 // A disk in memory that never fails.
 ghost use Rattle.std.specs.Prelude.{◌≡◌, ◌<◌, ◌≤◌, ◌+◌, ◌++◌, length, take, drop, IfOk, OnOk};
-ghost use Rattle.storage.specs.Events.{openings};
-ghost use Rattle.storage.specs.State.{IsSettled, may_leave};
-ghost use Rattle.storage.specs.Calls.{Holds, Tears, Elapses, HasCause, Spends, SameBytes, read_count};
+ghost use Rattle.disks.specs.Events.{openings};
+ghost use Rattle.disks.specs.State.{IsSettled, may_leave};
+ghost use Rattle.disks.specs.Calls.{Holds, Tears, Elapses, HasCause, Spends, SameBytes, read_count};
 ghost use Rattle.disks.specs.Memory.{empty};
 ghost use Rattle.replay.specs.Steady.{steady_state};
 
 use bytetext::NoMemory;
-use disks::MemDisk;
+use disks::{Disk, DiskFault, MemDisk};
 use std::alloc::Global;
 use std::marker::Model;
-use storage::{Disk, DiskFault};
 
 /// A disk in memory for which no fault is planned, so it never fails.
 ///

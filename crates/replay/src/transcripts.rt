@@ -4,7 +4,7 @@ ghost use Rattle.script.specs.Reading.{HasFault};
 ghost use Rattle.script.specs.Reasons.{TellsWhy};
 ghost use Rattle.script.specs.declared.reason.Reason.TheVariants as why;
 ghost use Rattle.script.specs.declared.TheConstants.{MAX_SCRIPT};
-ghost use Rattle.linkcalls.specs.declared.TheConstants.{MAX_LEAVES};
+ghost use Rattle.sharelink.specs.declared.TheConstants.{MAX_LEAVES};
 ghost use Rattle.botworld.specs.Standing.{Past, Stands};
 ghost use Rattle.replay.specs.Deeds.{Shows, Makes, command_deeds, deeds_of};
 ghost use Rattle.replay.specs.Doing.{Does, IsDoneByNew};
@@ -16,11 +16,11 @@ use crate::shows::put_shown;
 use crate::starting::{new_world, zone_or_utc};
 use botworld::{Step, World};
 use bytetext::{Failure, NoMemory};
+use disks::Disk;
 use procstore::{ProcStore, Promise, Run};
 use script::{Command, Script, ScriptError};
 use std::alloc::Global;
 use std::slice;
-use storage::Disk;
 
 /// Returns the whole transcript of the script that the bytes `script` spell. The script's binds call the procs of
 /// `store`.

@@ -5,9 +5,9 @@ use botcalls::MadeCall;
 use botcore::{End, Fault, Note};
 use botworld::Report;
 use bytetext::Text;
-use linkcalls::Note as LinkNote;
 use procstore::Code;
 use replay::put_note;
+use sharelink::Note as LinkNote;
 use std::alloc::Global;
 
 // The maximum number of texts of one kind that are shown.

@@ -1,6 +1,6 @@
 // From a script to its picture.
 ghost use Rattle.std.specs.Prelude.{◌≤◌};
-ghost use Rattle.linkcalls.specs.declared.TheConstants.{MAX_LEAVES as most_leaves};
+ghost use Rattle.sharelink.specs.declared.TheConstants.{MAX_LEAVES as most_leaves};
 
 use crate::canvas::{Anchor, Canvas, Point};
 use crate::faults::{PictureError, PictureFault};
@@ -9,11 +9,11 @@ use crate::places::{FIRST_ROW, LINE, place_of, width_of};
 use crate::rows::{Sheet, put_row};
 use botworld::World;
 use bytetext::{Failure, NoMemory};
+use disks::Disk;
 use procstore::{ProcStore, Promise, Run};
 use replay::{new_world, zone_or_utc};
 use script::{Command, Commands, Saying, Script, pieces_of, saying_of};
 use std::alloc::Global;
-use storage::Disk;
 
 /// The maximum number of leaves of a script whose run is drawn.
 pub const MAX_LEAVES: u16 = 8;

@@ -5,12 +5,12 @@ use crate::notes::{REFUSAL_STYLE, is_refusal, put_notes};
 use crate::places::{GAP, LABEL, LINE, place_of};
 use botcore::Note;
 use botworld::{Outcome, Report, Step, World};
-use linkcalls::Note as LinkNote;
+use disks::Disk;
 use procstore::{Promise, Run};
 use replay::put_packet;
+use sharelink::Note as LinkNote;
 use std::alloc::Global;
 use std::slice;
-use storage::Disk;
 
 // The looks of the number in a mark, and of the label of a row and its number.
 const VERSION_STYLE: &[u8] = b"class=\"version\"";

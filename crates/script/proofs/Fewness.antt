@@ -2,7 +2,7 @@
 use Rattle.std.proofs.Common.{◌≡◌, ℕ, ◌≤◌, nat_le, Bool, true, false, if◌then◌else◌, List, [], ◌∷◌, Option, None, Some, arith, subst, refl, ◌==◌}
 use Rattle.std.specs.Option.{option_and_then}
 use Rattle.std.proofs.lemmas.Bool.Decides.{nat_tests}
-use Rattle.linkcalls.specs.declared.TheConstants.{MAX_LEAVES}
+use Rattle.sharelink.specs.declared.TheConstants.{MAX_LEAVES}
 use Rattle.script.specs.declared.command.Command.{Command}
 use Rattle.script.specs.declared.saying.Saying.{Saying}
 use Rattle.script.specs.declared.saying.Saying.TheVariants.{Nothing, Leaves, Zone, Told, Wrong}
@@ -14,7 +14,7 @@ use Rattle.script.specs.declared.verb.Verb.TheVariants.{Deliver as deliver_verb,
 use Rattle.script.specs.Grammar.{few_leaves, counted, zoned, told, two_words, more_words, saying_by_words, saying_of, bot_of}
 use Rattle.bottimers.specs.Zones.{TzText}
 use Rattle.script.specs.Vocabulary.{verb_named}
-use Rattle.scriptwords.specs.Words.{words_of}
+use Rattle.recordtext.specs.Words.{words_of}
 use Rattle.script.specs.Reading.{said, onto_said}
 use Rattle.script.specs.Outcomes.{LinesReadAs}
 use Rattle.script.specs.declared.reading.Script.{Script}

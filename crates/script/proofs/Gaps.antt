@@ -3,7 +3,7 @@ use Rattle.std.proofs.Common.{◌≡◌, ◌∙◌, ℕ, ◌+◌, ◌<◌, ◌�
 use Rattle.std.proofs.lemmas.List.{at_drop_more, at_drop_all}
 use Rattle.std.specs.Borrow.{Bor}
 use Rattle.std.specs.List.{list_any}
-use Rattle.scriptwords.specs.Words.{is_empty}
+use Rattle.recordtext.specs.Words.{is_empty}
 
 -- whether one of the words of a slice is
 abbrev pub any_empty : List (Bor (List ℕ)) → Bool

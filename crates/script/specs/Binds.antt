@@ -3,7 +3,7 @@ use Rattle.std.specs.Prelude.{ℕ, ◌||◌, List, [], ◌∷◌, Option, None, 
 use Rattle.bindtable.specs.declared.bind_kind.BindKind.{BindKind}
 use Rattle.botcore.specs.declared.event.NewBind.{NewBind}
 use Rattle.botcore.specs.declared.event.OldBind.{OldBind}
-use Rattle.scriptwords.specs.Words.{is_empty, rest_of}
+use Rattle.recordtext.specs.Words.{is_empty, rest_of}
 
 -- a bind, given its parts; none if a part is missing
 abbrev pub new_bind_by : Option BindKind → List ℕ → List ℕ → Option (List ℕ) → Option NewBind

@@ -1,7 +1,7 @@
 -- What is wrong with the words of a change.
 use Rattle.std.specs.Prelude.{ℕ, ◌&&◌, ◌==◌, List, [], ◌∷◌, length, Option, None, Some, is_some, if◌then◌else◌}
 use Rattle.flagexpr.specs.Faults.{flags_fault}
-use Rattle.scriptwords.specs.Words.{is_empty, number_below}
+use Rattle.recordtext.specs.Words.{is_empty, number_below}
 use Rattle.script.specs.declared.reason.Reason.{Reason}
 use Rattle.script.specs.declared.reason.Reason.TheVariants.{SpaceAfter, TwoSpaces, Change, ChangeForm, Flags, ChannelFlags, Expiry, Mark}
 use Rattle.script.specs.declared.change_word.ChangeWord.{ChangeWord}

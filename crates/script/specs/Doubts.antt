@@ -2,8 +2,8 @@
 use Rattle.std.specs.Prelude.{ℕ, ◌==◌, nat_le, List, [], ◌∷◌, length, Option, None, Some, if◌then◌else◌}
 use Rattle.bottimers.specs.Zones.{rule_in}
 use Rattle.bindtable.specs.Kinds.{kind_of}
-use Rattle.linkcalls.specs.declared.TheConstants.{MAX_LEAVES}
-use Rattle.scriptwords.specs.Words.{number_below}
+use Rattle.sharelink.specs.declared.TheConstants.{MAX_LEAVES}
+use Rattle.recordtext.specs.Words.{number_below}
 use Rattle.script.specs.declared.reason.Reason.{Reason}
 use Rattle.script.specs.declared.reason.Reason.TheVariants.{SpaceBefore, SpaceAfter, TwoSpaces, Unknown, Form, Seconds, Kind}
 use Rattle.script.specs.declared.reason.Reason.TheVariants.{Leaves as leaves_reason, Zone as zone_reason, Bot as bot_reason, Packet as packet_reason}

@@ -3,7 +3,7 @@ use Rattle.std.specs.Prelude.{ℕ, ◌==◌, nat_le, Bool, false, not, List, [],
 use Rattle.script.specs.declared.command.Command.{Command}
 use Rattle.script.specs.declared.command.Command.TheVariants.{Steps, Show}
 use Rattle.bindtable.specs.Kinds.{kind_of}
-use Rattle.linkcalls.specs.declared.TheConstants.{MAX_LEAVES}
+use Rattle.sharelink.specs.declared.TheConstants.{MAX_LEAVES}
 use Rattle.botcore.specs.declared.event.Event.{Event}
 use Rattle.botcore.specs.declared.event.Event.TheVariants.{Ask, Pump, Compact, Restart, Connect, Bind, Unbind, Clock}
 use Rattle.botworld.specs.declared.step.Step.{Step}
@@ -17,8 +17,8 @@ use Rattle.script.specs.Vocabulary.{verb_named}
 use Rattle.script.specs.declared.saying.Saying.{Saying}
 use Rattle.script.specs.declared.saying.Saying.TheVariants.{Nothing, Leaves, Zone, Told, Wrong}
 use Rattle.bottimers.specs.Zones.{TzText, rule_in}
-use Rattle.scriptwords.specs.Words.{words_of, rest_of, number_below}
-use Rattle.scriptwords.specs.Changes.{change_named}
+use Rattle.recordtext.specs.Words.{words_of, rest_of, number_below}
+use Rattle.recordtext.specs.Changes.{change_named}
 use Rattle.script.specs.Binds.{new_bind_of, old_bind_of}
 use Rattle.script.specs.Lines.{line_steps}
 

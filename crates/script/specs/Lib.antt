@@ -1,5 +1,5 @@
-pub use Rattle.scriptwords.specs.Words
-pub use Rattle.scriptwords.specs.Changes
+pub use Rattle.recordtext.specs.Words
+pub use Rattle.recordtext.specs.Changes
 pub mod Vocabulary
 pub mod Spacing
 pub mod ChangeDoubts

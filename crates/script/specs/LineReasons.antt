@@ -1,6 +1,6 @@
 -- Why a line breaks a rule by itself.
 use Rattle.std.specs.Prelude.{ℕ, ◌==◌, Bool, true, false, List, [], ◌∷◌, Option, None, option_map, if◌then◌else◌, unwrap_or}
-use Rattle.scriptwords.specs.Words.{words_of}
+use Rattle.recordtext.specs.Words.{words_of}
 use Rattle.script.specs.declared.reason.Reason.{Reason}
 use Rattle.script.specs.declared.reason.Reason.TheVariants as reason
 use Rattle.script.specs.Spacing.{ends_reason, spacing_reason}

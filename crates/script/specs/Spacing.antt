@@ -1,7 +1,7 @@
 -- The ends of a line, and the spaces between its words.
 use Rattle.std.specs.Prelude.{ℕ, ◌-◌, ◌==◌, ◌&&◌, not, Bool, List, [], ◌∷◌, length, slice_index, Option, None, Some, if◌then◌else◌}
 use Rattle.std.specs.List.{list_any}
-use Rattle.scriptwords.specs.Words.{is_empty}
+use Rattle.recordtext.specs.Words.{is_empty}
 use Rattle.script.specs.declared.reason.Reason.{Reason}
 use Rattle.script.specs.declared.reason.Reason.TheVariants.{CarriageReturn, ByteOrderMark, SpaceAfter, TwoSpaces, Tab}
 

@@ -5,7 +5,7 @@ ghost use Rattle.script.specs.Binds.{new_bind_of, old_bind_of, new_bind_by, old_
 use bindtable::BindKind;
 use botcore::{NewBind, OldBind};
 use bytetext::{NoMemory, Text};
-use scriptwords::rest_of;
+use recordtext::rest_of;
 use std::alloc::Global;
 
 /// Returns the bind of `kind` that `words` spell as FLAGS PROC MASK.., or `None` if they don't or if `kind` is `None`.

@@ -7,7 +7,7 @@ use crate::change_word::ChangeWord;
 use crate::reason::Reason;
 use crate::spacing::{gap_before, misread};
 use flagexpr::Flags;
-use scriptwords::number;
+use recordtext::number;
 
 /// Returns what is wrong with the change that is called `name` and has these `words`, or `None` if it is right.
 pub fn ask_doubt(name: &[u8], words: &[&[u8]]) -> Option<Reason>

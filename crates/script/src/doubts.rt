@@ -11,8 +11,8 @@ use crate::spacing::{gap_before, misread};
 use crate::verb::Verb;
 use bindtable::BindKind;
 use bottimers::Zone;
-use linkcalls::MAX_LEAVES;
-use scriptwords::{bot_number, number};
+use recordtext::{bot_number, number};
+use sharelink::MAX_LEAVES;
 
 /// Returns what is wrong with a line of these `words`, except for its spacing, or `None` if it is right.
 pub fn doubt_of(words: &[&[u8]]) -> Option<Reason>

@@ -13,7 +13,7 @@
 //! - A TYPE is the word of a kind of binds ([`BindKind`](bindtable::BindKind)): `raw`, `msg`, `msgm`, `notc`, `pub`,
 //!   `pubm`, `join`, `part`, `sign`, `kick`, `nick`, `mode`, `topc`, `bot`, `time` or `cron`.
 //! - A MASK takes the rest of the line.
-//! - A CHANGE is one that `scriptwords` reads, such as `adduser H`.
+//! - A CHANGE is one that `recordtext` reads, such as `adduser H`.
 //!
 //! Reading a script doesn't check everything. The bot checks, when the command is done, whether N is a moment that its
 //! clock can show, whether a bind exists, and whether flags and masks of binds have a good shape. Handles, masks,
@@ -64,7 +64,7 @@ pub use crate::saying::{Saying, saying_of};
 pub use crate::spacing::spacing_reason;
 pub use crate::verb::Verb;
 pub use crate::wrong_line::line_reason;
-pub use scriptwords::{change_of, number, pieces_of, rest_of};
+pub use recordtext::{change_of, number, pieces_of, rest_of};
 
 /// The maximum size of a script in bytes.
 pub const MAX_SCRIPT: usize = 1_048_576;

@@ -13,8 +13,8 @@ use crate::saying::{Saying, saying_of};
 use crate::wrong_line::line_reason;
 use bottimers::Zone;
 use bytetext::{Failure, NoMemory, TryCopy};
-use linkcalls::MAX_LEAVES;
-use scriptwords::pieces_of;
+use recordtext::pieces_of;
+use sharelink::MAX_LEAVES;
 use std::alloc::Global;
 
 /// A script: how many leaves the botnet has, in which zone, and which commands are done.

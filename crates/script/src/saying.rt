@@ -14,8 +14,8 @@ use botcore::Event;
 use bottimers::Zone;
 use botworld::Step;
 use bytetext::NoMemory;
-use linkcalls::MAX_LEAVES;
-use scriptwords::{bot_number, change_named, number, pieces_of, rest_of};
+use recordtext::{bot_number, change_named, number, pieces_of, rest_of};
+use sharelink::MAX_LEAVES;
 use std::alloc::Global;
 
 /// What a line says by itself, whatever lines come before it.

@@ -1,7 +1,7 @@
 // What is wrong with a line's spacing.
 ghost use Rattle.std.specs.Prelude.{◌≡◌, map};
 ghost use Rattle.std.specs.List.{list_any};
-ghost use Rattle.scriptwords.specs.Words.{is_empty};
+ghost use Rattle.recordtext.specs.Words.{is_empty};
 ghost use Rattle.script.specs.Spacing.{ends_in, ends_reason, gap_before, has_mark, is_tab, misread, spacing_reason};
 
 use crate::reason::Reason;

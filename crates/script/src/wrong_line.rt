@@ -7,7 +7,7 @@ use crate::doubts::doubt_of;
 use crate::reason::Reason;
 use crate::spacing::{ends_reason, spacing_reason};
 use bytetext::NoMemory;
-use scriptwords::pieces_of;
+use recordtext::pieces_of;
 use std::alloc::Global;
 
 /// Returns why `line` breaks a rule by itself, or `None` if it is right, is empty or begins with `#`.

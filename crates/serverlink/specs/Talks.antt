@@ -7,8 +7,8 @@ use Rattle.streams.specs.declared.stream.Taken.{Taken}
 use Rattle.streams.specs.declared.stream.Taken.TheVariants.{Bytes as takes_bytes, Nothing, Fault as fails_to_take}
 use Rattle.streams.specs.Calls.{Takes, bytes_taken}
 use Rattle.streams.specs.Transfers.{ReadsPiece}
-use Rattle.upkeep.specs.Lines.{is_line}
-use Rattle.wire.specs.Wires.{ends_hearing, ends_telling}
+use Rattle.serverlink.specs.Lines.{is_line}
+use Rattle.net.specs.Wires.{ends_hearing, ends_telling}
 use Rattle.serverlink.specs.declared.server_wire.TheConstants.{MOST}
 use Rattle.serverlink.specs.declared.session.Session.{Session}
 use Rattle.serverlink.specs.Told.{Talk, ended}

@@ -2,8 +2,8 @@
 use Rattle.std.specs.Prelude.{◌≡◌, ℕ, Bool, true, List, [], ◌∷◌, ◌++◌}
 use Rattle.std.specs.List.{AllByRecursion, flat_map}
 use Rattle.streams.specs.State.{Source, Sink}
-use Rattle.upkeep.specs.Lines.{is_line}
-use Rattle.wire.specs.Wires.{Ledger, Holds}
+use Rattle.serverlink.specs.Lines.{is_line}
+use Rattle.net.specs.Wires.{Ledger, Holds}
 
 -- A connection: its stream, the bytes that were read and not taken yet, the unsent bytes, whether it is over, and
 -- whether its stream may have something to read: false after a read that would block, until the connection is woken.

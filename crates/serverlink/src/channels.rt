@@ -2,11 +2,11 @@
 ghost use Rattle.std.specs.Prelude.{◌<◌, length, IfErr};
 ghost use Rattle.bytetext.specs.declared.moment.TheConstants.{MOMENTS_END};
 
+use crate::seat::Seat;
 use bytetext::{NoMemory, Text, TryCopy};
 use rfccase::same;
 use std::alloc::Global;
 use std::marker::Model;
-use upkeep::Seat;
 
 /// The channels of a bot's configuration, in order, and whether the bot is on each of them. Contracts see the channels.
 #[derive(Drop)]
@@ -16,7 +16,7 @@ pub struct Channels {
 
 impl Model for Channels {
     ghost use Rattle.std.specs.Prelude.{List};
-    ghost use Rattle.upkeep.specs.Seats.{Seated};
+    ghost use Rattle.serverlink.specs.Seats.{Seated};
 
     ghost Value = { List Seated };
 

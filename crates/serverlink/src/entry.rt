@@ -1,7 +1,7 @@
 // What the log says about the server.
 use crate::shown::{Shown, put};
 use crate::why::{Why, why_text};
-use dialling::DialFault;
+use net::DialFault;
 use std::fmt;
 use std::fmt::Display;
 use std::net::SocketAddr;

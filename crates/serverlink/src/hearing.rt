@@ -2,13 +2,14 @@
 ghost use Rattle.std.specs.Prelude.{◌≢◌, ◌<◌, None, OnErr};
 ghost use Rattle.bytetext.specs.declared.moment.TheConstants.{MOMENTS_END};
 
+use crate::cue::{Cue, cue_of, param};
 use crate::entry::{Entry, Fact};
 use crate::log::log;
+use crate::nicks::other_nick;
 use crate::uplink::{Uplink, joined};
 use bytetext::{NoMemory, Text, TryCopy};
 use ircline::{Line, Message};
 use settings::Settings;
-use upkeep::{Cue, cue_of, other_nick, param};
 
 impl Uplink {
     /// Processes `bytes`, which the server sent by second `now`, for the registration and the channels. Notes the

@@ -5,10 +5,10 @@ ghost use Rattle.bytetext.specs.declared.moment.TheConstants.{MOMENTS_END};
 use crate::entry::Entry;
 use crate::log::log;
 use crate::uplink::{Uplink, joined};
+use crate::vigil::Care;
 use crate::why::Why;
 use bytetext::NoMemory;
 use settings::Settings;
-use upkeep::Care;
 
 impl Uplink {
     /// Does what is due at second `now` even if the server says nothing. Pings a silent server, or disconnects it.

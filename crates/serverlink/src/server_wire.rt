@@ -1,15 +1,15 @@
 // A connection over which only lines are sent.
 ghost use Rattle.std.specs.Prelude.{◌≡◌, ◌&&◌, not, true, [], length, IfOk, IfErr, OnOk, OnErr};
-ghost use Rattle.upkeep.specs.Lines.{is_line};
+ghost use Rattle.serverlink.specs.Lines.{is_line};
 ghost use Rattle.serverlink.specs.Told.{ended};
 ghost use Rattle.serverlink.specs.Talks.{Reads, Sends, asks, begun, handed, named, told};
 
+use crate::line::is_line;
 use bytetext::NoMemory;
+use net::{Bounds, Wire};
 use std::alloc::Global;
 use std::marker::Model;
 use streams::{Given, Stream, Taken};
-use upkeep::is_line;
-use wire::{Bounds, Wire};
 
 // The most bytes of what the server said that wait, and the most that wait to be sent.
 const MOST: usize = 65_536;

@@ -3,12 +3,13 @@ ghost use Rattle.std.specs.Prelude.{◌≡◌, ◌&&◌, not, true, List, [], le
 ghost use Rattle.streams.specs.declared.stream.Given.{Given};
 ghost use Rattle.serverlink.specs.Talks.{HearsAll, ReadsAll, SendsOn, handed, named, told};
 
+use crate::pace::Pace;
 use crate::server_wire::ServerWire;
+use crate::vigil::{Care, Vigil};
 use bytetext::{NoMemory, Text};
 use ircline::LineReader;
-use sockets::TcpSocket;
+use net::TcpSocket;
 use std::alloc::Global;
-use upkeep::{Care, Pace, Vigil};
 
 // The most pieces that one turn reads.
 const PIECES: usize = 16;

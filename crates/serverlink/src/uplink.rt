@@ -9,9 +9,8 @@ use crate::own_lines::OwnLines;
 use crate::session::Session;
 use crate::why::Why;
 use bytetext::{NoMemory, TryCopy};
-use dialling::{Dialled, Dialling};
+use net::{Dialled, Dialling, Registry};
 use settings::{Server, Settings};
-use sockets::Registry;
 use std::alloc::Global;
 use std::net::Net;
 
@@ -46,7 +45,7 @@ impl Drop for Uplink {
 impl Uplink {
     ghost use Rattle.std.specs.Prelude.{◌≡◌, ◌==◌, true, Some, [], option_map, OnOk, MatchOption};
     ghost use Rattle.std.specs.List.{list_any};
-    ghost use Rattle.dialling.specs.Dials.{lost};
+    ghost use Rattle.net.specs.Dials.{lost};
     ghost use Rattle.serverlink.specs.Talks.{MayReadAll, MaySend, handed, heard_in, held, told, woken, talk_in};
 
     /// Creates an uplink from `settings` without a connection; an attempt to connect is due at once.

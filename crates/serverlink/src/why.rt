@@ -1,5 +1,5 @@
 // Why the bot disconnects from a server.
-use upkeep::Loss;
+use crate::vigil::Loss;
 
 /// Why the bot disconnects from a server.
 #[derive(Clone, Copy)]

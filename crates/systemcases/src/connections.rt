@@ -2,8 +2,7 @@
 use crate::meeting::{guest_of, heard, hears};
 use crate::seen::{Seen, yes};
 use crate::texts::{given, taken};
-use dialling::{DialFault, Dialling};
-use sockets::{TcpDoor, TcpSocket, Watch};
+use net::{DialFault, Dialling, TcpDoor, TcpSocket, Watch};
 use std::io;
 use std::net::{Ipv4Addr, Net, SocketAddr};
 use streams::Stream;

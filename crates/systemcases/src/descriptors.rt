@@ -1,12 +1,11 @@
 // Descriptors: one that is closed under a disk, and one that belongs to a standard stream.
 use crate::seen::{Seen, word_of, yes};
 use crate::writes::{put, synced};
-use disks::FileDisk;
+use disks::{Disk, FileDisk};
 use std::fs;
 use std::fs::{File, OpenOptions};
 use std::os::fd::AsRawFd;
 use std::rt::Files;
-use storage::Disk;
 
 /// Closes the descriptors of two disks, which then refuse what goes to the file.
 pub fn closed_under<R: AllocGlobal + Files<File = File>>(rt: &R, seen: &mut Seen) {

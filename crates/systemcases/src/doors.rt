@@ -1,8 +1,7 @@
 // Doors over TCP.
 use crate::seen::{Seen, yes};
 use crate::texts::opened;
-use dialling::literal;
-use sockets::{TcpDoor, Watch};
+use net::{TcpDoor, Watch, literal};
 use std::io;
 use std::net::{Ipv4Addr, Net, SocketAddr};
 

@@ -1,5 +1,5 @@
 // Waiting for one another.
-use sockets::{Socket, TcpDoor, TcpSocket, Watch};
+use net::{Socket, TcpDoor, TcpSocket, Watch};
 use std::io;
 use std::io::{Read, Write};
 use streams::{Given, Stream};

@@ -2,7 +2,7 @@
 use crate::meeting::hears;
 use crate::seen::{Seen, yes};
 use crate::texts::{opened, taken};
-use sockets::{UnixDoor, UnixSocket, Watch};
+use net::{UnixDoor, UnixSocket, Watch};
 use std::io::ErrorKind;
 use std::net::Net;
 use std::rt::Files;

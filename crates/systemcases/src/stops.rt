@@ -1,15 +1,13 @@
 // Making a journal, with stops.
 ghost use Rattle.std.specs.Prelude.{◌<◌};
-ghost use Rattle.storage.specs.State.{IsSettled};
+ghost use Rattle.disks.specs.State.{IsSettled};
 ghost use Rattle.disks.specs.Memory.{state_of};
 
 use crate::LAYOUT;
 use crate::seen::Seen;
-use bytejournal::{Disks, Journal};
-use disks::{MemDisk, Tear};
-use journalstart::was_never_made;
+use bytejournal::{Disks, Journal, was_never_made};
+use disks::{Disk, MemDisk, Tear};
 use std::alloc::Global;
-use storage::Disk;
 
 /// What a crash leaves of the bytes that were not kept.
 const TEARS: [Tear; 5] = [

@@ -1,5 +1,5 @@
 // Answers as words.
-use sockets::DoorFault;
+use net::DoorFault;
 use streams::{Given, Taken};
 
 /// Returns the word for the `answer` of a stream to a read.

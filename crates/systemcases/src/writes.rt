@@ -1,12 +1,11 @@
 // What is written, as another opening of the file reads it.
 use crate::seen::{Seen, done, yes};
-use disks::FileDisk;
+use disks::{Disk, FileDisk};
 use std::fs;
 use std::fs::File;
 use std::os::unix::fs::MetadataExt;
 use std::rt::Files;
 use std::time::UNIX_EPOCH;
-use storage::Disk;
 
 /// Writes on a disk twice, and opens it again.
 pub fn writes<R: AllocGlobal + Files<File = File>>(rt: &R, seen: &mut Seen) {

@@ -1,17 +1,17 @@
 // One turn of a bot.
 ghost use Rattle.std.specs.Prelude.{◌≡◌, [], OnOk, OnErr};
 ghost use Rattle.std.specs.List.{AllByRecursion};
-ghost use Rattle.linkcalls.specs.Shapes.{HasGoodRecords};
+ghost use Rattle.sharelink.specs.Shapes.{HasGoodRecords};
 ghost use Rattle.turns.specs.Turns.{Turns, IsTold, IsTurnEvent, Steps, StepsFirst, Stops, AllGood};
 
 use crate::events::events_of;
 use botcore::{Bot, End, Event, Report};
 use bytetext::{NoMemory, Seq};
+use disks::Disk;
 use ircline::LineReader;
 use procstore::{ProcStore, Promise, Run};
 use sharewire::Packet;
 use std::alloc::Global;
-use storage::Disk;
 use userfile::Change;
 
 /// What a bot hears in one turn.
@@ -21,7 +21,7 @@ pub struct Heard {
     pub connected: bool,
     /// What the server sent.
     pub bytes: Vec<u8>,
-    /// The packets of the other bots, in the order in which the bot takes them, as `Inbox::take` of the crate `inbox`
+    /// The packets of the other bots, in the order in which the bot takes them, as `Inbox::take` of the crate `peers`
     /// returns them. The records of a part are well-formed, as those of a decoded packet are.
     pub packets: Vec<Packet>,
     /// The changes that commands ask for, in order. The report of each has its note.

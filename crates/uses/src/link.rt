@@ -2,9 +2,9 @@
 ghost use Rattle.std.specs.Prelude.{◌≤◌};
 
 use anyhow::Error;
-use botlink::BotLink;
 use bytetext::Text;
 use disks::MemDisk;
+use sharelink::BotLink;
 use std::alloc::Global;
 use userfile::Change;
 

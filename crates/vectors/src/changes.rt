@@ -25,7 +25,7 @@ fn make(
     userfile: &mut Userfile,
     word: &[u8],
 ) -> Result<Option<ChangeFault>, CaseError> {
-    let Some(change) = scriptwords::change_of(alloc, word)? else {
+    let Some(change) = recordtext::change_of(alloc, word)? else {
         return Err(BAD_WORDS);
     };
     match userfile.apply(alloc, &change) {

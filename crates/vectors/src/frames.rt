@@ -149,7 +149,7 @@ fn bot_text(from: &Text, to: &Text, text: Text) -> Result<Packet, CaseError>
 fn change_of(alloc: Global, word: &Text) -> Result<Change, CaseError>
     ensures { IfOk result (λ change. bad_shape change ≡ None) }
 {
-    let Some(change) = scriptwords::change_of(alloc, word.as_bytes())? else {
+    let Some(change) = recordtext::change_of(alloc, word.as_bytes())? else {
         return Err(BAD_WORDS);
     };
     match shape(&change) {

@@ -1,7 +1,7 @@
 // Codes, and what the sides of a connection hear before its first frame.
 use bytetext::Text;
 use caselines::{BAD_WORDS, CaseError, Sink, number};
-use handshake::{
+use peers::{
     HandshakeFault, HubHears, HubSide, Key, LeafHears, LeafSide, NetNumber, Nonce, is_late,
 };
 

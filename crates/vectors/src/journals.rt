@@ -1,6 +1,6 @@
 // A journal on two disks in memory, whose faults are planned.
 ghost use Rattle.std.specs.Prelude.{◌≡◌, ◌<◌, ◌^◌, true, length, Ok, IfOk, OnOk, IfSome};
-ghost use Rattle.storage.specs.State.{IsSettled};
+ghost use Rattle.disks.specs.State.{IsSettled};
 ghost use Rattle.disks.specs.Memory.{state_of};
 ghost use Rattle.bytejournal.specs.Journal.{IsSound};
 

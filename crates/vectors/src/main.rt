@@ -97,10 +97,10 @@
 //! number in front. A zone that is not UTC is written as what its clock shows at midnight UTC of 1 January and of 1
 //! July 2026.
 //!
-//! The steps of `redial` are `lost/NOW` and `good/NOW`: a connection was lost at NOW that was not good, or that was
+//! The steps of `net` are `lost/NOW` and `good/NOW`: a connection was lost at NOW that was not good, or that was
 //! good.
 //!
-//! `wire` is a connection whose bounds are HEARD and UNSENT, over a scripted stream. Each of its steps is one word.
+//! `net` is a connection whose bounds are HEARD and UNSENT, over a scripted stream. Each of its steps is one word.
 //! `give TEXT`, `end`, `stall` and `fault` read while the stream gives this, and answer how many bytes were heard, the
 //! stream's answer, or `full`; `heard` answers what was heard and takes it. `tell TEXT` answers `told` or `too much`.
 //! `take N`, `refuse` and `break` send while the stream takes N bytes, takes none, or fails, and answer how many bytes

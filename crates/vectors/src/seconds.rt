@@ -1,8 +1,7 @@
 // The seconds that clocks read as, and when a try is due.
 use bytetext::{MOMENTS_END, Text};
 use caselines::{BAD_NUMBER, BAD_WORDS, CaseError, Sink, cut, number};
-use redial::{FIRST_WAIT, Redial};
-use timeline::Timeline;
+use net::{FIRST_WAIT, Redial, Timeline};
 
 /// Answers `timeline MARK WALL/MONOTONIC..` on `out`: the reading of each pair of clocks.
 pub fn timeline(words: &[Text], out: &mut Sink) -> Result<(), CaseError> {

@@ -13,7 +13,7 @@ pub fn spell(alloc: Global, words: &[Text], out: &mut Sink) -> Result<(), CaseEr
     let [word] = words else {
         return Err(BAD_WORDS);
     };
-    let Some(change) = scriptwords::change_of(alloc, word.as_bytes())? else {
+    let Some(change) = recordtext::change_of(alloc, word.as_bytes())? else {
         return Err(BAD_WORDS);
     };
     spell_change(alloc, &change, out)

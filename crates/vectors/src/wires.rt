@@ -2,9 +2,9 @@
 use crate::puppet::{Puppet, Silence};
 use bytetext::Text;
 use caselines::{BAD_WORDS, CaseError, Sink, cut, number};
+use net::{Bounds, Wire};
 use std::alloc::Global;
 use streams::{Given, Taken};
-use wire::{Bounds, Wire};
 
 /// Answers `wire HEARD UNSENT STEP..` on `out`: what each step of a connection answers, with ` ; ` between.
 pub fn wire(alloc: Global, words: &[Text], out: &mut Sink) -> Result<(), CaseError> {

@@ -1,5 +1,5 @@
 use Rattle.std.proofs.Common.{◌≡◌, ◌+◌, ◌++◌, [], ◌∷◌, cond, is_ok, refl, arith, ap, length, vec_len, List, ◌∙◌}
-use Rattle.linkcalls.specs.declared.answer.Outgoing.{Outgoing}
+use Rattle.sharelink.specs.declared.answer.Outgoing.{Outgoing}
 use Rattle.botworld.specs.Net.{posted}
 use Rattle.botworld.proofs.Growing.{posted-next, posted-end}
 use Rattle.botworld.proofs.world.send_all.Goals as goal

@@ -1,6 +1,6 @@
 use Rattle.std.proofs.Common.{◌≡◌, map, drop}
 use Rattle.std.specs.List.{list_any}
-use Rattle.scriptwords.specs.Words.{is_empty}
+use Rattle.recordtext.specs.Words.{is_empty}
 use Rattle.script.proofs.spacing.has_gap.Given as goal
 
 -- none of the words so far is empty

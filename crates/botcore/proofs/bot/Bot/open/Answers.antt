@@ -1,6 +1,6 @@
 use Rattle.std.proofs.Common.{inl, refl}
 use Rattle.botjournal.specs.Contents.{meaning}
-use Rattle.botlink.specs.Opening.{IsLeft}
+use Rattle.sharelink.specs.BotOpening.{IsLeft}
 use Rattle.botcore.proofs.MomentLemmas.{still_leaves}
 use Rattle.botcore.proofs.bot.Bot.open.Goals as goal
 

@@ -1,10 +1,10 @@
 use Rattle.std.proofs.Common.{◌+◌, Err, refl, subst}
 use Rattle.protocol.specs.Bots.{Works}
-use Rattle.botlink.specs.Links.{took}
+use Rattle.sharelink.specs.BotLinks.{took}
 use Rattle.botcore.specs.Bots.{Bot}
 use Rattle.botcore.specs.Happenings.{saying_of}
 use Rattle.botcore.specs.Steps.{TakesPacket}
-use Rattle.linkcalls.specs.declared.TheConstants.{MAX_LEAVES}
+use Rattle.sharelink.specs.declared.TheConstants.{MAX_LEAVES}
 use Rattle.botcore.proofs.GoodLemmas.{good_reported, packet_good}
 use Rattle.botcore.proofs.PacketLemmas.{answered, failed}
 use Rattle.botcore.proofs.bot.Bot.receive.Goals as goal

@@ -1,6 +1,6 @@
 use Rattle.std.proofs.Common.{IsOk, sym, subst}
 use Rattle.sharewire.specs.declared.packet.Packet.{Packet}
-use Rattle.linkcalls.specs.Shapes.{HasGoodRecords}
+use Rattle.sharelink.specs.Shapes.{HasGoodRecords}
 use Rattle.botcore.specs.declared.event.Event.{Event}
 use Rattle.botcore.specs.Steps.{IsGoodEvent}
 use Rattle.botworld.specs.declared.step.Step.{Step}

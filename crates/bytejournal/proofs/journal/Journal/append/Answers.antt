@@ -1,6 +1,6 @@
 use Rattle.std.proofs.Common.{List, ℕ, length, sym, ◌∙◌, ap, subst}
 use Rattle.std.specs.Prelude.{option_map}
-use Rattle.storage.specs.State.{LeavesOnly}
+use Rattle.disks.specs.State.{LeavesOnly}
 use Rattle.bytejournal.specs.Gates.{with_gate, IsHalfWritten}
 use Rattle.bytejournal.specs.Meaning.{added}
 use Rattle.bytejournal.specs.Journal.{HoldsOne, contents_of}

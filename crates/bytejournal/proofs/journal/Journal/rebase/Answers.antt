@@ -1,6 +1,6 @@
 use Rattle.std.proofs.Common.{◌<◌, ◌+◌, ◌^◌, true, not, refl, List, ℕ, length, sym, ◌∙◌, ap, subst, rules}
 use Rattle.std.specs.Prelude.{option_map}
-use Rattle.storage.specs.State.{LeavesOnly}
+use Rattle.disks.specs.State.{LeavesOnly}
 use Rattle.bytejournal.specs.Gates.{with_gate, closed_first, IsHalfReplaced}
 use Rattle.bytejournal.specs.Meaning.{rebased, meaning}
 use Rattle.bytejournal.specs.Journal.{IsEither, HoldsOne, EachMoment, contents_of, IsAtRest}

@@ -1,6 +1,6 @@
 use Rattle.std.proofs.Common.{ℕ, List, sym, ◌∙◌, ap, subst}
-use Rattle.storage.specs.Events.{Images}
-use Rattle.storage.specs.Laws.{images_seen}
+use Rattle.disks.specs.Events.{Images}
+use Rattle.disks.specs.Laws.{images_seen}
 use Rattle.disks.specs.Files.{FileState}
 use Rattle.disks.proofs.file_disk.FileDiskDisk.reopen.Goals as goal
 

@@ -1,5 +1,5 @@
 use Rattle.std.proofs.Common.{[], ◌∷◌, refl, sym, ap}
-use Rattle.storage.specs.Events.{event_of}
+use Rattle.disks.specs.Events.{event_of}
 use Rattle.disks.specs.Memory.{Memory}
 use Rattle.disks.proofs.Noted.{synced}
 use Rattle.disks.proofs.mem_disk.MemDiskDisk.sync.Goals as goal

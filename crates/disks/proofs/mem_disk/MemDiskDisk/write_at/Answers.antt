@@ -1,6 +1,6 @@
 use Rattle.std.proofs.Common.{◌≡◌, ◌≤◌, ◌+◌, ℕ, List, min, [], ◌∷◌, length, refl, sym, ap, subst, arith}
 use Rattle.std.specs.Vec.{vec_capacity}
-use Rattle.storage.specs.Events.{event_of, Torn, Images, Event}
+use Rattle.disks.specs.Events.{event_of, Torn, Images, Event}
 use Rattle.disks.specs.Memory.{Memory}
 use Rattle.disks.proofs.Noted.{torn_holds, torn_none, tears, kept}
 use Rattle.disks.proofs.mem_disk.MemDiskDisk.write_at.Goals as goal

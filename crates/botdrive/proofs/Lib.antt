@@ -1,3 +1,0 @@
-pub mod DriveLemmas
-pub mod DrivingLemmas
-pub mod PacketLemmas

@@ -1,2 +1,0 @@
-pub mod Driving
-pub mod Outboxes

@@ -1,3 +1,0 @@
-pub mod OpenLaws
-pub mod LeftLaws
-pub mod CallLaws

@@ -1,2 +1,0 @@
-pub mod JoiningLemmas
-pub mod SpeakerLemmas

@@ -1,3 +1,0 @@
-pub mod Dials
-pub mod Addresses
-pub mod Turns

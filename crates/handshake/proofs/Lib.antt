@@ -1,2 +1,0 @@
-mod CodeLemmas
-mod KeyLemmas

@@ -1,2 +1,0 @@
-pub mod Speakers
-pub mod Waiting

@@ -1,5 +1,0 @@
-mod LinkLaws
-mod PumpLaws
-mod InstallLaws
-mod PartLaws
-mod TogetherLaws

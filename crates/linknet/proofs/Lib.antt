@@ -1,4 +1,0 @@
-pub mod Lists
-pub mod Telling
-pub mod Goes
-pub mod Moments

@@ -1,9 +1,0 @@
-pub mod Lists
-pub mod Folding
-pub mod FoundLaws
-pub mod Goodness
-pub mod KeptReplies
-pub mod HubStates
-pub mod EndStates
-pub mod KeptLaws
-pub mod AnewLaws

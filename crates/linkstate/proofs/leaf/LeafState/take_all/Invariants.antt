@@ -1,9 +1,0 @@
-use Rattle.std.proofs.Common.{◌≡◌, drop, Some}
-use Rattle.protocol.specs.LeafRules.{leaf_folded}
-use Rattle.protocol.specs.Journals.{reads, leaf_record}
-use Rattle.linkstate.proofs.leaf.LeafState.take_all.Given as goal
-
--- those that are left make of the state what all make of the first one
-abbrev pub invariant-loop-entry : goal.invariant-loop-entry
-invariant-loop-entry l =
-    reads leaf_record leaf_folded (Some l.self) (drop l.entry-index l.entries) ≡ reads leaf_record leaf_folded (Some l.fn.self) l.entries

@@ -1,5 +1,0 @@
-pub mod Words
-pub mod Grammar
-pub mod Heard
-pub mod Scripts
-pub mod BotTurns

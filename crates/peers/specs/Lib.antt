@@ -1,0 +1,15 @@
+pub mod Given
+pub mod Streams
+pub mod Hmac
+pub mod Digits
+pub mod Nets
+pub mod Lines
+pub mod Reading
+pub mod Sides
+pub mod PacketSpeakers
+pub mod Waiting
+pub mod Hellos
+pub mod Joining
+pub mod Linked
+pub mod Speakers
+pub mod Tells

@@ -1,0 +1,52 @@
+// What the log says about the connections between bots.
+use crate::gone::Gone;
+use bstr::ByteSlice;
+use net::DialFault;
+use std::fmt;
+use std::fmt::Display;
+use std::net::SocketAddr;
+
+// An event that is logged.
+#[derive(Drop)]
+pub(crate) enum Entry<'a> {
+    // A leaf is linked.
+    Joined(u16),
+    // A leaf is disconnected.
+    LeafGone(u16, Gone),
+    // A guest is disconnected: a connection that has not shown a code.
+    GuestGone(Gone),
+    // The leaf begins to connect to the hub.
+    Dialled(&'a [u8], SocketAddr),
+    // An attempt to connect to the hub could not begin; the second at which the next one is due.
+    NotDialled(&'a [u8], DialFault, u64),
+    // The hub is linked.
+    Linked,
+    // The hub is disconnected; the second at which the next attempt is due.
+    HubGone(Gone, u64),
+}
+
+impl Display for Entry<'_> {
+    fn fmt<W: fmt::Write>(&self, f: &mut fmt::Formatter<W>) -> fmt::Result {
+        match *self {
+            Entry::Joined(leaf) => write!(f, "leaf {leaf} linked"),
+            Entry::LeafGone(leaf, gone) => write!(f, "leaf {leaf} gone: {gone}"),
+            Entry::GuestGone(gone) => write!(f, "a connection let go: {gone}"),
+            Entry::Dialled(host, address) => {
+                write!(
+                    f,
+                    "connecting to the hub {} at {address}",
+                    host.escape_bytes()
+                )
+            }
+            Entry::NotDialled(host, fault, due) => {
+                write!(
+                    f,
+                    "not connecting to the hub {}: {fault}; next try at {due}",
+                    host.escape_bytes()
+                )
+            }
+            Entry::Linked => f.write_str("linked to the hub"),
+            Entry::HubGone(gone, due) => write!(f, "hub lost: {gone}; next try at {due}"),
+        }
+    }
+}

@@ -1,0 +1,141 @@
+// One connection of a leaf to its hub.
+ghost use Rattle.std.specs.Prelude.{◌≡◌, IfOk, OnOk, OnErr};
+ghost use Rattle.std.specs.List.{AllByRecursion};
+ghost use Rattle.sharewire.specs.Frames.{CanBeWritten};
+ghost use Rattle.peers.specs.declared.meeting.Stage.TheVariants.{Linked};
+ghost use Rattle.peers.specs.Tells.{Tells};
+ghost use Rattle.sharelink.specs.Shapes.{HasGoodRecords};
+
+use crate::frame_reader::FrameReader;
+use crate::frame_writing::frame_of;
+use crate::gone::Gone;
+use crate::handshake_fault::HandshakeFault;
+use crate::late::is_late;
+use crate::leaf_side::{LeafHears, LeafSide};
+use crate::link_wire::LinkWire;
+use crate::net_number::NetNumber;
+use bytetext::NoMemory;
+use sharewire::Packet;
+use std::alloc::Global;
+
+// The stage of a connection to the hub.
+#[derive(Clone, Copy)]
+pub(crate) enum Stage {
+    // The hub has still to show its code.
+    Meets,
+    // The hub has shown its code, and belongs to this net.
+    Knows(NetNumber),
+    // Packets go both ways.
+    Linked,
+}
+
+// A connection to the hub.
+pub(crate) struct Hub {
+    pub(crate) wire: LinkWire,
+    side: LeafSide,
+    reader: FrameReader,
+    pub(crate) stage: Stage,
+    // The second at which the connection began.
+    began: u64,
+}
+
+// Written by hand, so that the drop is proved once, and not in each function that drops one.
+impl Drop for Hub {
+    fn drop(self) {
+        let Hub {
+            wire: _,
+            side: _,
+            reader: _,
+            stage: _,
+            began: _,
+        } = self;
+    }
+}
+
+impl Hub {
+    // A connection that begins at second `now`. Allocates nothing.
+    pub(crate) fn new(alloc: Global, wire: LinkWire, side: LeafSide, now: u64) -> Hub {
+        Hub {
+            wire,
+            side,
+            reader: FrameReader::new(alloc),
+            stage: Stage::Meets,
+            began: now,
+        }
+    }
+
+    // Reads from the hub before its first frame, and answers it. Returns whether a byte arrived.
+    pub(crate) fn meet(&mut self, now: u64) -> Result<bool, NoMemory> {
+        let came = self.wire.read()?;
+        for _line in 0..2 {
+            if !self.meet_line(now)? {
+                break;
+            }
+        }
+        Ok(came)
+    }
+
+    // Reads a line of the hub's. Returns whether there may be another.
+    fn meet_line(&mut self, now: u64) -> Result<bool, NoMemory> {
+        match self.side.hear(self.wire.heard()) {
+            LeafHears::More => {
+                if is_late(self.began, now) {
+                    self.wire.end(Gone::Handshake(HandshakeFault::TooLate));
+                }
+                Ok(false)
+            }
+            LeafHears::Answers { used, line } => {
+                self.wire.take_front(used);
+                self.wire.tell(line.as_bytes())?;
+                Ok(true)
+            }
+            LeafHears::Joined { used, net } => {
+                self.wire.take_front(used);
+                self.stage = Stage::Knows(net);
+                Ok(false)
+            }
+            LeafHears::Refused(fault) => {
+                self.wire.end(Gone::Handshake(fault));
+                Ok(false)
+            }
+        }
+    }
+
+    // Reads a piece, and returns the packets that are whole now. Bytes that are no frames end the connection.
+    pub(crate) fn hear(&mut self, alloc: Global) -> Result<Vec<Packet>, NoMemory>
+        ensures good { IfOk result (λ packets. AllByRecursion HasGoodRecords packets.items) }
+    {
+        let _came = self.wire.read()?;
+        let bytes = self.wire.take_heard(alloc);
+        if bytes.is_empty() {
+            return Ok(Vec::new(alloc));
+        }
+        let feed = self.reader.feed(alloc, bytes.as_slice())?;
+        if let Some(fault) = feed.fault {
+            self.wire.end(Gone::NoFrames(fault));
+        }
+        Ok(feed.packets.into_vec())
+    }
+
+    // Whether the hub may have more to read at once.
+    pub(crate) fn is_busy(&self) -> bool {
+        self.wire.may_give() && self.wire.gone().is_none()
+    }
+
+    // Queues a packet for the hub, as its frame, if the hub is linked. A packet that has no frame is lost.
+    pub(crate) fn tell(&mut self, alloc: Global, packet: &Packet) -> Result<(), NoMemory>
+        requires good { HasGoodRecords packet.now }
+        ensures memory { OnErr result (self.old.stage ≡ Linked) }
+        ensures frame { OnErr result (CanBeWritten packet.now) }
+        ensures told { OnOk result (self.old.stage ≡ Linked → Tells packet.now self.old.wire self.new.wire) }
+    {
+        match self.stage {
+            Stage::Linked => {}
+            Stage::Meets | Stage::Knows(_) => return Ok(()),
+        }
+        match frame_of(alloc, packet)? {
+            Some(frame) => self.wire.tell(frame.as_slice()),
+            None => Ok(()),
+        }
+    }
+}

@@ -1,0 +1,113 @@
+// The queue of one stream.
+ghost use Rattle.std.specs.Prelude.{◌≡◌, ◌≤◌, ◌+◌, ◌++◌, take, drop, vec_len, vec_capacity};
+ghost use Rattle.std.specs.VecDeque.{deque_len};
+
+use bytetext::NoMemory;
+use sharewire::Packet;
+use std::alloc::Global;
+use std::collections::VecDeque;
+use std::marker::Model;
+
+/// The most packets that one turn takes from all streams together.
+pub const MAX_PACKETS: usize = 256;
+
+/// The most packets that one turn takes from one stream.
+pub const MAX_OF_STREAM: usize = 64;
+
+// The queued packets of one stream, the oldest first.
+#[derive(Drop)]
+pub(crate) struct Queue {
+    packets: VecDeque<Packet>,
+}
+
+impl Model for Queue {
+    ghost use Rattle.std.specs.Prelude.{List};
+    ghost use Rattle.std.specs.List.{AllByRecursion};
+    ghost use Rattle.sharewire.specs.declared.packet.Packet.{Packet};
+    ghost use Rattle.sharelink.specs.Shapes.{HasGoodRecords};
+
+    ghost Value = { List Packet };
+
+    ghost view = { λ q. q.packets.items };
+
+    // All queued packets have records of good shape.
+    ghost invariant = { λ q. AllByRecursion HasGoodRecords q.packets.items };
+}
+
+impl Queue {
+    ghost use Rattle.std.specs.Prelude.{◌≡◌, ◌<◌, ◌≤◌, ◌++◌, [], length, take, drop, OnOk, OnErr, vec_len, vec_capacity};
+    ghost use Rattle.std.specs.List.{AllByRecursion};
+    ghost use Rattle.sharelink.specs.Shapes.{HasGoodRecords};
+    ghost use Rattle.peers.specs.declared.queue.TheConstants.{MAX_PACKETS};
+    ghost use Rattle.peers.specs.Waiting.{share};
+
+    // An empty queue. Allocates nothing.
+    pub(crate) fn new(alloc: Global) -> Queue
+        ensures { result ≡ [] }
+    {
+        Queue {
+            packets: VecDeque::new(alloc),
+        }
+    }
+
+    // The number of queued packets.
+    pub(crate) fn len(&self) -> usize
+        ensures { result ≡ length self.now }
+    {
+        self.packets.len()
+    }
+
+    // Appends all packets, or none on an error.
+    pub(crate) fn put(&mut self, packets: Vec<Packet>) -> Result<(), NoMemory>
+        requires good { AllByRecursion HasGoodRecords packets.items }
+        ensures ok { OnOk result (self.new ≡ self.old ++ packets.items) }
+        ensures err { OnErr result (self.new ≡ self.old) }
+        ensures memory { OnErr result (0 < vec_len packets) }
+    {
+        if packets.is_empty() {
+            return Ok(());
+        }
+        let mut packets = VecDeque::from(packets);
+        self.packets.append(&mut packets)?;
+        Ok(())
+    }
+
+    // Drops all queued packets.
+    pub(crate) fn clear(&mut self)
+        ensures { self.new ≡ [] }
+    {
+        self.packets.clear();
+    }
+
+    // Moves this stream's share to the end of `packets`. Allocates nothing.
+    pub(crate) fn give(&mut self, packets: &mut Vec<Packet>)
+        requires few { vec_len packets.old ≤ MAX_PACKETS }
+        requires room { MAX_PACKETS ≤ vec_capacity packets.old }
+        ensures given { packets.new.items ≡ packets.old.items ++ take (share packets.old.items self.old) self.old }
+        ensures left { self.new ≡ drop (share packets.old.items self.old) self.old }
+        ensures few { vec_len packets.new ≤ MAX_PACKETS }
+        ensures room { vec_capacity packets.new ≡ vec_capacity packets.old }
+        ensures good { AllByRecursion HasGoodRecords packets.old.items → AllByRecursion HasGoodRecords packets.new.items }
+    {
+        let share = MAX_OF_STREAM
+            .min(self.packets.len())
+            .min(MAX_PACKETS - packets.len());
+        move_first(&mut self.packets, share, packets);
+    }
+}
+
+// Moves the `count` oldest packets of `queue` to the end of `packets`. Allocates nothing.
+fn move_first(queue: &mut VecDeque<Packet>, count: usize, packets: &mut Vec<Packet>)
+    requires count { count ≤ deque_len queue.old }
+    requires room { vec_len packets.old + count ≤ vec_capacity packets.old }
+    ensures given { packets.new.items ≡ packets.old.items ++ take count queue.old.items }
+    ensures left { queue.new.items ≡ drop count queue.old.items }
+    ensures length { vec_len packets.new ≡ vec_len packets.old + count }
+    ensures room { vec_capacity packets.new ≡ vec_capacity packets.old }
+{
+    for _packet in 0..count {
+        if let Some(packet) = queue.pop_front() {
+            packets.push_reserved(packet);
+        }
+    }
+}

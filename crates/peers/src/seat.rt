@@ -1,0 +1,136 @@
+// A linked leaf of the hub.
+ghost use Rattle.std.specs.Prelude.{◌≡◌, true, IfOk, IsSome, OnOk, OnErr};
+ghost use Rattle.std.specs.List.{AllByRecursion, list_all};
+ghost use Rattle.sharewire.specs.Frames.{CanBeWritten};
+ghost use Rattle.peers.specs.Speakers.{is_own};
+ghost use Rattle.peers.specs.Tells.{Tells, TellsSeat};
+ghost use Rattle.sharelink.specs.Shapes.{HasGoodRecords};
+
+use crate::frame_reader::FrameReader;
+use crate::frame_writing::frame_of;
+use crate::gone::Gone;
+use crate::link_wire::LinkWire;
+use crate::speaker::is_said_by;
+use bytetext::NoMemory;
+use sharewire::Packet;
+use std::alloc::Global;
+
+// A linked leaf.
+pub(crate) struct Seat {
+    pub(crate) wire: LinkWire,
+    reader: FrameReader,
+    leaf: u16,
+    // The version in its last hello.
+    pub(crate) version: u32,
+    // Which of the hub's tokens names it.
+    pub(crate) slot: usize,
+}
+
+// Written by hand, so that the drop is proved once, and not in each function that drops one.
+impl Drop for Seat {
+    fn drop(self) {
+        let Seat {
+            wire: _,
+            reader: _,
+            leaf: _,
+            version: _,
+            slot: _,
+        } = self;
+    }
+}
+
+impl Seat {
+    // A leaf that has shown its code on this connection. Allocates nothing.
+    pub(crate) fn new(alloc: Global, wire: LinkWire, leaf: u16, slot: usize) -> Seat {
+        Seat {
+            wire,
+            reader: FrameReader::new(alloc),
+            leaf,
+            version: 0,
+            slot,
+        }
+    }
+
+    // Reads a piece, unless too much is unsent, and returns the packets that are whole now. Bytes that are no frames,
+    // or a packet that this leaf may not send, end the connection; after such a packet it returns none.
+    pub(crate) fn hear(&mut self, alloc: Global) -> Result<Vec<Packet>, NoMemory>
+        ensures good { IfOk result (λ packets. AllByRecursion HasGoodRecords packets.items) }
+        // A leaf speaks for itself alone.
+        ensures own { IfOk result (λ packets. list_all (is_own self.old.leaf) packets.items ≡ true) }
+    {
+        if self.wire.is_slow() || self.wire.gone().is_some() {
+            return Ok(Vec::new(alloc));
+        }
+        let _came = self.wire.read()?;
+        let bytes = self.wire.take_heard(alloc);
+        if bytes.is_empty() {
+            return Ok(Vec::new(alloc));
+        }
+        let feed = self.reader.feed(alloc, bytes.as_slice())?;
+        if let Some(fault) = feed.fault {
+            self.wire.end(Gone::NoFrames(fault));
+        }
+        if !are_said_by(feed.packets.as_slice(), self.leaf) {
+            self.wire.end(Gone::OtherSpeaker);
+            return Ok(Vec::new(alloc));
+        }
+        self.note_version(feed.packets.as_slice());
+        Ok(feed.packets.into_vec())
+    }
+
+    // Whether the leaf may have more to read at once.
+    pub(crate) fn is_busy(&self) -> bool {
+        self.wire.may_give() && !self.wire.is_slow() && self.wire.gone().is_none()
+    }
+
+    // Notes the version of the last hello.
+    fn note_version(&mut self, packets: &[Packet]) {
+        for packet in packets {
+            if let Packet::Hello { version, .. } = packet {
+                self.version = *version;
+            }
+        }
+    }
+
+    // Queues a packet for the leaf, as its frame. A packet that has no frame is lost.
+    pub(crate) fn tell(&mut self, alloc: Global, packet: &Packet) -> Result<(), NoMemory>
+        requires good { HasGoodRecords packet.now }
+        ensures frame { OnErr result (CanBeWritten packet.now) }
+        ensures told { OnOk result (Tells packet.now self.old.wire self.new.wire) }
+    {
+        match frame_of(alloc, packet)? {
+            Some(frame) => self.wire.tell(frame.as_slice()),
+            None => Ok(()),
+        }
+    }
+}
+
+// Queues a packet for the leaf in a place, if there is one.
+pub(crate) fn tell_place(
+    alloc: Global,
+    place: &mut Option<Seat>,
+    packet: &Packet,
+) -> Result<(), NoMemory>
+    requires good { HasGoodRecords packet.now }
+    ensures memory { OnErr result (IsSome place.old) }
+    ensures frame { OnErr result (CanBeWritten packet.now) }
+    ensures told { OnOk result (TellsSeat packet.now place.old place.new) }
+{
+    match place {
+        Some(seat) => seat.tell(alloc, packet),
+        None => Ok(()),
+    }
+}
+
+// Whether all packets name this leaf as their sender.
+fn are_said_by(packets: &[Packet], leaf: u16) -> bool
+    ensures { result ≡ list_all (is_own leaf) packets.now }
+{
+    packets.iter().all(|packet| is_own(packet, leaf))
+}
+
+fn is_own(packet: &Packet, leaf: u16) -> bool
+    ensures { result ≡ is_own leaf packet.now }
+{
+    is_said_by(packet, leaf)
+}

@@ -1,4 +1,0 @@
-pub mod Values
-pub mod Rests
-pub mod Asks
-pub mod Cuts

@@ -1,7 +1,0 @@
-use Rattle.std.proofs.Common.{◌≡◌, ◌<◌, drop}
-use Rattle.scriptwords.specs.Words.{value_of}
-use Rattle.scriptwords.proofs.Values.{together}
-use Rattle.scriptwords.proofs.numeral.value_of.Given as goal
-
-abbrev pub invariant-loop-byte : goal.invariant-loop-byte
-invariant-loop-byte l = (together l.value (drop l.byte-index l.word) ≡ value_of l.word) × (l.value < 18446744073709551616)

@@ -1,0 +1,49 @@
+-- What a message means for a bot's registration and its channels.
+use Rattle.std.specs.Prelude.{ℕ, ◌==◌, ◌&&◌, ◌||◌, Bool, false, List, [], length, slice_get, slice_index, unwrap_or, if◌then◌else◌, codes}
+use Rattle.std.specs.Str.{bytes_eq}
+use Rattle.rfccase.specs.Casemapping.{is_same}
+use Rattle.ircline.specs.declared.message.Message.{Message}
+use Rattle.ircline.specs.Sources.{Source, Nobody, Server, Person, source_of}
+use Rattle.serverlink.specs.declared.cue.Cue.{Cue}
+use Rattle.serverlink.specs.declared.cue.Cue.TheVariants.{Welcomed, Renamed, Joined, Parted, Kicked, Barred, NickRefused, Refused, Nothing}
+
+-- the parameter at a place, empty if the message has fewer
+abbrev pub param : Message → ℕ → List ℕ
+param message place = unwrap_or (slice_get message.params place) []
+
+-- the source is a person with this nick
+abbrev pub is_from : Source → List ℕ → Bool
+is_from Nobody own = false
+is_from (Server name) own = false
+is_from (Person nick user host) own = is_same nick own
+
+abbrev pub is_by : Message → List ℕ → Bool
+is_by message own = is_from (source_of message.prefix) own
+
+abbrev pub is_to : Message → List ℕ → Bool
+is_to message own = is_same (param message 1) own
+
+-- a number from 400 to 599
+abbrev pub is_numeric_fault : List ℕ → Bool
+is_numeric_fault command = length command == 3 && (slice_index command 0 == 52 || slice_index command 0 == 53)
+
+abbrev pub is_command : List ℕ → List ℕ → Bool
+is_command word command = bytes_eq command word
+
+abbrev pub numeric_cue : List ℕ → Cue
+numeric_cue command =
+    if is_command (codes "001") command then Welcomed
+    else if is_command (codes "432") command || is_command (codes "436") command || is_command (codes "437") command then NickRefused
+    else if is_command (codes "471") command || is_command (codes "473") command || is_command (codes "474") command
+    || is_command (codes "475") command then Barred
+    else if is_numeric_fault command then Refused
+    else Nothing
+
+abbrev pub cue_of : Message → List ℕ → Cue
+cue_of message own =
+    if is_command (codes "JOIN") message.command && is_by message own then Joined
+    else if is_command (codes "PART") message.command && is_by message own then Parted
+    else if is_command (codes "NICK") message.command && is_by message own then Renamed
+    else if is_command (codes "KICK") message.command && is_to message own then Kicked
+    else if is_command (codes "ERROR") message.command then Refused
+    else numeric_cue message.command

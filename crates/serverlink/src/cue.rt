@@ -1,0 +1,101 @@
+// What a message means for a bot's registration and its channels.
+ghost use Rattle.std.specs.Prelude.{◌≡◌};
+ghost use Rattle.serverlink.specs.Cues.{cue_of, is_by, is_numeric_fault, is_to, numeric_cue, param};
+
+use ircline::{Message, Source, source};
+use rfccase::same;
+
+/// What a message means for a bot with a given nick.
+#[derive(Clone, Copy, Debug, PartialEq, Eq)]
+pub enum Cue {
+    /// The server has welcomed the bot under the nick that is the first parameter (001).
+    Welcomed,
+    /// The bot's nick is now the first parameter.
+    Renamed,
+    /// The bot is on the channel that is the first parameter.
+    Joined,
+    /// The bot has left the channel that is the first parameter.
+    Parted,
+    /// The bot was kicked off the channel that is the first parameter.
+    Kicked,
+    /// The server does not let the bot join the channel that is the second parameter (471, 473, 474, 475).
+    Barred,
+    /// The server rejects a nick (432, 436, 437).
+    NickRefused,
+    /// The server rejects something else, or ends the connection (another number from 400 to 599, ERROR).
+    Refused,
+    /// Nothing.
+    Nothing,
+}
+
+/// Returns what `message` means for a bot whose nick is `own`. Allocates nothing.
+pub fn cue_of(message: &Message, own: &[u8]) -> Cue
+    ensures { result ≡ cue_of message.now own.now }
+{
+    let command = message.command.as_bytes();
+    if command == b"JOIN".as_slice() && is_by(message, own) {
+        Cue::Joined
+    } else if command == b"PART".as_slice() && is_by(message, own) {
+        Cue::Parted
+    } else if command == b"NICK".as_slice() && is_by(message, own) {
+        Cue::Renamed
+    } else if command == b"KICK".as_slice() && is_to(message, own) {
+        Cue::Kicked
+    } else if command == b"ERROR".as_slice() {
+        Cue::Refused
+    } else {
+        numeric_cue(command)
+    }
+}
+
+// What a numeric command means.
+fn numeric_cue(command: &[u8]) -> Cue
+    ensures { result ≡ numeric_cue command.now }
+{
+    match command {
+        b"001" => Cue::Welcomed,
+        b"432" | b"436" | b"437" => Cue::NickRefused,
+        b"471" | b"473" | b"474" | b"475" => Cue::Barred,
+        _ => {
+            if is_numeric_fault(command) {
+                Cue::Refused
+            } else {
+                Cue::Nothing
+            }
+        }
+    }
+}
+
+// Whether a command is a number from 400 to 599.
+fn is_numeric_fault(command: &[u8]) -> bool
+    ensures { result ≡ is_numeric_fault command.now }
+{
+    command.len() == 3 && (command[0] == b'4' || command[0] == b'5')
+}
+
+// Whether the sender of a message has this nick.
+fn is_by(message: &Message, own: &[u8]) -> bool
+    ensures { result ≡ is_by message.now own.now }
+{
+    match source(message.prefix.as_bytes()) {
+        Source::Person(person) => same(person.nick, own),
+        Source::Server(_) | Source::None => false,
+    }
+}
+
+// Whether a message's second parameter is this nick.
+fn is_to(message: &Message, own: &[u8]) -> bool
+    ensures { result ≡ is_to message.now own.now }
+{
+    same(param(message, 1), own)
+}
+
+/// Returns the parameter of `message` at `place`, counted from 0, or an empty slice if the message has fewer.
+pub fn param(message: &Message, place: usize) -> &[u8]
+    ensures { result.now ≡ param message.now place }
+{
+    match message.params.as_slice().get(place) {
+        Some(text) => text.as_bytes(),
+        None => b"",
+    }
+}

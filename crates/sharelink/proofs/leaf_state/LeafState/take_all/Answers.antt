@@ -1,0 +1,16 @@
+use Rattle.std.proofs.Common.{Some}
+use Rattle.protocol.specs.LeafRules.{leaf_folded}
+use Rattle.protocol.specs.Journals.{reads, leaf_record}
+use Rattle.sharelink.proofs.Folding.{reads-more, reads-failed}
+use Rattle.sharelink.proofs.leaf_state.LeafState.take_all.Goals as goal
+
+pub loop-entry-preserved : goal.loop-entry-preserved
+loop-entry-preserved c =
+    reads-more leaf_record leaf_folded c.loop-entry.self c.take.new.self c.args.entries.now c.loop-entry.entry-index c.entry-item.result
+    (reads leaf_record leaf_folded (Some c.args.self.now) c.args.entries.now) c.loop-entry-test.true c.entry-item.is c.in-Ok.ensures.takes
+    c.loop-entry.invariant
+
+pub returns-in-Err : goal.returns-in-Err
+returns-in-Err c =
+    reads-failed leaf_record leaf_folded c.args.self.now c.loop-entry.self c.take.new.self c.take.new.self c.args.entries.now c.loop-entry.entry-index
+    c.entry-item.result c.in-Err.error c.loop-entry-test.true c.entry-item.is c.in-Err.ensures.takes c.loop-entry.invariant

@@ -1,0 +1,243 @@
+// How a hub takes a packet.
+use crate::answer::Answer;
+use crate::error::{LinkError, LinkFault};
+use crate::hub_accepting::accept;
+use crate::hub_link::HubLink;
+use crate::hub_packets::{hello_packets, reply_packet};
+use crate::hub_record::HubRecord;
+use crate::note::Note;
+use crate::texts::text_by;
+use botjournal::{Answer as Outcome, LAYOUT, Reply};
+use bytetext::{Failure, Seq, Text, TryCopy};
+use disks::Disk;
+use sharewire::Packet;
+use std::alloc::Global;
+use userfile::{Change, ChangeFault};
+
+impl<D: Disk> HubLink<D> {
+    ghost use Rattle.std.specs.Prelude.{◌≡◌, ◌+◌, ◌||◌, true, false, nat_lt};
+    ghost use Rattle.protocol.specs.Packets.{from_wire};
+    ghost use Rattle.protocol.specs.Packets.Packet.{Hello as hello_packet, Request as request_packet, BotText as text_packet};
+    ghost use Rattle.userfile.specs.Apply.{refusal};
+    ghost use Rattle.protocol.specs.Numbers.{item_at};
+    ghost use Rattle.protocol.specs.HubRules.{version_of, is_no_leaf, hello_met, hub_received, hub_received_up, repeats, next_request};
+    ghost use Rattle.protocol.specs.Journals.{is_next_of};
+    ghost use Rattle.sharelink.specs.declared.TheConstants.{MAX_LEAVES};
+    ghost use Rattle.sharelink.specs.Shapes.{GoOut};
+    ghost use Rattle.std.specs.Prelude.{Some};
+    ghost use Rattle.sharelink.specs.HubLinks.{Calls};
+
+    /// Takes `packet`.
+    ///
+    /// - A hello of a leaf, at a version that the hub has, is `Served`: with the changes that follow, at most 16, or
+    ///   with all records in parts if the hub no longer keeps those changes one by one.
+    /// - A leaf's request that was replied to before is `Repeat` if that reply is one of the last eight, and the reply
+    ///   goes out again; otherwise it is `Old`. A request is `Gap` if one before it is missing. The next request is
+    ///   `Refused` or `Accepted`: the hub journals that and replies to the leaf. An accepted one goes to each leaf as a
+    ///   change.
+    /// - A text of a bot of the net is `Text` if it is for the hub, and otherwise `Relayed` to the leaf that it is for.
+    /// - Any other packet is `Stray`.
+    ///
+    /// # Errors
+    /// `Down`; `OtherLayout` for a hello of another layout; `NumbersSpent` for a request at the last version;
+    /// `NoMemory`, which leaves the hub as it was; `JournalFault` if a disk failed: the hub is down, shows what it
+    /// showed before, and sends nothing. `Stray`, `Old` and `Gap`, and `Served` without packets, allocate nothing.
+    pub fn receive(&mut self, alloc: Global, packet: &Packet) -> Result<Answer, LinkError>
+        ensures row { Calls self.old (λ how. hub_received self.old.leaves how self.old.bot (from_wire packet.now)) result self.new }
+        ensures packets { GoOut (MAX_LEAVES + 1) result }
+    {
+        if self.kept.is_down() {
+            return Err(Failure::Refused(LinkFault::Down));
+        }
+        self.receive_up(alloc, packet)
+    }
+
+    fn receive_up(&mut self, alloc: Global, packet: &Packet) -> Result<Answer, LinkError>
+        requires up { self.old.bot.down ≡ false }
+        ensures row { Calls self.old (λ how. hub_received_up self.old.leaves how self.old.bot (from_wire packet.now)) result self.new }
+        ensures packets { GoOut (MAX_LEAVES + 1) result }
+    {
+        match packet {
+            Packet::Hello {
+                layout,
+                leaf,
+                version,
+            } => self.receive_hello(alloc, *layout, *leaf, *version),
+            Packet::Request {
+                leaf,
+                request,
+                change,
+            } => self.receive_request(alloc, *leaf, *request, change),
+            Packet::BotText { from, to, text } => self.receive_text(alloc, *from, *to, text),
+            Packet::Change { .. }
+            | Packet::Accepted { .. }
+            | Packet::Refused { .. }
+            | Packet::Part { .. } => Ok(Answer::only(alloc, Note::Stray)),
+        }
+    }
+
+    // Answers a leaf's hello.
+    fn receive_hello(
+        &self,
+        alloc: Global,
+        layout: u8,
+        leaf: u16,
+        version: u32,
+    ) -> Result<Answer, LinkError>
+        ensures row { Calls self.now (λ how. hub_received_up self.now.leaves how self.now.bot (hello_packet layout leaf version)) result self.now }
+        ensures packets { GoOut (MAX_LEAVES + 1) result }
+    {
+        if layout != LAYOUT {
+            return Err(Failure::Refused(LinkFault::OtherLayout));
+        }
+        self.meet_hello(alloc, leaf, version)
+    }
+
+    // Answers a hello of the hub's layout.
+    fn meet_hello(&self, alloc: Global, leaf: u16, version: u32) -> Result<Answer, LinkError>
+        ensures row { Calls self.now (λ how. hello_met self.now.leaves how self.now.bot leaf version) result self.now }
+        ensures packets { GoOut (MAX_LEAVES + 1) result }
+    {
+        if self.is_stray_hello(leaf, version) {
+            return Ok(Answer::only(alloc, Note::Stray));
+        }
+        let packets = Seq::new(hello_packets(alloc, leaf, version, self.kept.state())?);
+        Ok(Answer {
+            note: Note::Served(packets.len()),
+            packets,
+        })
+    }
+
+    // Whether there is no such leaf, or no such version yet.
+    fn is_stray_hello(&self, leaf: u16, version: u32) -> bool
+        ensures { result ≡ (is_no_leaf self.now.leaves leaf || nat_lt (version_of self.now.bot.kept) version) }
+    {
+        leaf == 0 || leaf > self.kept.who() || version > self.kept.state().version()
+    }
+
+    // Takes a text, or passes it on.
+    fn receive_text(
+        &self,
+        alloc: Global,
+        from: u16,
+        to: u16,
+        text: &Text,
+    ) -> Result<Answer, LinkError>
+        ensures row { Calls self.now (λ how. hub_received_up self.now.leaves how self.now.bot (text_packet from to text.now)) result self.now }
+        ensures packets { GoOut (MAX_LEAVES + 1) result }
+    {
+        if self.is_stray_text(from, to) {
+            return Ok(Answer::only(alloc, Note::Stray));
+        }
+        if to == 0 {
+            let text = text.copy(alloc)?;
+            return Ok(Answer::only(alloc, Note::Text { from, text }));
+        }
+        let outgoing = text_by(alloc, to, from, to, text.as_bytes())?;
+        Ok(Answer {
+            note: Note::Relayed,
+            packets: Seq::new(vec![in alloc; outgoing]?),
+        })
+    }
+
+    // Whether there is no such bot.
+    fn is_stray_text(&self, from: u16, to: u16) -> bool
+        ensures { result ≡ (nat_lt self.now.leaves from || nat_lt self.now.leaves to) }
+    {
+        let leaves = self.kept.who();
+        from > leaves || to > leaves
+    }
+
+    // Takes a leaf's request.
+    fn receive_request(
+        &mut self,
+        alloc: Global,
+        leaf: u16,
+        request: u32,
+        change: &Change,
+    ) -> Result<Answer, LinkError>
+        requires up { self.old.bot.down ≡ false }
+        ensures row { Calls self.old (λ how. hub_received_up self.old.leaves how self.old.bot (request_packet leaf request change.now)) result self.new }
+        ensures packets { GoOut (MAX_LEAVES + 1) result }
+    {
+        if request == 0 {
+            return Ok(Answer::only(alloc, Note::Stray));
+        }
+        let Some(kept) = self.kept.state().replies_to(leaf) else {
+            return Ok(Answer::only(alloc, Note::Stray));
+        };
+        let last = kept.last_request();
+        if request <= last {
+            return self.answer_again(alloc, leaf, request, kept.reply_to(request));
+        }
+        if request - last > 1 {
+            return Ok(Answer::only(alloc, Note::Gap));
+        }
+        self.receive_next(alloc, leaf, request, change)
+    }
+
+    // Answers a request that was replied to before: with that reply, if it is still kept.
+    fn answer_again(
+        &self,
+        alloc: Global,
+        leaf: u16,
+        request: u32,
+        reply: Option<Reply>,
+    ) -> Result<Answer, LinkError>
+        ensures row { Calls self.now (λ how. repeats self.now.leaves how self.now.bot leaf request reply) result self.now }
+        ensures packets { GoOut (MAX_LEAVES + 1) result }
+    {
+        let Some(reply) = reply else {
+            return Ok(Answer::only(alloc, Note::Old));
+        };
+        let reply = reply_packet(leaf, request, reply.answer);
+        Ok(Answer {
+            note: Note::Repeat,
+            packets: Seq::new(vec![in alloc; reply]?),
+        })
+    }
+
+    // Takes a leaf's next request.
+    fn receive_next(
+        &mut self,
+        alloc: Global,
+        leaf: u16,
+        request: u32,
+        change: &Change,
+    ) -> Result<Answer, LinkError>
+        requires up { self.old.bot.down ≡ false }
+        requires next { is_next_of (item_at self.old.bot.kept.replies leaf) request ≡ true }
+        ensures row { Calls self.old (λ how. next_request self.old.leaves how self.old.bot leaf request change.now
+            (refusal self.old.bot.kept.records change.now)) result self.new }
+        ensures packets { GoOut (MAX_LEAVES + 1) result }
+    {
+        match self.kept.state().userfile().refusal_of(change) {
+            Some(fault) => self.refuse_request(alloc, leaf, request, fault),
+            None => accept(alloc, &mut self.kept, leaf, request, change),
+        }
+    }
+
+    // Rejects a leaf's next request.
+    fn refuse_request(
+        &mut self,
+        alloc: Global,
+        leaf: u16,
+        request: u32,
+        fault: ChangeFault,
+    ) -> Result<Answer, LinkError>
+        requires up { self.old.bot.down ≡ false }
+        requires next { is_next_of (item_at self.old.bot.kept.replies leaf) request ≡ true }
+        ensures row { (change : _) → Calls self.old (λ how. next_request self.old.leaves how self.old.bot leaf request change (Some fault)) result self.new }
+        ensures packets { GoOut (MAX_LEAVES + 1) result }
+    {
+        let reply = reply_packet(leaf, request, Outcome::Refused(fault));
+        let packets = Seq::new(vec![in alloc; reply]?);
+        match self.kept.journal(alloc, HubRecord::settle(leaf, fault)) {
+            Ok(()) => Ok(Answer {
+                note: Note::Refused(fault),
+                packets,
+            }),
+            Err(error) => Err(error),
+        }
+    }
+}

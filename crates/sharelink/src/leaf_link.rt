@@ -1,0 +1,374 @@
+// A leaf's end of the link.
+use crate::MAX_ASKS;
+use crate::answer::{Answer, Outgoing};
+use crate::error::{LinkError, LinkFault};
+use crate::fields::know_change;
+use crate::kept::Kept;
+use crate::leaf_packets::{again_note, hello_and_requests, request_packet};
+use crate::leaf_record::LeafRecord;
+use crate::leaf_state::LeafState;
+use crate::note::Note;
+use crate::parts::KeptParts;
+use crate::texts::{text_by, text_fault};
+use bytejournal::{Disks, Returned};
+use bytetext::{Failure, Seq, TryCopy, refuse};
+use disks::Disk;
+use std::alloc::Global;
+use std::collections::VecDeque;
+use std::marker::Model;
+use userfile::{Change, Userfile, shape};
+
+/// A leaf's end: its userfile at a version, the waiting asks, with room for the most that may wait, the outstanding
+/// requests, and the journal.
+pub struct LeafLink<D: Disk> {
+    pub(crate) leaves: u16,
+    pub(crate) kept: Kept<LeafState, D>,
+    pub(crate) waiting: VecDeque<Change>,
+    pub(crate) parts: Option<KeptParts>,
+}
+
+// By hand, so that this is proved once, and not in each crate in which a leaf ends.
+impl<D: Disk> Drop for LeafLink<D> {
+    fn drop(self) {
+        let LeafLink {
+            leaves: _,
+            kept: _,
+            waiting: _,
+            parts: _,
+        } = self;
+    }
+}
+
+impl<D: Disk> Model for LeafLink<D> {
+    ghost use Rattle.sharelink.specs.LeafLinks.{LeafEnd};
+
+    ghost Value = { LeafEnd };
+
+    ghost use Rattle.sharelink.specs.LeafLinks.{leaf_end, IsLink};
+
+    ghost view = { λ l. leaf_end l.leaves l.kept (record { waiting = l.waiting.items; parts = l.parts }) };
+
+    ghost use Rattle.std.specs.Prelude.{◌≤◌};
+    ghost use Rattle.std.specs.VecDeque.{deque_capacity};
+    ghost use Rattle.sharelink.specs.declared.TheConstants.{MAX_ASKS};
+
+    // It is a leaf of the net, and has room for the most asks that may wait.
+    ghost invariant = { λ l. IsLink l.leaves l.kept.who l.waiting.items × (MAX_ASKS ≤ deque_capacity l.waiting) };
+}
+
+impl<D: Disk> LeafLink<D> {
+    ghost use Rattle.std.specs.Prelude.{◌≡◌, ◌≢◌, ◌<◌, ◌≤◌, ◌+◌, [], length, Err, IfOk, OnErr, true, false};
+    ghost use Rattle.bytetext.specs.declared.failure.Failure.TheVariants.{NoMemory as no_memory};
+    ghost use Rattle.disks.specs.State.{IsSettled};
+    ghost use Rattle.botjournal.specs.declared.TheConstants.{WINDOW};
+    ghost use Rattle.sharelink.specs.declared.TheConstants.{MAX_LEAVES};
+    ghost use Rattle.protocol.specs.Journals.{leaf_meaning};
+    ghost use Rattle.protocol.specs.LeafRules.{no_loose, may_go_out, leaf_folded};
+    ghost use Rattle.protocol.specs.Network.{new_leaf};
+    ghost use Rattle.botjournal.specs.Ledger.{AreStill};
+    ghost use Rattle.sharelink.specs.Kept.{MayLeave};
+    ghost use Rattle.sharelink.specs.StateOpening.{AreCurrent};
+    ghost use Rattle.sharelink.specs.StateEnds.{Creates, Opens, OpensAtEachMoment};
+    ghost use Rattle.sharelink.specs.Shapes.{GoOut};
+    ghost use Rattle.sharelink.specs.LeafLinks.{Calls, CallsRestart, RenewsLeaf, asked, keeps_asks, pumped, pumped_up, sent_again_at, compacted, restarted, told};
+    ghost use Rattle.sharelink.specs.Texts.{Sends};
+
+    /// Creates the leaf `number`, from 1 to `leaves`, on the disks `first` and `second`, before the first change. What
+    /// the disks held is lost.
+    ///
+    /// # Errors
+    /// Each hands the disks back. `NoMemory` if it cannot allocate room: nothing was written. `DiskFault` if a disk
+    /// failed: what the disks hold is then unknown.
+    pub fn create(
+        alloc: Global,
+        first: D,
+        second: D,
+        number: u16,
+        leaves: u16,
+    ) -> Result<LeafLink<D>, Returned<D>>
+        requires first_settled { IsSettled (D.state first) }
+        requires second_settled { IsSettled (D.state second) }
+        requires numbered { (0 < number) × (number ≤ leaves) }
+        requires few { leaves ≤ MAX_LEAVES }
+        ensures row { Creates D.state first second number leaves no_loose new_leaf.kept result }
+    {
+        let Ok(waiting) = VecDeque::with_capacity(alloc, MAX_ASKS) else {
+            return Err(Returned {
+                error: Failure::NoMemory,
+                disks: Disks { first, second },
+            });
+        };
+        match Kept::create(alloc, first, second, number) {
+            Ok(kept) => Ok(LeafLink {
+                leaves,
+                kept,
+                waiting,
+                parts: None,
+            }),
+            Err(returned) => Err(returned),
+        }
+    }
+
+    /// Opens the leaf `number`, in a net of `leaves` leaves, from its journal on the disks `first` and `second`. A
+    /// journal of the present layout stays as it is. One of an older layout is rewritten before the call returns: its
+    /// state alone, in the next generation, with the outstanding request if it has one.
+    ///
+    /// # Errors
+    /// Each hands the disks back; they mean what they meant before, or that rewritten. `DiskFault` if a read failed.
+    /// `NotAJournal` if the disks hold no journal, or one that no leaf of this number writes. `NoMemory` if it cannot
+    /// allocate room for what they hold, or for the asks. Then, only for an older layout: `GenerationsSpent` if there
+    /// is no next generation, `NoMemory`, or `DiskFault` if a disk failed while the journal was rewritten.
+    pub fn open(
+        alloc: Global,
+        first: D,
+        second: D,
+        number: u16,
+        leaves: u16,
+    ) -> Result<LeafLink<D>, Returned<D>>
+        requires first_settled { IsSettled (D.state first) }
+        requires second_settled { IsSettled (D.state second) }
+        requires numbered { (0 < number) × (number ≤ leaves) }
+        requires few { leaves ≤ MAX_LEAVES }
+        ensures row { Opens D.state first second number leaves no_loose (leaf_meaning number) RenewsLeaf result }
+        // Nothing happened to disks that have the present layout.
+        ensures still { AreCurrent D.state first second → IfOk result (λ link. AreStill (D.state first) (D.state second) link.device) }
+        // At each moment of the call a crash leaves what the disks meant, or that rewritten.
+        ensures any_moment { OpensAtEachMoment D.state first second (leaf_meaning number) RenewsLeaf result }
+    {
+        let Ok(waiting) = VecDeque::with_capacity(alloc, MAX_ASKS) else {
+            return Err(Returned {
+                error: Failure::NoMemory,
+                disks: Disks { first, second },
+            });
+        };
+        match Kept::open(alloc, first, second, number) {
+            Ok(kept) => Ok(LeafLink {
+                leaves,
+                kept,
+                waiting,
+                parts: None,
+            }),
+            Err(returned) => Err(returned),
+        }
+    }
+
+    /// Returns the version: the number of the last change that was applied, or the version of the records that were
+    /// installed.
+    pub fn version(&self) -> u32
+        ensures { result ≡ self.now.bot.kept.version }
+    {
+        self.kept.state().version()
+    }
+
+    /// Returns the userfile at that version.
+    pub fn userfile(&self) -> &Userfile
+        ensures { result.now ≡ self.now.bot.kept.records }
+    {
+        self.kept.state().userfile()
+    }
+
+    /// Whether, since the journal was last opened, a disk failed or a restart did not finish: the leaf then takes
+    /// nothing but a restart.
+    pub fn is_down(&self) -> bool
+        ensures { result ≡ self.now.bot.down }
+    {
+        self.kept.is_down()
+    }
+
+    /// Returns how many asks wait.
+    pub fn ask_count(&self) -> usize
+        ensures { result ≡ length self.now.bot.loose.waiting }
+    {
+        self.waiting.len()
+    }
+
+    /// Keeps the oldest `count` asks and withdraws the others. Allocates nothing.
+    ///
+    /// A caller that asks for several things, all or none, counts the asks before it begins, and returns to that count
+    /// if it has to give up.
+    pub fn keep_asks(&mut self, count: usize)
+        ensures { self.new ≡ keeps_asks self.old count }
+    {
+        self.waiting.truncate(count);
+    }
+
+    /// Queues `change` for a pump: `Queued`. Allocates nothing.
+    ///
+    /// # Errors
+    /// `Down`, then `BadChange` for a bad shape, then `AsksFull` if 64 asks wait; each leaves the leaf as it was.
+    pub fn ask(&mut self, alloc: Global, change: Change) -> Result<Answer, LinkError>
+        ensures row { Calls self.old (asked self.old change) result self.new }
+        ensures few { IfOk result (λ answer. answer.packets ≡ []) }
+        // The call uses no disk, and an error leaves all as it was.
+        ensures quiet { self.new.device ≡ self.old.device }
+        ensures stays { OnErr result (self.new ≡ self.old) }
+        ensures memory { result ≢ Err no_memory }
+    {
+        if self.kept.is_down() {
+            return Err(Failure::Refused(LinkFault::Down));
+        }
+        if let Some(fault) = shape(&change) {
+            return Err(Failure::Refused(LinkFault::BadChange(fault)));
+        }
+        if self.waiting.len() >= MAX_ASKS {
+            return Err(Failure::Refused(LinkFault::AsksFull));
+        }
+        know_change(&change);
+        self.waiting.push_back_reserved(change);
+        Ok(Answer::only(alloc, Note::Queued))
+    }
+
+    /// Sends the hub a hello, with the layout of the journal and the leaf's version, and then the leaf's requests. All
+    /// outstanding requests go again, by rising number. Then the oldest ask goes under the next number, once that is
+    /// journaled, if this number is less than eight above the lowest outstanding one. Returns `Sent` with the highest
+    /// number that is sent, or `Idle` if only the hello is.
+    ///
+    /// # Errors
+    /// `Down`; then `NumbersSpent` after request 4,294,967,295 if an ask waits and no request is outstanding; then
+    /// `NoMemory`; each leaves the leaf as it was. `JournalFault` if a disk failed in this call: the leaf is down, the
+    /// request is in doubt, and nothing is sent.
+    pub fn pump(&mut self, alloc: Global) -> Result<Answer, LinkError>
+        ensures row { Calls self.old (pumped self.old) result self.new }
+        ensures few { GoOut (WINDOW + 1) result }
+    {
+        if self.kept.is_down() {
+            return Err(Failure::Refused(LinkFault::Down));
+        }
+        if self.kept.state().may_go_out() {
+            return self.pump_ask(alloc);
+        }
+        if !self.waiting.is_empty() && self.kept.state().out().is_empty() {
+            return Err(Failure::Refused(LinkFault::NumbersSpent));
+        }
+        self.send_again(alloc)
+    }
+
+    // Sends the oldest ask, after the outstanding requests.
+    fn pump_ask(&mut self, alloc: Global) -> Result<Answer, LinkError>
+        requires up { self.old.bot.down ≡ false }
+        requires may { may_go_out self.old.bot.kept.last self.old.bot.kept.out ≡ true }
+        ensures row { Calls self.old (pumped_up self.old) result self.new }
+        ensures few { GoOut (WINDOW + 1) result }
+    {
+        let Some(change) = self.waiting.front() else {
+            return self.send_again(alloc);
+        };
+        self.kept.know_state();
+        let leaf = self.kept.who();
+        let state = self.kept.state();
+        let request = state.last_request() + 1;
+        let mut packets = hello_and_requests(alloc, leaf, state.version(), state.out())?;
+        packets.push(request_packet(alloc, leaf, request, change)?)?;
+        let out = LeafRecord::out(change.copy(alloc)?);
+        match self.kept.journal(alloc, out) {
+            Ok(()) => {
+                let _ = self.waiting.pop_front();
+                Ok(Answer {
+                    note: Note::Sent(request),
+                    packets: Seq::new(packets),
+                })
+            }
+            Err(error) => Err(error),
+        }
+    }
+
+    // Sends a hello, and the outstanding requests again.
+    fn send_again(&self, alloc: Global) -> Result<Answer, LinkError>
+        ensures row { Calls self.now (sent_again_at self.now) result self.now }
+        ensures few { GoOut (WINDOW + 1) result }
+    {
+        self.kept.know_state();
+        let state = self.kept.state();
+        let packets = hello_and_requests(alloc, self.kept.who(), state.version(), state.out())?;
+        Ok(Answer {
+            note: again_note(state.out()),
+            packets: Seq::new(packets),
+        })
+    }
+
+    /// Returns `text` for the bot `to`, which the caller is to send to the hub, when its step has sent `sent` texts so
+    /// far. The leaf stays as it was.
+    ///
+    /// # Errors
+    /// `Down`; `BadBotText` if there is no bot `to`, it is this leaf, or no bot may send such a text; then `TextsFull`
+    /// if `sent` is 64 or more; then `NoMemory`.
+    pub fn send_text(
+        &self,
+        alloc: Global,
+        to: u16,
+        text: &[u8],
+        sent: usize,
+    ) -> Result<Outgoing, LinkError>
+        ensures row { Sends (told self.now to text.now) sent result }
+    {
+        if self.kept.is_down() {
+            return Err(Failure::Refused(LinkFault::Down));
+        }
+        refuse(text_fault(self.leaves, self.kept.who(), to, text, sent))?;
+        Ok(text_by(alloc, 0, self.kept.who(), to, text)?)
+    }
+
+    /// Writes the state alone into the journal, in its next generation: `Compacted`.
+    ///
+    /// # Errors
+    /// `Down`; then `NumbersSpent` at generation 4,294,967,295; then `NoMemory`; each leaves the leaf as it was.
+    /// `JournalFault` if a disk failed in this call: the leaf is down, and it is in doubt whether the journal was
+    /// written.
+    pub fn compact(&mut self, alloc: Global) -> Result<Answer, LinkError>
+        ensures row { Calls self.old (compacted self.old) result self.new }
+        ensures few { IfOk result (λ answer. answer.packets ≡ []) }
+    {
+        if self.kept.is_down() {
+            return Err(Failure::Refused(LinkFault::Down));
+        }
+        if self.kept.state().generation() == u32::MAX {
+            return Err(Failure::Refused(LinkFault::NumbersSpent));
+        }
+        match self.kept.journal(alloc, LeafRecord::compact()) {
+            Ok(()) => Ok(Answer::only(alloc, Note::Compacted)),
+            Err(error) => Err(error),
+        }
+    }
+
+    /// Crashes both disks, as if the program had ended, and opens the journal on what the crash left: `Restarted` with
+    /// the version. The record that was in doubt counts, or doesn't. The waiting asks and the parts that were kept are
+    /// lost.
+    ///
+    /// # Errors
+    /// `DiskFault` if a disk failed, or `NoMemory`: the leaf is down, and all else is as it was.
+    pub fn restart(&mut self, alloc: Global) -> Result<Answer, LinkError>
+        ensures row { CallsRestart self.old (restarted self.old) result self.new }
+        ensures few { IfOk result (λ answer. answer.packets ≡ []) }
+    {
+        match self.kept.restart(alloc) {
+            Ok(()) => {
+                self.waiting.clear();
+                self.parts = None;
+                Ok(Answer::only(alloc, Note::Restarted(self.kept.state().version())))
+            }
+            Err(error) => Err(error),
+        }
+    }
+
+    /// States what a crash leaves at this moment, between two calls. It does nothing.
+    pub fn know_disks(&self)
+        // What is the leaf's, with the record in doubt or without it.
+        ensures left { MayLeave (leaf_meaning self.now.number) leaf_folded self.now.bot.kept self.now.bot.doubt self.now.device.first self.now.device.second }
+    {
+        self.kept.know_disks();
+    }
+
+    /// Returns the two disks, in the order in which they were given.
+    pub fn into_disks(self) -> Disks<D>
+        // Whatever a crash leaves on them is the leaf's, with the record in doubt or without it.
+        ensures left { MayLeave (leaf_meaning self.number) leaf_folded self.bot.kept self.bot.doubt (D.state result.first) (D.state result.second) }
+    {
+        let LeafLink {
+            leaves: _,
+            kept,
+            waiting: _,
+            parts: _,
+        } = self;
+        kept.into_disks()
+    }
+}

@@ -1,4 +1,0 @@
-pub mod Events
-pub mod State
-pub mod Calls
-pub mod Laws

@@ -1,6 +1,0 @@
-pub mod Vigils
-pub mod Paces
-pub mod Lines
-pub mod Nicks
-pub mod Cues
-pub mod Seats
