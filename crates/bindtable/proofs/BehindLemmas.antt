@@ -15,7 +15,7 @@ use Rattle.std.specs.List.{cons_option}
 use Rattle.std.specs.List.Sorted.{IsNonDecreasingBy, IsPartitionPoint}
 use Rattle.wildmask.specs.Signatures.{Pairs, text_signature, is_within}
 use Rattle.bindtable.specs.declared.bind.Bind.{Bind}
-use Rattle.bindtable.specs.declared.index.Entry.{Entry}
+use Rattle.bindtable.specs.declared.index.IndexEntry.{IndexEntry}
 use Rattle.bindtable.specs.Kinds.{is_kind}
 use Rattle.bindtable.specs.Calls.{Occurrence, called, is_called, takes_event, takes_person, numbers_of}
 use Rattle.bindtable.specs.Masks.{needs_of, entry_of}
@@ -43,7 +43,7 @@ not_needed event needs pairs (Some b) told is_pairs lacks = sym (ap (λ c. slice
     by false e = refl
 
 -- what one entry more comes to
-pub behind-cons : (event : Occurrence) (binds : List Bind) (e : Entry) (entries : List Entry)
+pub behind-cons : (event : Occurrence) (binds : List Bind) (e : IndexEntry) (entries : List IndexEntry)
     → called event (behind binds (e ∷ entries)) ≡ called event (behind binds (e ∷ [])) ++ called event (behind binds entries)
 behind-cons event binds e entries = by (bind_of e.number binds)
   where
@@ -57,7 +57,7 @@ behind-cons event binds e entries = by (bind_of e.number binds)
         by_call false = refl
 
 -- one entry has one bind at most
-pub behind-one : (event : Occurrence) (binds : List Bind) (e : Entry) (o : Option Bind) → o ≡ slice_get (called event (behind binds (e ∷ []))) 0
+pub behind-one : (event : Occurrence) (binds : List Bind) (e : IndexEntry) (o : Option Bind) → o ≡ slice_get (called event (behind binds (e ∷ []))) 0
     → called event (behind binds (e ∷ [])) ≡ cons_option o []
 behind-one event binds e o is = by (bind_of e.number binds) is
   where
@@ -70,30 +70,30 @@ behind-one event binds e o is = by (bind_of e.number binds) is
     by (Some b) e = by_call b (is_called event b) e
 
 -- an entry that has been looked at
-pub behind-next : (event : Occurrence) (binds : List Bind) (entries : List Entry) (at : ℕ) (e : Entry) (o : Option Bind) → at < length entries
+pub behind-next : (event : Occurrence) (binds : List Bind) (entries : List IndexEntry) (at : ℕ) (e : IndexEntry) (o : Option Bind) → at < length entries
     → e ≡ get_or entries at e
     → o ≡ slice_get (called event (behind binds (e ∷ []))) 0
     → called event (behind binds (drop at entries)) ≡ cons_option o [] ++ called event (behind binds (drop (at + 1) entries))
 behind-next event binds entries at e o within is_e is_o =
     let next : drop (suc at) entries ≡ drop (at + 1) entries = ap (λ k. drop k entries) (let s : suc at ≡ at + 1 = omega arith in s) in
-    ap (λ (es : List Entry). called event (behind binds es)) (drop-cons entries at e within
-    ∙ ap (λ (x : Entry). x ∷ drop (suc at) entries) (sym is_e) ∙ ap (λ (es : List Entry). e ∷ es) next)
+    ap (λ (es : List IndexEntry). called event (behind binds es)) (drop-cons entries at e within
+    ∙ ap (λ (x : IndexEntry). x ∷ drop (suc at) entries) (sym is_e) ∙ ap (λ (es : List IndexEntry). e ∷ es) next)
     ∙ behind-cons event binds e (drop (at + 1) entries)
     ∙ ap (λ bs. bs ++ called event (behind binds (drop (at + 1) entries))) (behind-one event binds e o is_o)
 
 -- what is known of some entries is known of each, and of those after some
-pub known-at : (binds : List Bind) (entries : List Entry) (at : ℕ) (e : Entry) → AreKnown binds entries → at < length entries → e ≡ get_or entries at e
+pub known-at : (binds : List Bind) (entries : List IndexEntry) (at : ℕ) (e : IndexEntry) → AreKnown binds entries → at < length entries → e ≡ get_or entries at e
     → Tells e.needs (bind_of e.number binds)
 known-at binds [] at e known within is = absurd (omega arith)
-known-at binds (x ∷ entries) zero e known within is = subst (λ (y : Entry). Tells y.needs (bind_of y.number binds)) (sym is) known.0
+known-at binds (x ∷ entries) zero e known within is = subst (λ (y : IndexEntry). Tells y.needs (bind_of y.number binds)) (sym is) known.0
 known-at binds (x ∷ entries) (suc at) e known within is = known-at binds entries at e known.1 (omega arith) is
 
-pub known-drop : (binds : List Bind) (entries : List Entry) (n : ℕ) → AreKnown binds entries → AreKnown binds (drop n entries)
+pub known-drop : (binds : List Bind) (entries : List IndexEntry) (n : ℕ) → AreKnown binds entries → AreKnown binds (drop n entries)
 known-drop binds entries zero known = known
 known-drop binds [] (suc n) known = tt
 known-drop binds (e ∷ entries) (suc n) known = known-drop binds entries n known.1
 
-pub known-take : (binds : List Bind) (entries : List Entry) (n : ℕ) → AreKnown binds entries → AreKnown binds (take n entries)
+pub known-take : (binds : List Bind) (entries : List IndexEntry) (n : ℕ) → AreKnown binds entries → AreKnown binds (take n entries)
 known-take binds entries zero known = tt
 known-take binds [] (suc n) known = tt
 known-take binds (e ∷ entries) (suc n) known = (known.0, known-take binds entries n known.1)

@@ -18,7 +18,7 @@ use Rattle.flagexpr.specs.Expression.{expression_of, meets}
 use Rattle.flagexpr.specs.Faults.{expression_fault}
 use Rattle.bindtable.specs.declared.bind_kind.BindKind.{BindKind}
 use Rattle.bindtable.specs.declared.bind.Bind.{Bind}
-use Rattle.bindtable.specs.declared.index.Entry.{Entry}
+use Rattle.bindtable.specs.declared.index.IndexEntry.{IndexEntry}
 use Rattle.bindtable.specs.declared.index.KindIndex.{KindIndex}
 use Rattle.bindtable.specs.declared.limits.TheConstants.{MAX_MASK}
 use Rattle.bindtable.specs.Kinds.{is_kind, is_single, is_cron, has_flags}
@@ -170,7 +170,7 @@ called-of_kind event binds =
     (λ b e. (and_parts (is_kind event.kind b.kind) (takes_event b event && takes_person b event) e).0) binds
 
 -- the entries of some of the binds that are held
-from_some : (event : Occurrence) (held xs : List Bind) (some : List Entry) → AreFound held xs → some ≡ map entry_of xs → called event xs ≡ called event held
+from_some : (event : Occurrence) (held xs : List Bind) (some : List IndexEntry) → AreFound held xs → some ≡ map entry_of xs → called event xs ≡ called event held
     → AreKnown held some × (called event (behind held some) ≡ called event held)
 from_some event held xs some found is all = (
   subst (AreKnown held) (sym is) (known-entries held xs found),
@@ -198,7 +198,7 @@ word-at kind word xs (k ∷ keys) at d words found =
 
 -- the entries that an index gives for an event tell what is so, and the binds behind them that the event calls are all that
 -- it calls
-pub candidates-call : (event : Occurrence) (held : List Bind) (index : KindIndex) (some : List Entry) → HaveRisen held → AreApart held
+pub candidates-call : (event : Occurrence) (held : List Bind) (index : KindIndex) (some : List IndexEntry) → HaveRisen held → AreApart held
     → IsIndexOf event.kind held index → AreCandidates event.kind event.subject index some
     → AreKnown held some × (called event (behind held some) ≡ called event held)
 candidates-call event held index some risen apart is = by_kind (is_single event.kind) refl

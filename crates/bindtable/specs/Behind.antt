@@ -3,7 +3,7 @@ use Rattle.std.specs.Prelude.{◌≡◌, ℕ, ◌==◌, List, [], ◌∷◌, fin
 use Rattle.std.specs.List.{cons_option}
 use Rattle.wildmask.specs.Signatures.{Pairs}
 use Rattle.bindtable.specs.declared.bind.Bind.{Bind}
-use Rattle.bindtable.specs.declared.index.Entry.{Entry}
+use Rattle.bindtable.specs.declared.index.IndexEntry.{IndexEntry}
 use Rattle.bindtable.specs.Masks.{needs_of}
 use Rattle.bindtable.specs.Sound.{AreRising}
 
@@ -12,7 +12,7 @@ abbrev pub bind_of : ℕ → List Bind → Option Bind
 bind_of number binds = find (λ b. b.number == number) binds
 
 -- the binds behind entries, in their order
-abbrev pub behind : List Bind → List Entry → List Bind
+abbrev pub behind : List Bind → List IndexEntry → List Bind
 behind binds [] = []
 behind binds (e ∷ entries) = cons_option (bind_of e.number binds) (behind binds entries)
 
@@ -21,7 +21,7 @@ abbrev pub Tells : Pairs → Option Bind → Type 0
 Tells needs (Some b) = needs ≡ needs_of b
 Tells needs None = Unit {0}
 
-abbrev pub AreKnown : List Bind → List Entry → Type 0
+abbrev pub AreKnown : List Bind → List IndexEntry → Type 0
 AreKnown binds [] = Unit {0}
 AreKnown binds (e ∷ entries) = Tells e.needs (bind_of e.number binds) × AreKnown binds entries
 

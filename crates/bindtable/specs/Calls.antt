@@ -9,7 +9,7 @@ use Rattle.bottimers.specs.CronMask.{mask_matches}
 use Rattle.flagexpr.specs.Expression.{expression_of, meets}
 use Rattle.bindtable.specs.declared.bind_kind.BindKind.{BindKind}
 use Rattle.bindtable.specs.declared.bind.Bind.{Bind}
-use Rattle.bindtable.specs.declared.event.Event.{Event}
+use Rattle.bindtable.specs.declared.event.BindEvent.{BindEvent}
 use Rattle.bindtable.specs.Kinds.{is_kind, is_single, is_cron, has_flags}
 
 -- an event: its kind, what keywords and wildcards are matched against, the minute that cron fields match, and the
@@ -22,8 +22,8 @@ pub record Occurrence : Type 0 where
   pub channel : ℕ
   pub bot : ℕ
 
--- an `Event`, as binds see it
-abbrev pub seen : Event → Occurrence
+-- an `BindEvent`, as binds see it
+abbrev pub seen : BindEvent → Occurrence
 seen event =
     record {
       kind = event.kind;

@@ -2,11 +2,11 @@
 -- "bind").
 use Rattle.std.specs.Prelude.{ℕ, ◌==◌, Bool, true, false, List, [], ◌∷◌, Option, find, codes}
 use Rattle.std.specs.Str.{bytes_eq}
-use Rattle.procstore.specs.declared.kind.Kind.{Kind}
-use Rattle.procstore.specs.declared.kind.Kind.TheVariants.{Raw as raw_call, Msg as msg_call, Msgm as msgm_call, Notc as notc_call}
-use Rattle.procstore.specs.declared.kind.Kind.TheVariants.{Pub as pub_call, Pubm as pubm_call, Join as join_call, Part as part_call}
-use Rattle.procstore.specs.declared.kind.Kind.TheVariants.{Sign as sign_call, Kick as kick_call, Nick as nick_call, Mode as mode_call}
-use Rattle.procstore.specs.declared.kind.Kind.TheVariants.{Topc as topc_call, Bot as bot_call, Time as time_call, Cron as cron_call}
+use Rattle.procstore.specs.declared.call_kind.CallKind.{CallKind}
+use Rattle.procstore.specs.declared.call_kind.CallKind.TheVariants.{Raw as raw_call, Msg as msg_call, Msgm as msgm_call, Notc as notc_call}
+use Rattle.procstore.specs.declared.call_kind.CallKind.TheVariants.{Pub as pub_call, Pubm as pubm_call, Join as join_call, Part as part_call}
+use Rattle.procstore.specs.declared.call_kind.CallKind.TheVariants.{Sign as sign_call, Kick as kick_call, Nick as nick_call, Mode as mode_call}
+use Rattle.procstore.specs.declared.call_kind.CallKind.TheVariants.{Topc as topc_call, Bot as bot_call, Time as time_call, Cron as cron_call}
 use Rattle.bindtable.specs.declared.bind_kind.BindKind.{BindKind}
 use Rattle.bindtable.specs.declared.bind_kind.BindKind.TheVariants.{Raw, Msg, Msgm, Notc, Pub, Pubm, Join, Part, Sign, Kick, Nick, Mode, Topc}
 use Rattle.bindtable.specs.declared.bind_kind.BindKind.TheVariants.{Bot, Time, Cron}
@@ -38,7 +38,7 @@ abbrev pub kind_of : List ℕ → Option BindKind
 kind_of word = find (λ kind. bytes_eq (word_of kind) word) all_kinds
 
 -- the kind of call that a bind makes
-abbrev pub call_kind_of : BindKind → Kind
+abbrev pub call_kind_of : BindKind → CallKind
 call_kind_of Raw = raw_call
 call_kind_of Msg = msg_call
 call_kind_of Msgm = msgm_call

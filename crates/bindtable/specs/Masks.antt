@@ -8,7 +8,7 @@ use Rattle.bottimers.specs.CronSets.{sets_match}
 use Rattle.bottimers.specs.CronMask.{mask_matches}
 use Rattle.bindtable.specs.declared.bind_kind.BindKind.{BindKind}
 use Rattle.bindtable.specs.declared.bind.Bind.{Bind}
-use Rattle.bindtable.specs.declared.index.Entry.{Entry}
+use Rattle.bindtable.specs.declared.index.IndexEntry.{IndexEntry}
 use Rattle.bindtable.specs.declared.matcher.Matcher.{Matcher}
 use Rattle.bindtable.specs.declared.matcher.Matcher.TheVariants.{Keyword, Minutes, Wildcards}
 use Rattle.bindtable.specs.Kinds.{is_single, is_cron}
@@ -25,7 +25,7 @@ abbrev pub needs_of : Bind → Pairs
 needs_of b =
     if is_single b.kind then no_pairs else (if is_cron b.kind then no_pairs else items_signature (mask_items (bind_mask b.mask)))
 
-abbrev pub entry_of : Bind → Entry
+abbrev pub entry_of : Bind → IndexEntry
 entry_of b = record { number = b.number; needs = needs_of b }
 
 -- the key under which a keyword is found

@@ -4,7 +4,7 @@ use Rattle.std.specs.List.{list_any}
 use Rattle.std.specs.Str.{bytes_eq}
 use Rattle.rfccase.specs.Casemapping.{folded}
 use Rattle.bindtable.specs.declared.bind_kind.BindKind.{BindKind}
-use Rattle.bindtable.specs.declared.index.Entry.{Entry}
+use Rattle.bindtable.specs.declared.index.IndexEntry.{IndexEntry}
 use Rattle.bindtable.specs.declared.index.KindIndex.{KindIndex}
 use Rattle.bindtable.specs.declared.limits.TheConstants.{MAX_MASK}
 use Rattle.bindtable.specs.Kinds.{is_single}
@@ -32,14 +32,14 @@ abbrev pub place_of_word : List ℕ → KindIndex → Option ℕ
 place_of_word word index = position (λ key. bytes_eq (folded word) key.items) index.words.keys
 
 -- the entry at a place, if there is one
-abbrev pub IsEntryAt : Option ℕ → List Entry → List Entry → Type 0
+abbrev pub IsEntryAt : Option ℕ → List IndexEntry → List IndexEntry → Type 0
 IsEntryAt (Some at) entries some = some ≡ take 1 (drop at entries)
 IsEntryAt None entries some = some ≡ []
 
 -- the entries of the binds that an event may call: all binds of a kind with masks, or the one bind of a keyword
-abbrev pub AreOf : Bool → List ℕ → KindIndex → List Entry → Type 0
+abbrev pub AreOf : Bool → List ℕ → KindIndex → List IndexEntry → Type 0
 AreOf true subject index some = IsEntryAt (place_of_word subject index) index.entries.items some
 AreOf false subject index some = some ≡ index.entries.items
 
-abbrev pub AreCandidates : BindKind → List ℕ → KindIndex → List Entry → Type 0
+abbrev pub AreCandidates : BindKind → List ℕ → KindIndex → List IndexEntry → Type 0
 AreCandidates kind subject index some = AreOf (is_single kind) subject index some

@@ -2,7 +2,7 @@
 ghost use Rattle.std.specs.Prelude.{◌≡◌, Some};
 ghost use Rattle.bindtable.specs.Kinds.{call_kind_of, kind_of, word_of};
 
-use procstore::Kind;
+use procstore::CallKind;
 
 /// The kind of event that a bind waits for, as the Eggdrop bind type of the same word (Eggdrop 1.9, Tcl commands,
 /// "Bind types"). A proc is called for each of these, and for a due timer, for which no bind waits.
@@ -97,26 +97,26 @@ impl BindKind {
     }
 
     /// Returns the kind of call that a bind of this kind makes.
-    pub fn kind(self) -> Kind
+    pub fn kind(self) -> CallKind
         ensures { result ≡ call_kind_of self }
     {
         match self {
-            BindKind::Raw => Kind::Raw,
-            BindKind::Msg => Kind::Msg,
-            BindKind::Msgm => Kind::Msgm,
-            BindKind::Notc => Kind::Notc,
-            BindKind::Pub => Kind::Pub,
-            BindKind::Pubm => Kind::Pubm,
-            BindKind::Join => Kind::Join,
-            BindKind::Part => Kind::Part,
-            BindKind::Sign => Kind::Sign,
-            BindKind::Kick => Kind::Kick,
-            BindKind::Nick => Kind::Nick,
-            BindKind::Mode => Kind::Mode,
-            BindKind::Topc => Kind::Topc,
-            BindKind::Bot => Kind::Bot,
-            BindKind::Time => Kind::Time,
-            BindKind::Cron => Kind::Cron,
+            BindKind::Raw => CallKind::Raw,
+            BindKind::Msg => CallKind::Msg,
+            BindKind::Msgm => CallKind::Msgm,
+            BindKind::Notc => CallKind::Notc,
+            BindKind::Pub => CallKind::Pub,
+            BindKind::Pubm => CallKind::Pubm,
+            BindKind::Join => CallKind::Join,
+            BindKind::Part => CallKind::Part,
+            BindKind::Sign => CallKind::Sign,
+            BindKind::Kick => CallKind::Kick,
+            BindKind::Nick => CallKind::Nick,
+            BindKind::Mode => CallKind::Mode,
+            BindKind::Topc => CallKind::Topc,
+            BindKind::Bot => CallKind::Bot,
+            BindKind::Time => CallKind::Time,
+            BindKind::Cron => CallKind::Cron,
         }
     }
 }

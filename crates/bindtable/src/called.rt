@@ -6,9 +6,9 @@ ghost use Rattle.bindtable.specs.Calls.{called, seen};
 ghost use Rattle.bindtable.specs.Behind.{AreKnown, HaveRisen, Tells, behind, bind_of};
 
 use crate::bind::Bind;
-use crate::event::Event;
+use crate::event::BindEvent;
 use crate::held::Held;
-use crate::index::Entry;
+use crate::index::IndexEntry;
 use std::marker::Model;
 use wildmask::Signature;
 
@@ -16,8 +16,8 @@ use wildmask::Signature;
 #[derive(Drop)]
 pub struct Called<'t, 'e> {
     held: &'t [Held],
-    entries: &'t [Entry],
-    event: Event<'e>,
+    entries: &'t [IndexEntry],
+    event: BindEvent<'e>,
     // the pairs of bytes that the subject has
     pairs: Signature,
 }
@@ -44,7 +44,11 @@ impl<'t, 'e> Called<'t, 'e> {
     ghost use Rattle.bindtable.specs.Behind.{AreKnown, HaveRisen, behind};
 
     // Creates the iterator over the binds behind `entries` that `event` calls.
-    pub(crate) fn of(held: &'t [Held], entries: &'t [Entry], event: &Event<'e>) -> Called<'t, 'e>
+    pub(crate) fn of(
+        held: &'t [Held],
+        entries: &'t [IndexEntry],
+        event: &BindEvent<'e>,
+    ) -> Called<'t, 'e>
         requires risen { HaveRisen held.now }
         requires known { AreKnown held.now entries.now }
         ensures { result ≡ called (seen event.now) (behind held.now entries.now) }
@@ -52,7 +56,7 @@ impl<'t, 'e> Called<'t, 'e> {
         Called {
             held,
             entries,
-            event: Event {
+            event: BindEvent {
                 kind: event.kind,
                 subject: event.subject,
                 minute: event.minute,
@@ -85,8 +89,8 @@ impl<'t, 'e> Called<'t, 'e> {
 // Returns the first bind behind `entries` that the event calls, and the place of its entry.
 fn first_called<'a>(
     held: &'a [Held],
-    entries: &[Entry],
-    event: &Event,
+    entries: &[IndexEntry],
+    event: &BindEvent,
     pairs: Signature,
 ) -> Option<(usize, &'a Bind)>
     requires risen { HaveRisen held.now }
@@ -108,8 +112,8 @@ fn first_called<'a>(
 // the bind isn't looked at.
 fn if_called<'a>(
     held: &'a [Held],
-    entry: &Entry,
-    event: &Event,
+    entry: &IndexEntry,
+    event: &BindEvent,
     pairs: Signature,
 ) -> Option<&'a Bind>
     requires risen { HaveRisen held.now }

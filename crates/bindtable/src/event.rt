@@ -5,7 +5,7 @@ use flagexpr::Flags;
 
 /// The parts of an event that decide which binds it calls.
 #[derive(Clone, Copy, Debug)]
-pub struct Event<'a> {
+pub struct BindEvent<'a> {
     /// The kind of event.
     pub kind: BindKind,
     /// The text that keywords and wildcards are matched against, by kind as in the crate's table. A cron bind ignores

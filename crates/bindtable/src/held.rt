@@ -3,8 +3,8 @@ ghost use Rattle.std.specs.Prelude.{◌≡◌, ◌<◌, IfOk, IfErr, length};
 
 use crate::bind::Bind;
 use crate::bind_kind::BindKind;
-use crate::event::Event;
-use crate::index::Entry;
+use crate::event::BindEvent;
+use crate::index::IndexEntry;
 use crate::kinds::{has_flags, is_kind, is_single};
 use crate::matcher::{Matcher, is_in};
 use bytetext::{NoMemory, Text, TryCopy};
@@ -118,10 +118,10 @@ impl Held {
     }
 
     // Returns what can be said of the bind without looking at it.
-    pub(crate) fn entry(&self) -> Entry
+    pub(crate) fn entry(&self) -> IndexEntry
         ensures { result ≡ entry_of self.now }
     {
-        Entry {
+        IndexEntry {
             number: self.bind.number,
             needs: self.needs(),
         }
@@ -138,13 +138,13 @@ impl Held {
     }
 
     // Whether an event calls the bind.
-    pub(crate) fn is_called(&self, event: &Event) -> bool
+    pub(crate) fn is_called(&self, event: &BindEvent) -> bool
         ensures { result ≡ is_called (seen event.now) self.now }
     {
         is_kind(event.kind, self.bind.kind) && self.takes_event(event) && self.takes_person(event)
     }
 
-    fn takes_event(&self, event: &Event) -> bool
+    fn takes_event(&self, event: &BindEvent) -> bool
         ensures { result ≡ takes_event self.now (seen event.now) }
     {
         match &self.matcher {
@@ -154,7 +154,7 @@ impl Held {
         }
     }
 
-    fn takes_person(&self, event: &Event) -> bool
+    fn takes_person(&self, event: &BindEvent) -> bool
         ensures { result ≡ takes_person self.now (seen event.now) }
     {
         !has_flags(self.bind.kind) || self.flags.meets(event.global, event.channel, event.bot)

@@ -17,7 +17,7 @@ use wildmask::Signature;
 
 /// An entry says where a bind is, and which pairs of bytes a subject needs to match it.
 #[derive(Clone, Copy)]
-pub struct Entry {
+pub struct IndexEntry {
     pub number: u32,
     pub needs: Signature,
 }
@@ -26,7 +26,7 @@ pub struct Entry {
 /// other kinds have no words.
 #[derive(Drop)]
 pub struct KindIndex {
-    pub entries: Vec<Entry>,
+    pub entries: Vec<IndexEntry>,
     pub words: IndexSet<Vec<u8>>,
 }
 
@@ -63,7 +63,7 @@ impl KindIndex {
     }
 
     // Appends a bind for which there is room.
-    pub(crate) fn push(&mut self, entry: Entry)
+    pub(crate) fn push(&mut self, entry: IndexEntry)
         requires { vec_len self.old.entries < vec_capacity self.old.entries }
         ensures entries { self.new.entries.items ≡ self.old.entries.items ++ entry ∷ [] }
         ensures words { self.new.words ≡ self.old.words }
@@ -96,7 +96,7 @@ impl KindIndex {
 
     // Returns the entries of the binds that an event may call: all binds of a kind with masks, or the one bind of a
     // keyword.
-    pub(crate) fn candidates(&self, kind: BindKind, subject: &[u8]) -> &[Entry]
+    pub(crate) fn candidates(&self, kind: BindKind, subject: &[u8]) -> &[IndexEntry]
         requires { is_single kind ≡ true → AreWords self.now }
         ensures { AreCandidates kind subject.now self.now result.now }
     {

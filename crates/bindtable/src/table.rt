@@ -3,7 +3,7 @@
 use crate::bind::{Bind, Binds};
 use crate::bind_kind::BindKind;
 use crate::called::{Called, held_of};
-use crate::event::Event;
+use crate::event::BindEvent;
 use crate::fault::{BindError, BindFault};
 use crate::hearing::{hear_messages, hear_minutes};
 use crate::held::{Held, binds_of};
@@ -159,7 +159,7 @@ impl BindTable {
     }
 
     /// Returns an iterator over the binds that `event` calls, oldest first. Does not allocate.
-    pub fn called<'t, 'e>(&'t self, event: &Event<'e>) -> Called<'t, 'e>
+    pub fn called<'t, 'e>(&'t self, event: &BindEvent<'e>) -> Called<'t, 'e>
         ensures binds { result ≡ called (seen event.now) self.now.binds }
         ensures meaning { (b : Bind) → (is_called (seen event.now) b ≡ true) ↔ Calls (seen event.now) b }
     {
@@ -187,7 +187,7 @@ impl BindTable {
     ///
     /// # Errors
     /// `NoMemory` if the list can't be allocated, never if the event calls no bind.
-    pub fn find(&self, alloc: Global, event: &Event) -> Result<Seq<u32>, NoMemory>
+    pub fn find(&self, alloc: Global, event: &BindEvent) -> Result<Seq<u32>, NoMemory>
         ensures numbers { IfOk result (λ numbers. numbers ≡ numbers_of (called (seen event.now) self.now.binds)) }
         ensures memory { IfErr result (λ _. 0 < length (called (seen event.now) self.now.binds)) }
     {

@@ -2,7 +2,7 @@
 use Rattle.std.proofs.Common.{◌≡◌, ◌∙◌, ℕ, List, [], ◌∷◌, Some, None, drop, Bool, ap, slice_get}
 use Rattle.userfile.specs.declared.user.User.{User}
 use Rattle.userfile.specs.declared.flags.PersonFlags.{PersonFlags}
-use Rattle.chanstate.specs.declared.event.Event.{Event}
+use Rattle.chanstate.specs.declared.event.IrcEvent.{IrcEvent}
 use Rattle.procstore.specs.declared.call.Call.{Call}
 use Rattle.bindtable.specs.declared.bind_kind.BindKind.{BindKind}
 use Rattle.procstore.specs.declared.reply.Code.{Code}
@@ -19,7 +19,7 @@ first_and_rest [] rest b first next = cc
 first_and_rest (x ∷ xs) rest b first next = let here : b ≡ x = cc in let after : rest ≡ xs = next in cc
 
 -- the binds that were found by what the event was seen as are those that it calls
-pub called-seen : (users : List User) (binds found : List Bind) (event : Event) (flags : PersonFlags) (kind : BindKind) (subject : List ℕ)
+pub called-seen : (users : List User) (binds found : List Bind) (event : IrcEvent) (flags : PersonFlags) (kind : BindKind) (subject : List ℕ)
     → flags ≡ (person_of users event).flags → kind ≡ kind_of event.kind → subject ≡ event.subject
     → found ≡ called (record { kind = kind; subject = subject; minute = None; global = flags.global; channel = flags.chan; bot = flags.bot }) binds
     → found ≡ called (occurrence_of event (person_of users event)) binds
@@ -34,7 +34,7 @@ called-seen users binds found event flags kind subject same_flags same_kind same
 
 -- and what they come to is what the event comes to
 pub told_heard-found : (code_of : List ℕ → Call → Code) (names : List (List ℕ)) (users : List User) (binds found : List Bind)
-    (exclusive : Bool) (event : Event) (handle : List ℕ) (call : Call)
+    (exclusive : Bool) (event : IrcEvent) (handle : List ℕ) (call : Call)
     → handle ≡ (person_of users event).handle → call ≡ call_by handle event
     → found ≡ called (occurrence_of event (person_of users event)) binds
     → told_all code_of names call found ≡ told_heard (setting_of code_of names users binds exclusive) event

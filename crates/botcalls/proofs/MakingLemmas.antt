@@ -5,7 +5,7 @@ use Rattle.std.proofs.lemmas.List.Elements.{filter_map-append}
 use Rattle.procstore.specs.Seen.{Seen}
 use Rattle.procstore.specs.declared.call.Call.{Call}
 use Rattle.procstore.specs.declared.reply.Code.{Code}
-use Rattle.procstore.specs.declared.reply.Reply.{Reply}
+use Rattle.procstore.specs.declared.reply.ProcReply.{ProcReply}
 use Rattle.procstore.specs.Promises.{Promised, IsKept, code_at}
 use Rattle.std.specs.Prelude.{None, Some, Err}
 use Rattle.bytetext.specs.declared.failure.Failure.{Failure}
@@ -50,7 +50,7 @@ module _ (promised : Promised) (seen : Seen) where
   }
 
   -- a call whose proc is held, and whose reply keeps the promise
-  pub Adds-called : (names : List (List ℕ)) (call : Call) (number : ℕ) (name : List ℕ) (old new : Made) (proc : List ℕ) (given : Call) (reply : Reply)
+  pub Adds-called : (names : List (List ℕ)) (call : Call) (number : ℕ) (name : List ℕ) (old new : Made) (proc : List ℕ) (given : Call) (reply : ProcReply)
       → new.calls ≡ old.calls ++ record { bind = number; proc = proc; call = given; reply = reply } ∷ [] → new.unbound ≡ old.unbound
       → proc ≡ name → given ≡ call → (holds names name ≡ true) × IsKept promised name call seen reply
       → Adds promised seen old (told_proc (code_at promised seen.sight) names call number name ∷ []) new

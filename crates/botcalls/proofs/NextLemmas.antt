@@ -13,7 +13,7 @@ use Rattle.botcalls.specs.Dispatching.{Setting, is_one, is_raw, has_one, has_raw
 use Rattle.botcalls.specs.Occasions.{kind_for}
 use Rattle.botcalls.specs.declared.next.Next.{Next}
 use Rattle.botcalls.specs.declared.next.Next.TheVariants.{Go}
-use Rattle.botcalls.specs.declared.occasion.Occasion.{Occasion}
+use Rattle.botcalls.specs.declared.trigger.Trigger.{Trigger}
 
 pub has_one_entries : (calls : List MadeCall) → has_one (map entry_of calls) ≡ list_any (λ m. is_one m.reply.code) calls
 has_one_entries [] = refl
@@ -46,7 +46,7 @@ calls_since-part promised seen old new before part count made more is =
 
 -- where an occasion stops early, the first calls of all have been made
 pub IsFrontMade-occasion : (promised : Promised) (seen : Seen) (setting : Setting) (new : Made)
-    (next : Next) (taken : Bool) (occasion : Occasion) (rest behind : List Occasion) (done all : List Telling)
+    (next : Next) (taken : Bool) (occasion : Trigger) (rest behind : List Trigger) (done all : List Telling)
     → rest ≡ occasion ∷ behind → next ≡ Go taken → done ++ told_from setting next rest ≡ all
     → IsFrontMade promised seen new (done ++ told setting taken occasion) → IsFrontMade promised seen new all
 IsFrontMade-occasion promised seen setting new next taken occasion rest behind done all first goes whole front =

@@ -1,11 +1,11 @@
 -- The events of a message call nothing where no bind waits for messages.
 use Rattle.std.proofs.Common.{◌≡◌, ◌∙◌, ◌<◌, ◌||◌, ◌&&◌, Bool, true, false, if◌then◌else◌, List, [], ◌∷◌, ◌++◌, map, refl, ap, sym, subst, arith, ne_eqb, lit<}
-use Rattle.chanstate.specs.declared.event.Event.{Event}
-use Rattle.chanstate.specs.declared.event.Kind.{Kind as EventKind}
-use Rattle.chanstate.specs.declared.event.Kind.TheVariants.{Raw as raw_event, Msg as msg_event, Msgm as msgm_event, Notc as notc_event}
-use Rattle.chanstate.specs.declared.event.Kind.TheVariants.{Pub as pub_event, Pubm as pubm_event, Join as join_event, Part as part_event}
-use Rattle.chanstate.specs.declared.event.Kind.TheVariants.{Sign as sign_event, Kick as kick_event, Nick as nick_event}
-use Rattle.chanstate.specs.declared.event.Kind.TheVariants.{Mode as mode_event, Topc as topc_event}
+use Rattle.chanstate.specs.declared.event.IrcEvent.{IrcEvent}
+use Rattle.chanstate.specs.declared.event.EventKind.{EventKind}
+use Rattle.chanstate.specs.declared.event.EventKind.TheVariants.{Raw as raw_event, Msg as msg_event, Msgm as msgm_event, Notc as notc_event}
+use Rattle.chanstate.specs.declared.event.EventKind.TheVariants.{Pub as pub_event, Pubm as pubm_event, Join as join_event, Part as part_event}
+use Rattle.chanstate.specs.declared.event.EventKind.TheVariants.{Sign as sign_event, Kick as kick_event, Nick as nick_event}
+use Rattle.chanstate.specs.declared.event.EventKind.TheVariants.{Mode as mode_event, Topc as topc_event}
 use Rattle.procstore.specs.Promises.{Promised}
 use Rattle.procstore.specs.Seen.{Seen}
 use Rattle.bindtable.specs.declared.bind.Bind.{Bind}
@@ -17,7 +17,7 @@ use Rattle.bindtable.specs.Hearing.{is_of_messages, hear_messages}
 use Rattle.bindtable.specs.Kinds.{place_of, is_kind}
 use Rattle.botcalls.specs.declared.next.Next.{Next}
 use Rattle.botcalls.specs.declared.next.Next.TheVariants.{Stop, Go}
-use Rattle.botcalls.specs.declared.occasion.Occasion.TheVariants.{Heard}
+use Rattle.botcalls.specs.declared.trigger.Trigger.TheVariants.{Heard}
 use Rattle.botcalls.specs.Calls.{Telling, told_all}
 use Rattle.botcalls.specs.Dispatching.{Setting, occurrence_of, told_heard, is_word, told, next_after, told_from, told_of}
 use Rattle.botcalls.specs.Heard.{kind_of, person_of, call_by}
@@ -78,20 +78,20 @@ called-silent event kind is (b ∷ binds) none =
     ∙ called-silent event kind is binds (neither_right (is_of_messages b.kind) (hear_messages binds) none)
 
 module _ (setting : Setting) (none : hear_messages setting.binds ≡ false) where
-  heard-silent : (event : Event) → told_heard setting event ≡ []
+  heard-silent : (event : IrcEvent) → told_heard setting event ≡ []
   heard-silent event =
       let person = person_of setting.users event in
       ap (λ (bs : List Bind). told_all setting.code_of setting.names (call_by person.handle event) bs)
       (called-silent (occurrence_of event person) event.kind refl setting.binds none)
 
-  told-silent : (taken : Bool) (event : Event) → told setting taken (Heard event) ≡ []
+  told-silent : (taken : Bool) (event : IrcEvent) → told setting taken (Heard event) ≡ []
   told-silent taken event = by (setting.exclusive && (taken && is_word (kind_for (Heard event))))
     where
       by : (t : Bool) → (if t then [] else told_heard setting event) ≡ []
       by true = refl
       by false = heard-silent event
 
-  from-silent : (next : Next) (events : List Event) → told_from setting next (map (λ e. Heard e) events) ≡ []
+  from-silent : (next : Next) (events : List IrcEvent) → told_from setting next (map (λ e. Heard e) events) ≡ []
   from-silent next [] = refl
   from-silent Stop (e ∷ es) = refl
   from-silent (Go taken) (e ∷ es) =
@@ -99,7 +99,7 @@ module _ (setting : Setting) (none : hear_messages setting.binds ≡ false) wher
       ap (λ (ts : List Telling). ts ++ told_from setting after (map (λ e. Heard e) es)) (told-silent taken e) ∙ from-silent after es
 
   -- so nothing is all that they come to
-  pub made-silent : (promised : Promised) (seen : Seen) (events : List Event) (made : Made) → made ≡ record { calls = []; unbound = [] }
+  pub made-silent : (promised : Promised) (seen : Seen) (events : List IrcEvent) (made : Made) → made ≡ record { calls = []; unbound = [] }
       → IsMade promised seen made (told_of setting (map (λ e. Heard e) events))
   made-silent promised seen events made is =
       let nothing : Made = record { calls = []; unbound = [] } in

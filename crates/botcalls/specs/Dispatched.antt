@@ -7,7 +7,7 @@ use Rattle.procstore.specs.Promises.{Promised, code_at}
 use Rattle.procstore.specs.Seen.{Seen}
 use Rattle.bindtable.specs.declared.bind.Bind.{Bind}
 use Rattle.botcalls.specs.declared.next.Next.{Next}
-use Rattle.botcalls.specs.declared.occasion.Occasion.{Occasion}
+use Rattle.botcalls.specs.declared.trigger.Trigger.{Trigger}
 use Rattle.botcalls.specs.declared.scene.Scene.{Scene}
 use Rattle.botcalls.specs.Calls.{Telling}
 use Rattle.botcalls.specs.Made.{Made, IsMade, IsFrontMade}
@@ -25,13 +25,13 @@ setting_in promised scene =
     setting_of (code_at promised scene.view.now.sight) scene.store.now scene.view.now.sight.records.users scene.binds.now.binds scene.exclusive
 
 -- one more occasion was dispatched, and this follows it
-abbrev pub AddsOccasion : Promised → Seen → Setting → Made → Bool → Occasion → Next → Made → Type 0
+abbrev pub AddsOccasion : Promised → Seen → Setting → Made → Bool → Trigger → Next → Made → Type 0
 AddsOccasion promised seen setting old taken occasion next new =
     (before : List Telling) → IsMade promised seen old before
     → IsMade promised seen new (before ++ told setting taken occasion)
     × (next ≡ next_after (kind_for occasion) (told setting taken occasion))
 
 -- all occasions were dispatched, or memory ran out after the first calls of them
-abbrev pub IsDispatched : Promised → Seen → Setting → List Occasion → Result Made Made → Type 0
+abbrev pub IsDispatched : Promised → Seen → Setting → List Trigger → Result Made Made → Type 0
 IsDispatched promised seen setting occasions (Ok made) = IsMade promised seen made (told_of setting occasions)
 IsDispatched promised seen setting occasions (Err made) = IsFrontMade promised seen made (told_of setting occasions)

@@ -6,18 +6,18 @@
 use Rattle.std.specs.Prelude.{ℕ, None, Bool, true, false, not, ◌&&◌, ◌||◌, if◌then◌else◌, List, [], ◌∷◌, ◌++◌, length, ◌==◌}
 use Rattle.std.specs.List.{list_any}
 use Rattle.userfile.specs.declared.user.User.{User}
-use Rattle.chanstate.specs.declared.event.Event.{Event}
+use Rattle.chanstate.specs.declared.event.IrcEvent.{IrcEvent}
 use Rattle.procstore.specs.declared.call.Call.{Call}
-use Rattle.procstore.specs.declared.kind.Kind.{Kind}
-use Rattle.procstore.specs.declared.kind.Kind.TheVariants.{Raw, Msg, Msgm, Notc, Pub, Pubm}
+use Rattle.procstore.specs.declared.call_kind.CallKind.{CallKind}
+use Rattle.procstore.specs.declared.call_kind.CallKind.TheVariants.{Raw, Msg, Msgm, Notc, Pub, Pubm}
 use Rattle.procstore.specs.declared.reply.Code.{Code}
 use Rattle.procstore.specs.declared.reply.Code.TheVariants.{Zero, One}
 use Rattle.bindtable.specs.declared.bind.Bind.{Bind}
 use Rattle.bindtable.specs.Calls.{Occurrence, called}
 use Rattle.botcalls.specs.declared.next.Next.{Next}
 use Rattle.botcalls.specs.declared.next.Next.TheVariants.{Stop, Go}
-use Rattle.botcalls.specs.declared.occasion.Occasion.{Occasion}
-use Rattle.botcalls.specs.declared.occasion.Occasion.TheVariants.{Heard, Due, Time, Cron, Said}
+use Rattle.botcalls.specs.declared.trigger.Trigger.{Trigger}
+use Rattle.botcalls.specs.declared.trigger.Trigger.TheVariants.{Heard, Due, Time, Cron, Said}
 use Rattle.botcalls.specs.Calls.{Entry, Telling, told_proc, told_all, calls_in}
 use Rattle.botcalls.specs.Heard.{Person, kind_of, is_personal, person_of, call_by}
 use Rattle.botcalls.specs.Occasions.{time_seen, cron_seen, said_seen, due_call, time_call, cron_call, said_call, kind_for}
@@ -35,7 +35,7 @@ pub record Setting : Type 0 where
 -- ---- one occasion
 
 -- what binds see of an event
-abbrev pub occurrence_of : Event → Person → Occurrence
+abbrev pub occurrence_of : IrcEvent → Person → Occurrence
 occurrence_of event person =
     record {
       kind = kind_of event.kind;
@@ -47,11 +47,11 @@ occurrence_of event person =
     }
 
 -- the results of the binds that an event by a person calls, oldest first
-abbrev pub told_by_person : Setting → Event → Person → List Telling
+abbrev pub told_by_person : Setting → IrcEvent → Person → List Telling
 told_by_person setting event person =
     told_all setting.code_of setting.names (call_by person.handle event) (called (occurrence_of event person) setting.binds)
 
-abbrev pub told_heard : Setting → Event → List Telling
+abbrev pub told_heard : Setting → IrcEvent → List Telling
 told_heard setting event = told_by_person setting event (person_of setting.users event)
 
 -- the results of the binds that this event calls, with this call
@@ -62,7 +62,7 @@ told_seen setting seen call = told_all setting.code_of setting.names call (calle
 abbrev pub told_due : Setting → List ℕ → List ℕ → List Telling
 told_due setting proc text = told_proc setting.code_of setting.names (due_call text) 0 proc ∷ []
 
-abbrev pub told_alone : Setting → Occasion → List Telling
+abbrev pub told_alone : Setting → Trigger → List Telling
 told_alone setting (Heard event) = told_heard setting event
 told_alone setting (Due proc text) = told_due setting proc text
 told_alone setting (Time minute) = told_seen setting (time_seen minute) (time_call minute)
@@ -72,17 +72,17 @@ told_alone setting (Said from text) = told_seen setting (said_seen text) (said_c
 -- ---- one occasion after another
 
 -- kinds that depend on a text's first word, kinds that depend on its whole, and raw ones
-abbrev pub is_word : Kind → Bool
+abbrev pub is_word : CallKind → Bool
 is_word Msg = true
 is_word Pub = true
 is_word other = false
 
-abbrev pub is_whole : Kind → Bool
+abbrev pub is_whole : CallKind → Bool
 is_whole Msgm = true
 is_whole Pubm = true
 is_whole other = false
 
-abbrev pub is_raw : Kind → Bool
+abbrev pub is_raw : CallKind → Bool
 is_raw Raw = true
 is_raw other = false
 
@@ -96,29 +96,29 @@ has_one calls = list_any (λ e. is_one e.code) calls
 
 -- an occasion, given whether the whole of its text is taken: the occasion before it was for the whole text and made a
 -- call
-abbrev pub told : Setting → Bool → Occasion → List Telling
+abbrev pub told : Setting → Bool → Trigger → List Telling
 told setting taken occasion = if setting.exclusive && (taken && is_word (kind_for occasion)) then [] else told_alone setting occasion
 
 -- what follows an occasion with these calls
-abbrev pub next_of : Kind → List Entry → Next
+abbrev pub next_of : CallKind → List Entry → Next
 next_of kind calls = if is_raw kind && has_one calls then Stop else Go (is_whole kind && not (length calls == 0))
 
-abbrev pub next_after : Kind → List Telling → Next
+abbrev pub next_after : CallKind → List Telling → Next
 next_after kind tellings = next_of kind (calls_in tellings)
 
-abbrev pub told_from : Setting → Next → List Occasion → List Telling
+abbrev pub told_from : Setting → Next → List Trigger → List Telling
 told_from setting next [] = []
 told_from setting Stop (o ∷ os) = []
 told_from setting (Go taken) (o ∷ os) = told setting taken o ++ told_from setting (next_after (kind_for o) (told setting taken o)) os
 
 -- the results of all occasions
-abbrev pub told_of : Setting → List Occasion → List Telling
+abbrev pub told_of : Setting → List Trigger → List Telling
 told_of setting occasions = told_from setting (Go false) occasions
 
 -- ---- memory
 
 -- whether calling the procs of an occasion allocates: all do but an event by nobody that calls none
-abbrev pub takes_memory : Setting → Occasion → Bool
+abbrev pub takes_memory : Setting → Trigger → Bool
 takes_memory setting (Heard event) = is_personal event.kind || not (length (told_heard setting event) == 0)
 takes_memory setting (Due proc text) = true
 takes_memory setting (Time minute) = true
@@ -128,7 +128,7 @@ takes_memory setting (Said from text) = true
 -- ---- the log
 
 -- kinds whose code 1 keeps a line out of the log
-abbrev pub is_silencing : Kind → Bool
+abbrev pub is_silencing : CallKind → Bool
 is_silencing Raw = true
 is_silencing Msgm = true
 is_silencing Notc = true

@@ -4,12 +4,12 @@ use Rattle.std.specs.List.{insert}
 use Rattle.userfile.specs.declared.user.User.{User}
 use Rattle.userfile.specs.declared.flags.PersonFlags.{PersonFlags}
 use Rattle.userfile.specs.Persons.{handle_of, flags_of}
-use Rattle.chanstate.specs.declared.event.Event.{Event}
-use Rattle.chanstate.specs.declared.event.Kind.{Kind as EventKind}
-use Rattle.chanstate.specs.declared.event.Kind.TheVariants.{Raw as raw_event, Msg as msg_event, Msgm as msgm_event, Notc as notc_event}
-use Rattle.chanstate.specs.declared.event.Kind.TheVariants.{Pub as pub_event, Pubm as pubm_event, Join as join_event, Part as part_event}
-use Rattle.chanstate.specs.declared.event.Kind.TheVariants.{Sign as sign_event, Kick as kick_event, Nick as nick_event}
-use Rattle.chanstate.specs.declared.event.Kind.TheVariants.{Mode as mode_event, Topc as topc_event}
+use Rattle.chanstate.specs.declared.event.IrcEvent.{IrcEvent}
+use Rattle.chanstate.specs.declared.event.EventKind.{EventKind}
+use Rattle.chanstate.specs.declared.event.EventKind.TheVariants.{Raw as raw_event, Msg as msg_event, Msgm as msgm_event, Notc as notc_event}
+use Rattle.chanstate.specs.declared.event.EventKind.TheVariants.{Pub as pub_event, Pubm as pubm_event, Join as join_event, Part as part_event}
+use Rattle.chanstate.specs.declared.event.EventKind.TheVariants.{Sign as sign_event, Kick as kick_event, Nick as nick_event}
+use Rattle.chanstate.specs.declared.event.EventKind.TheVariants.{Mode as mode_event, Topc as topc_event}
 use Rattle.procstore.specs.declared.call.Call.{Call}
 use Rattle.bindtable.specs.declared.bind_kind.BindKind.{BindKind}
 use Rattle.bindtable.specs.declared.bind_kind.BindKind.TheVariants.{Raw, Msg, Msgm, Notc, Pub, Pubm, Join, Part, Sign, Kick, Nick, Mode, Topc}
@@ -75,11 +75,11 @@ person_by users handle channel = record { handle = handle; flags = flags_on user
 abbrev pub nobody : Person
 nobody = record { handle = []; flags = record { global = 0; chan = 0; bot = 0 } }
 
-abbrev pub person_if : Bool → List User → Event → Person
+abbrev pub person_if : Bool → List User → IrcEvent → Person
 person_if false users event = nobody
 person_if true users event = person_by users (handle_of users (who_of event.arguments)) event.channel
 
-abbrev pub person_of : List User → Event → Person
+abbrev pub person_of : List User → IrcEvent → Person
 person_of users event = person_if (is_personal event.kind) users event
 
 -- the arguments of a call
@@ -87,5 +87,5 @@ abbrev pub arguments_if : Bool → List ℕ → List (List ℕ) → List (List �
 arguments_if false handle arguments = arguments
 arguments_if true handle arguments = with_handle handle arguments
 
-abbrev pub call_by : List ℕ → Event → Call
+abbrev pub call_by : List ℕ → IrcEvent → Call
 call_by handle event = record { kind = call_kind_of (kind_of event.kind); args = arguments_if (is_personal event.kind) handle event.arguments }

@@ -4,14 +4,14 @@ use Rattle.chanstate.specs.Speech.{first_word, after_word}
 use Rattle.bottimers.specs.declared.calendar.CivilMinute.{CivilMinute}
 use Rattle.bottimers.specs.Civil.{time_line, time_words, cron_words}
 use Rattle.procstore.specs.declared.call.Call.{Call}
-use Rattle.procstore.specs.declared.kind.Kind.{Kind}
-use Rattle.procstore.specs.declared.kind.Kind.TheVariants.{Timer as timer_call, Time as time_kind, Cron as cron_kind, Bot as bot_kind}
+use Rattle.procstore.specs.declared.call_kind.CallKind.{CallKind}
+use Rattle.procstore.specs.declared.call_kind.CallKind.TheVariants.{Timer as timer_call, Time as time_kind, Cron as cron_kind, Bot as bot_kind}
 use Rattle.bindtable.specs.declared.bind_kind.BindKind.{BindKind}
 use Rattle.bindtable.specs.declared.bind_kind.BindKind.TheVariants.{Bot as bot_bind, Time as time_bind, Cron as cron_bind}
 use Rattle.bindtable.specs.Calls.{Occurrence}
 use Rattle.bindtable.specs.Kinds.{call_kind_of}
-use Rattle.botcalls.specs.declared.occasion.Occasion.{Occasion}
-use Rattle.botcalls.specs.declared.occasion.Occasion.TheVariants.{Heard, Due, Time, Cron, Said}
+use Rattle.botcalls.specs.declared.trigger.Trigger.{Trigger}
+use Rattle.botcalls.specs.declared.trigger.Trigger.TheVariants.{Heard, Due, Time, Cron, Said}
 use Rattle.botcalls.specs.Heard.{kind_of}
 
 -- ---- what binds see of occasions that are by nobody
@@ -50,7 +50,7 @@ abbrev pub said_call : ℕ → List ℕ → Call
 said_call from text = record { kind = bot_kind; args = bot_name from ∷ first_word text ∷ after_word text ∷ [] }
 
 -- the kind of its calls
-abbrev pub kind_for : Occasion → Kind
+abbrev pub kind_for : Trigger → CallKind
 kind_for (Heard event) = call_kind_of (kind_of event.kind)
 kind_for (Due proc text) = timer_call
 kind_for (Time minute) = time_kind

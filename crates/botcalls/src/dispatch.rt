@@ -9,16 +9,16 @@ ghost use Rattle.botcalls.specs.Occasions.{by_nobody};
 use crate::heard::{call_by, kind_of, person_of};
 use crate::made_call::{MadeCall, MadeCalls, Unbound};
 use crate::next::{Next, is_word, next_of};
-use crate::occasion::{Occasion, cron_call, due_call, said_call, time_call};
 use crate::people::People;
 use crate::scene::Scene;
+use crate::trigger::{Trigger, cron_call, due_call, said_call, time_call};
 use crate::words::first_word;
-use bindtable::{Bind, BindKind, Called, Event as Occurrence};
+use bindtable::{Bind, BindEvent as Occurrence, BindKind, Called};
 use bottimers::{CivilMinute, time_text};
 use bytetext::{Failure, NoMemory, Seq, Text, TryCopy};
-use chanstate::Event;
+use chanstate::IrcEvent;
 use flagexpr::Flags;
-use procstore::{Call, CallFault, Kind, Promise, Run};
+use procstore::{Call, CallFault, CallKind, Promise, Run};
 use std::alloc::Global;
 use std::marker::Model;
 
@@ -45,7 +45,7 @@ impl Dispatch {
     ghost use Rattle.botcalls.specs.Calls.{told_proc, told_all};
     ghost use Rattle.botcalls.specs.Occasions.{time_seen, cron_seen, said_seen, time_call, cron_call, said_call};
     ghost use Rattle.botcalls.specs.Made.{Adds, AddsFront};
-    ghost use Rattle.botcalls.specs.declared.occasion.Occasion.TheVariants.{Heard};
+    ghost use Rattle.botcalls.specs.declared.trigger.Trigger.TheVariants.{Heard};
     ghost use Rattle.botcalls.specs.Dispatching.{told, told_alone, told_heard, told_seen, told_due, takes_memory};
     ghost use Rattle.botcalls.specs.Dispatched.{setting_in, AddsOccasion};
 
@@ -264,7 +264,7 @@ impl Dispatch {
         alloc: Global,
         scene: &Scene<'_, P, B>,
         people: &mut People<'_>,
-        event: &Event,
+        event: &IrcEvent,
     ) -> Result<(), NoMemory>
         requires { people.old ≡ scene.now.view.now.sight.records.users }
         ensures ok { OnOk result (Adds P.promised scene.now.view.now self.old
@@ -303,7 +303,7 @@ impl Dispatch {
         alloc: Global,
         scene: &Scene<'_, P, B>,
         people: &mut People<'_>,
-        occasion: &Occasion,
+        occasion: &Trigger,
     ) -> Result<(), NoMemory>
         requires { people.old ≡ scene.now.view.now.sight.records.users }
         ensures ok { OnOk result (Adds P.promised scene.now.view.now self.old
@@ -314,11 +314,11 @@ impl Dispatch {
         ensures memory { OnErr result (takes_memory (setting_in P.promised scene.now) occasion.now ≡ true) }
     {
         match occasion {
-            Occasion::Heard(event) => self.call_heard(alloc, scene, people, event),
-            Occasion::Due { proc, text } => self.call_due(alloc, scene, proc, text),
-            Occasion::Time(minute) => self.call_time(alloc, scene, minute),
-            Occasion::Cron(minute) => self.call_cron(alloc, scene, minute),
-            Occasion::Said { from, text } => self.call_said(alloc, scene, *from, text),
+            Trigger::Heard(event) => self.call_heard(alloc, scene, people, event),
+            Trigger::Due { proc, text } => self.call_due(alloc, scene, proc, text),
+            Trigger::Time(minute) => self.call_time(alloc, scene, minute),
+            Trigger::Cron(minute) => self.call_cron(alloc, scene, minute),
+            Trigger::Said { from, text } => self.call_said(alloc, scene, *from, text),
         }
     }
 
@@ -328,7 +328,7 @@ impl Dispatch {
         alloc: Global,
         scene: &Scene<'_, P, B>,
         people: &mut People<'_>,
-        occasion: &Occasion,
+        occasion: &Trigger,
         taken: bool,
     ) -> Result<(), NoMemory>
         requires { people.old ≡ scene.now.view.now.sight.records.users }
@@ -354,7 +354,7 @@ impl Dispatch {
         alloc: Global,
         scene: &Scene<'_, P, B>,
         people: &mut People<'_>,
-        occasion: &Occasion,
+        occasion: &Trigger,
         taken: bool,
     ) -> Result<Next, NoMemory>
         requires { people.old ≡ scene.now.view.now.sight.records.users }
@@ -403,7 +403,7 @@ impl Dispatch {
 pub fn call_procs<P: Promise, B: Run>(
     alloc: Global,
     scene: &Scene<'_, P, B>,
-    occasions: &[Occasion],
+    occasions: &[Trigger],
 ) -> Result<Dispatch, Dispatch>
     ensures made { IsDispatched P.promised scene.now.view.now (setting_in P.promised scene.now) occasions.now result }
     ensures memory { OnErr result (list_any (takes_memory (setting_in P.promised scene.now)) occasions.now ≡ true) }
@@ -432,7 +432,7 @@ pub fn call_procs<P: Promise, B: Run>(
 }
 
 // Whether an occasion of this kind calls nothing because a proc was called for the whole of its text.
-fn is_silent(exclusive: bool, taken: bool, kind: Kind) -> bool
+fn is_silent(exclusive: bool, taken: bool, kind: CallKind) -> bool
     ensures { result ≡ (exclusive && (taken && is_word kind)) }
 {
     exclusive && taken && is_word(kind)

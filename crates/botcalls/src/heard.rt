@@ -5,7 +5,7 @@ ghost use Rattle.botcalls.specs.Heard.{kind_of, is_personal, text_at, who_of, pe
 use crate::people::People;
 use bindtable::BindKind;
 use bytetext::{NoMemory, Text, Texts, copies_of};
-use chanstate::{Event, Kind as EventKind};
+use chanstate::{EventKind, IrcEvent};
 use flagexpr::Flags;
 use procstore::Call;
 use std::alloc::Global;
@@ -65,7 +65,7 @@ fn is_personal(kind: EventKind) -> bool
 pub(crate) fn person_of<'a>(
     alloc: Global,
     people: &mut People<'a>,
-    event: &Event,
+    event: &IrcEvent,
 ) -> Result<Person<'a>, NoMemory>
     ensures handle { IfOk result (λ person. person.handle.now ≡ (person_of people.old event.now).handle) }
     ensures flags { IfOk result (λ person. person.flags ≡ (person_of people.old event.now).flags) }
@@ -116,7 +116,7 @@ fn who_of(alloc: Global, arguments: &[Text]) -> Result<Text, NoMemory>
 }
 
 // Returns the call of procs for an event by this handle.
-pub(crate) fn call_by(alloc: Global, handle: &[u8], event: &Event) -> Result<Call, NoMemory>
+pub(crate) fn call_by(alloc: Global, handle: &[u8], event: &IrcEvent) -> Result<Call, NoMemory>
     ensures { IfOk result (λ call. call ≡ call_by handle.now event.now) }
 {
     let mut args = copies_of(alloc, event.arguments.as_slice())?;

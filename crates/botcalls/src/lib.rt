@@ -1,6 +1,6 @@
 //! Which procs a bot calls, with what, and in what order.
 //!
-//! An [`Occasion`] calls procs: an event of a message, a due timer, a minute that begins, or a text of another bot.
+//! An [`Trigger`] calls procs: an event of a message, a due timer, a minute that begins, or a text of another bot.
 //! [`call_procs`] calls the procs of a list of occasions, one after another. It returns a [`Dispatch`], the calls that
 //! it made and the binds that it left out. `specs/Dispatching.antt` defines what it calls: each bind of the occasion's
 //! kind whose mask and flags allow it, oldest first. `specs/Occasions.antt` and, for messages, `specs/Heard.antt`
@@ -18,14 +18,14 @@ mod dispatch;
 mod heard;
 mod made_call;
 mod next;
-mod occasion;
 mod people;
 mod scene;
+mod trigger;
 mod words;
 
 pub use crate::dispatch::{Dispatch, call_procs};
 pub use crate::made_call::{MadeCall, MadeCalls, Unbound};
 pub use crate::next::{has_raw_one, is_logged};
-pub use crate::occasion::Occasion;
 pub use crate::scene::Scene;
+pub use crate::trigger::Trigger;
 pub use crate::words::starts_with_word;

@@ -1,6 +1,6 @@
 // A call that was made, and a bind that was left out.
 use bytetext::{NoMemory, Seq, Text, TryCopy};
-use procstore::{Call, Reply};
+use procstore::{Call, ProcReply};
 use std::alloc::Global;
 
 /// A call that was made, and its reply.
@@ -13,7 +13,7 @@ pub struct MadeCall {
     /// The kind and the arguments of the call.
     pub call: Call,
     /// The proc's reply.
-    pub reply: Reply,
+    pub reply: ProcReply,
 }
 
 // Written by hand, so that it is proved once and not in each function that drops one.

@@ -6,7 +6,7 @@ ghost use Rattle.botcalls.specs.Dispatching.{has_raw_one};
 ghost use Rattle.botcalls.specs.Made.{entry_of};
 
 use crate::made_call::MadeCall;
-use procstore::{Code, Kind};
+use procstore::{CallKind, Code};
 
 // What follows an occasion.
 #[derive(Clone, Copy, Debug)]
@@ -22,7 +22,7 @@ pub(crate) enum Next {
 
 // Returns what follows an occasion of this kind and these calls.
 #[tactic(auto, using(crate::proofs::NextLemmas::has_one_entries, crate::proofs::NextLemmas::length_entries))]
-pub(crate) fn next_of(kind: Kind, calls: &[MadeCall]) -> Next
+pub(crate) fn next_of(kind: CallKind, calls: &[MadeCall]) -> Next
     ensures { result ≡ next_of kind (map entry_of calls.now) }
 {
     if is_raw(kind) && has_one(calls) {
@@ -49,23 +49,23 @@ fn is_one(code: Code) -> bool
     }
 }
 
-fn is_raw(kind: Kind) -> bool
+fn is_raw(kind: CallKind) -> bool
     ensures { result ≡ is_raw kind }
 {
-    matches!(kind, Kind::Raw)
+    matches!(kind, CallKind::Raw)
 }
 
-fn is_whole(kind: Kind) -> bool
+fn is_whole(kind: CallKind) -> bool
     ensures { result ≡ is_whole kind }
 {
-    matches!(kind, Kind::Msgm | Kind::Pubm)
+    matches!(kind, CallKind::Msgm | CallKind::Pubm)
 }
 
 // Whether a kind depends on a text's first word.
-pub(crate) fn is_word(kind: Kind) -> bool
+pub(crate) fn is_word(kind: CallKind) -> bool
     ensures { result ≡ is_word kind }
 {
-    matches!(kind, Kind::Msg | Kind::Pub)
+    matches!(kind, CallKind::Msg | CallKind::Pub)
 }
 
 /// Returns whether one of `calls` is a raw call with code 1. After it a line is not applied to the channel state.
@@ -100,8 +100,11 @@ fn has_silencer(calls: &[MadeCall]) -> bool
 }
 
 // Whether a code 1 of this kind keeps a line out of the log.
-fn is_silencing(kind: Kind) -> bool
+fn is_silencing(kind: CallKind) -> bool
     ensures { result ≡ is_silencing kind }
 {
-    matches!(kind, Kind::Raw | Kind::Msgm | Kind::Notc | Kind::Pubm)
+    matches!(
+        kind,
+        CallKind::Raw | CallKind::Msgm | CallKind::Notc | CallKind::Pubm
+    )
 }

@@ -5,13 +5,13 @@ ghost use Rattle.botcore.specs.Steps.{IsGoodEvent};
 use crate::procs::{Built, Ours, Runs, counted_store, no_runs};
 use bindtable::BindKind;
 use botcalls::MadeCall;
-use botcore::{Bot, BotError, Config, End, Event, Fault, NewBind, Note, Report};
+use botcore::{Bot, BotError, BotEvent, Config, End, NewBind, Note, Report, StepFault};
 use bottimers::Zone;
 use bytetext::{NoMemory, Text, Texts, TryCopy, copies_of};
 use caselines::{BAD_WORDS, CaseError, Sink, cut, number, zone_of};
 use disks::MemDisk;
 use ircline::read_line;
-use procstore::{Code, Kind, ProcStore};
+use procstore::{CallKind, Code, ProcStore};
 use std::alloc::Global;
 
 /// Answers `config NICK LEAVES NUMBER ZONE CHANNEL..`: `ok`, or the code of why no bot can be made so. `words` are
@@ -153,15 +153,15 @@ fn take(
     Ok(())
 }
 
-fn event_of(alloc: Global, step: &[u8]) -> Result<Event, CaseError>
+fn event_of(alloc: Global, step: &[u8]) -> Result<BotEvent, CaseError>
     ensures good { IfOk result IsGoodEvent }
 {
     let (name, rest) = cut(step, b' ');
     match name {
-        b"bind" => Ok(Event::Bind(new_bind(alloc, rest)?)),
-        b"clock" => Ok(Event::Clock(number(rest)?)),
-        b"connect" => Ok(Event::Connect),
-        b"line" => Ok(Event::Line(read_line(alloc, rest)?)),
+        b"bind" => Ok(BotEvent::Bind(new_bind(alloc, rest)?)),
+        b"clock" => Ok(BotEvent::Clock(number(rest)?)),
+        b"connect" => Ok(BotEvent::Connect),
+        b"line" => Ok(BotEvent::Line(read_line(alloc, rest)?)),
         _ => Err(BAD_WORDS),
     }
 }
@@ -232,7 +232,7 @@ fn call_shown(made: &MadeCall, out: &mut Sink) {
     }
 }
 
-fn fault_shown(fault: &Fault, out: &mut Sink) {
+fn fault_shown(fault: &StepFault, out: &mut Sink) {
     out.put(fault.word().as_bytes());
     if let Some(proc) = fault.proc() {
         out.put(b" ");
@@ -241,24 +241,24 @@ fn fault_shown(fault: &Fault, out: &mut Sink) {
     out.put(b", ");
 }
 
-fn word_of(kind: Kind) -> &'static [u8] {
+fn word_of(kind: CallKind) -> &'static [u8] {
     match kind {
-        Kind::Raw => b"raw",
-        Kind::Msg => b"msg",
-        Kind::Msgm => b"msgm",
-        Kind::Notc => b"notc",
-        Kind::Pub => b"pub",
-        Kind::Pubm => b"pubm",
-        Kind::Join => b"join",
-        Kind::Part => b"part",
-        Kind::Sign => b"sign",
-        Kind::Kick => b"kick",
-        Kind::Nick => b"nick",
-        Kind::Mode => b"mode",
-        Kind::Topc => b"topc",
-        Kind::Bot => b"bot",
-        Kind::Time => b"time",
-        Kind::Cron => b"cron",
-        Kind::Timer => b"timer",
+        CallKind::Raw => b"raw",
+        CallKind::Msg => b"msg",
+        CallKind::Msgm => b"msgm",
+        CallKind::Notc => b"notc",
+        CallKind::Pub => b"pub",
+        CallKind::Pubm => b"pubm",
+        CallKind::Join => b"join",
+        CallKind::Part => b"part",
+        CallKind::Sign => b"sign",
+        CallKind::Kick => b"kick",
+        CallKind::Nick => b"nick",
+        CallKind::Mode => b"mode",
+        CallKind::Topc => b"topc",
+        CallKind::Bot => b"bot",
+        CallKind::Time => b"time",
+        CallKind::Cron => b"cron",
+        CallKind::Timer => b"timer",
     }
 }

@@ -6,8 +6,8 @@ use bytetext::{NoMemory, Text, TryCopy};
 use itoa::Buffer;
 use outqueue::Queue;
 use procstore::{
-    Action, Actions, BotWish, Call, Code, Kind, Proc, ProcStore, Promise, PutWish, Reply, Run,
-    TimerName, TimerWish, View,
+    Action, Actions, BotWish, Call, CallKind, Code, Proc, ProcReply, ProcStore, Promise, PutWish,
+    Run, TimerName, TimerWish, View,
 };
 use std::alloc::Global;
 use std::cell::Cell;
@@ -63,9 +63,9 @@ impl Run for Built {
 
     ghost answers = { λ body _ _ answer. IfOk answer (λ reply. reply.code ≡ body.code) };
 
-    fn run(&self, call: &Call, view: &View<'_>) -> Result<Reply, NoMemory> {
+    fn run(&self, call: &Call, view: &View<'_>) -> Result<ProcReply, NoMemory> {
         self.runs.set(self.runs.get().wrapping_add(1));
-        Ok(Reply {
+        Ok(ProcReply {
             code: self.code,
             actions: self.actions(call, view)?,
         })
@@ -182,8 +182,8 @@ fn never(alloc: Global, text: &Text) -> Result<Actions, NoMemory> {
 // Returns the channel on which something was said, or the nick that said it privately.
 fn target_of(call: &Call) -> Option<&Text> {
     match call.kind {
-        Kind::Pub | Kind::Pubm => call.args.as_slice().get(3),
-        Kind::Msg | Kind::Msgm => call.args.as_slice().get(0),
+        CallKind::Pub | CallKind::Pubm => call.args.as_slice().get(3),
+        CallKind::Msg | CallKind::Msgm => call.args.as_slice().get(0),
         _ => None,
     }
 }

@@ -1,6 +1,6 @@
 // Scripts of a botnet.
 use crate::procs::store_of;
-use botcore::{Event, NewBind, OldBind};
+use botcore::{BotEvent, NewBind, OldBind};
 use botworld::Step;
 use bytetext::{NoMemory, Text, TryCopy};
 use caselines::{CaseError, Sink, line_shown, put_change};
@@ -115,27 +115,27 @@ fn put_step(alloc: Global, step: &Step, out: &mut Sink) {
     }
 }
 
-fn put_event(alloc: Global, event: &Event, out: &mut Sink) {
+fn put_event(alloc: Global, event: &BotEvent, out: &mut Sink) {
     match event {
-        Event::Ask(change) => {
+        BotEvent::Ask(change) => {
             out.put(b"ask ");
             put_change(alloc, change, out);
         }
-        Event::Connect => out.put(b"connect"),
-        Event::Pump => out.put(b"pump"),
-        Event::Compact => out.put(b"compact"),
-        Event::Restart => out.put(b"restart"),
-        Event::Receive(_) => out.put(b"receive"),
-        Event::Line(line) => {
+        BotEvent::Connect => out.put(b"connect"),
+        BotEvent::Pump => out.put(b"pump"),
+        BotEvent::Compact => out.put(b"compact"),
+        BotEvent::Restart => out.put(b"restart"),
+        BotEvent::Receive(_) => out.put(b"receive"),
+        BotEvent::Line(line) => {
             out.put(b"line ");
             line_shown(line, out);
         }
-        Event::Clock(moment) => {
+        BotEvent::Clock(moment) => {
             out.put(b"clock ");
             out.number(*moment);
         }
-        Event::Bind(bind) => put_bind(bind, out),
-        Event::Unbind(bind) => put_unbind(bind, out),
+        BotEvent::Bind(bind) => put_bind(bind, out),
+        BotEvent::Unbind(bind) => put_unbind(bind, out),
     }
 }
 

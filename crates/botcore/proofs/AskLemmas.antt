@@ -21,7 +21,7 @@ use Rattle.sharelink.specs.Calls.{note_of, IsFault}
 use Rattle.protocol.specs.Ends.{End, AtHub, AtLeaf, end_asks, with_asks, end_did}
 use Rattle.sharelink.specs.BotLinks.{BotEnd, Asks}
 use Rattle.botcore.specs.declared.fault.ActionFault.{ActionFault}
-use Rattle.botcore.specs.declared.fault.Fault.{Fault}
+use Rattle.botcore.specs.declared.fault.StepFault.{StepFault}
 use Rattle.botcore.specs.declared.report.End.TheVariants.{NoMemory as ends_no_memory}
 use Rattle.botcalls.specs.declared.made_call.MadeCall.{MadeCall}
 use Rattle.botcore.specs.Acting.{Acting, acted, acted_all, with_fault, action_faults, actions_of}
@@ -127,7 +127,7 @@ acted_all-append : (old : Acting) (xs ys : List Action) → acted_all old (xs ++
 acted_all-append old [] ys = refl
 acted_all-append old (x ∷ xs) ys = acted_all-append (acted old x).after xs ys
 
-with_fault-append : (fault : Option ActionFault) (xs ys : List Fault) → with_fault fault (xs ++ ys) ≡ with_fault fault xs ++ ys
+with_fault-append : (fault : Option ActionFault) (xs ys : List StepFault) → with_fault fault (xs ++ ys) ≡ with_fault fault xs ++ ys
 with_fault-append None xs ys = refl
 with_fault-append (Some fault) xs ys = refl
 
@@ -153,10 +153,10 @@ IsActing-more before old all link now left xs rest next new is here done more li
     record {
       acting = ap (λ (a : Acting). acted_all a rest) done.acting ∙ sym (acted_all-append (acting_at link now) xs rest)
           ∙ ap (acted_all (acting_at link now)) (sym here) ∙ is.acting;
-      faults = ap (λ (fs : List Fault). fs ++ action_faults (acting_at next new) rest) done.faults
+      faults = ap (λ (fs : List StepFault). fs ++ action_faults (acting_at next new) rest) done.faults
           ∙ ap (λ (a : Acting). (now.faults ++ action_faults (acting_at link now) xs) ++ action_faults a rest) done.acting
           ∙ append_assoc now.faults (action_faults (acting_at link now) xs) _
-          ∙ ap (λ (fs : List Fault). now.faults ++ fs) (sym (action_faults-append (acting_at link now) xs rest))
+          ∙ ap (λ (fs : List StepFault). now.faults ++ fs) (sym (action_faults-append (acting_at link now) xs rest))
           ∙ ap (λ (actions : List Action). now.faults ++ action_faults (acting_at link now) actions) (sym here) ∙ is.faults;
       kept = HasMoreAsks-then before link next is.kept more;
       lines = HasMoreLines-then old.queues now.queues new.queues is.lines lines;

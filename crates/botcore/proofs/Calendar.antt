@@ -4,11 +4,11 @@ use Rattle.jiff.specs.Words.{epoch_day}
 use Rattle.jiff_core.specs.Calendar.{weekday_number}
 use Rattle.jiff_core.proofs.DateLemmas.{epoch_day_injective}
 use Rattle.jiff.proofs.SpanFacts.{signed_arith}
-use Rattle.chanstate.specs.declared.event.Event.{Event as MessageEvent}
+use Rattle.chanstate.specs.declared.event.IrcEvent.{IrcEvent as MessageEvent}
 use Rattle.bottimers.specs.declared.calendar.CivilMinute.{CivilMinute}
 use Rattle.bottimers.specs.Civil.{IsCalendarMinute}
-use Rattle.botcalls.specs.declared.occasion.Occasion.{Occasion}
-use Rattle.botcalls.specs.declared.occasion.Occasion.TheVariants.{Heard, Due, Time, Cron, Said}
+use Rattle.botcalls.specs.declared.trigger.Trigger.{Trigger}
+use Rattle.botcalls.specs.declared.trigger.Trigger.TheVariants.{Heard, Due, Time, Cron, Said}
 use Rattle.botcore.specs.Happenings.{Happening}
 use Rattle.botcore.specs.Happenings.Happening.{Heard as heard_event, Due as due_proc, Time as time_minute, Cron as cron_minute, Said as said_text}
 use Rattle.botcore.specs.Shown.{IsShown, AreOccasions}
@@ -49,42 +49,42 @@ same_minute n a b one other =
 
 -- ---- what each that happens is shown as
 
-heard_as : (event : MessageEvent) (o : Occasion) → IsShown (heard_event event) o → o ≡ Heard event
+heard_as : (event : MessageEvent) (o : Trigger) → IsShown (heard_event event) o → o ≡ Heard event
 heard_as event (Heard e) is = ap (λ (x : MessageEvent). Heard x) is
 heard_as event (Due p t) is = absurd is
 heard_as event (Time m) is = absurd is
 heard_as event (Cron m) is = absurd is
 heard_as event (Said f t) is = absurd is
 
-due_as : (proc text : List ℕ) (o : Occasion) → IsShown (due_proc proc text) o → o ≡ Due proc text
+due_as : (proc text : List ℕ) (o : Trigger) → IsShown (due_proc proc text) o → o ≡ Due proc text
 due_as proc text (Heard e) is = absurd is
 due_as proc text (Due p t) is = ap (λ (x : List ℕ). Due x t) is.0 ∙ ap (λ (x : List ℕ). Due proc x) is.1
 due_as proc text (Time m) is = absurd is
 due_as proc text (Cron m) is = absurd is
 due_as proc text (Said f t) is = absurd is
 
-time_as : (n : ℤ) (o : Occasion) → IsShown (time_minute n) o → (m : CivilMinute) × (o ≡ Time m) × IsCalendarMinute n m
+time_as : (n : ℤ) (o : Trigger) → IsShown (time_minute n) o → (m : CivilMinute) × (o ≡ Time m) × IsCalendarMinute n m
 time_as n (Heard e) is = absurd is
 time_as n (Due p t) is = absurd is
 time_as n (Time m) is = (m, refl, is)
 time_as n (Cron m) is = absurd is
 time_as n (Said f t) is = absurd is
 
-cron_as : (n : ℤ) (o : Occasion) → IsShown (cron_minute n) o → (m : CivilMinute) × (o ≡ Cron m) × IsCalendarMinute n m
+cron_as : (n : ℤ) (o : Trigger) → IsShown (cron_minute n) o → (m : CivilMinute) × (o ≡ Cron m) × IsCalendarMinute n m
 cron_as n (Heard e) is = absurd is
 cron_as n (Due p t) is = absurd is
 cron_as n (Time m) is = absurd is
 cron_as n (Cron m) is = (m, refl, is)
 cron_as n (Said f t) is = absurd is
 
-said_as : (from : ℕ) (text : List ℕ) (o : Occasion) → IsShown (said_text from text) o → o ≡ Said from text
+said_as : (from : ℕ) (text : List ℕ) (o : Trigger) → IsShown (said_text from text) o → o ≡ Said from text
 said_as from text (Heard e) is = absurd is
 said_as from text (Due p t) is = absurd is
 said_as from text (Time m) is = absurd is
 said_as from text (Cron m) is = absurd is
 said_as from text (Said f t) is = ap (λ (x : ℕ). Said x t) is.0 ∙ ap (λ (x : List ℕ). Said from x) is.1
 
-same_shown : (h : Happening) (x y : Occasion) → IsShown h x → IsShown h y → x ≡ y
+same_shown : (h : Happening) (x y : Trigger) → IsShown h x → IsShown h y → x ≡ y
 same_shown (heard_event event) x y one other = heard_as event x one ∙ sym (heard_as event y other)
 same_shown (due_proc proc text) x y one other = due_as proc text x one ∙ sym (due_as proc text y other)
 same_shown (time_minute n) x y one other =
@@ -96,11 +96,11 @@ same_shown (cron_minute n) x y one other =
 same_shown (said_text from text) x y one other = said_as from text x one ∙ sym (said_as from text y other)
 
 -- the same that happens has the same occasions
-pub same_occasions : (happenings : List Happening) (xs ys : List Occasion) → AreOccasions happenings xs → AreOccasions happenings ys → xs ≡ ys
+pub same_occasions : (happenings : List Happening) (xs ys : List Trigger) → AreOccasions happenings xs → AreOccasions happenings ys → xs ≡ ys
 same_occasions [] [] [] one other = refl
 same_occasions [] [] (y ∷ ys) one other = absurd other
 same_occasions [] (x ∷ xs) ys one other = absurd one
 same_occasions (h ∷ hs) [] ys one other = absurd one
 same_occasions (h ∷ hs) (x ∷ xs) [] one other = absurd other
 same_occasions (h ∷ hs) (x ∷ xs) (y ∷ ys) one other =
-    ap (λ (o : Occasion). o ∷ xs) (same_shown h x y one.0 other.0) ∙ ap (λ (os : List Occasion). y ∷ os) (same_occasions hs xs ys one.1 other.1)
+    ap (λ (o : Trigger). o ∷ xs) (same_shown h x y one.0 other.0) ∙ ap (λ (os : List Trigger). y ∷ os) (same_occasions hs xs ys one.1 other.1)

@@ -12,7 +12,7 @@ use Rattle.botcore.specs.declared.report.End.TheVariants.{Done, NoMemory as ends
 use Rattle.botcore.specs.declared.report.Note.{Note}
 use Rattle.botcore.specs.declared.report.Report.{Report}
 use Rattle.bottimers.specs.Seconds.{seconds_run}
-use Rattle.botcalls.specs.declared.occasion.Occasion.{Occasion}
+use Rattle.botcalls.specs.declared.trigger.Trigger.{Trigger}
 use Rattle.botcore.specs.Bots.{Bot, bot_seen, bot_setting, seen_at}
 use Rattle.botcalls.specs.Calls.{Telling, called_in, calls_in}
 use Rattle.botcalls.specs.Dispatching.{told_of}
@@ -50,7 +50,7 @@ module _ (promised : Promised) where
       (IsCutShort-front (bot_seen start) told old new made front same)
 
   -- the seconds of a reading, of which the first calls were made
-  pub cut_short-seconds : (names : List (List ℕ)) (old new : Bot) (now : ℕ) (occasions : List Occasion) (made : Made) (calls : List MadeCall) (report : Report)
+  pub cut_short-seconds : (names : List (List ℕ)) (old new : Bot) (now : ℕ) (occasions : List Trigger) (made : Made) (calls : List MadeCall) (report : Report)
       → AreOccasions (seconds_of old.config.zone old.timers (seconds_run old.clock now)) occasions
       → IsFrontMade promised (seen_at old (Some now)) made (told_of (bot_setting promised names old) occasions) → calls ≡ made.calls → new ≡ old → report ≡ cut_short calls
       → TakesSeconds promised names old now report new

@@ -36,7 +36,7 @@ use Rattle.sharelink.specs.BotLinks.{asked, told}
 use Rattle.botcalls.specs.declared.made_call.MadeCall.{MadeCall}
 use Rattle.botcalls.specs.Calls.{Telling}
 use Rattle.botcalls.specs.Dispatching.{told_of}
-use Rattle.botcore.specs.declared.event.Event.TheVariants.{Line, Clock}
+use Rattle.botcore.specs.declared.event.BotEvent.TheVariants.{Line, Clock}
 use Rattle.botcore.specs.declared.report.End.{End}
 use Rattle.botcore.specs.declared.report.End.TheVariants.{Done, Refused, NoMemory}
 use Rattle.botcore.specs.declared.report.Note.{Note}

@@ -4,7 +4,7 @@ use Rattle.std.proofs.lemmas.List.{append-nil}
 use Rattle.std.proofs.Math.Seq.{take-append_seam}
 use Rattle.outqueue.specs.Sending.{Sending}
 use Rattle.procstore.specs.declared.action.PutWish.{PutWish}
-use Rattle.botcore.specs.declared.fault.Fault.{Fault}
+use Rattle.botcore.specs.declared.fault.StepFault.{StepFault}
 use Rattle.botcore.specs.Putting.{Continues, HasMoreLines, put_all, put_faults}
 
 -- lines after lines ------------------------------------------------------------------------------------------------------
@@ -43,7 +43,7 @@ taken old new more = ap (take (length old)) more.1 ∙ take-append_seam old more
 -- puts after puts --------------------------------------------------------------------------------------------------------
 
 -- some of all lines were put, from a first moment on, and these are left
-pub record IsPutting (old : Sending) (before : List Fault) (all : List PutWish) (now : Sending) (told : List Fault) (left : List PutWish) : Type 0 where
+pub record IsPutting (old : Sending) (before : List StepFault) (all : List PutWish) (now : Sending) (told : List StepFault) (left : List PutWish) : Type 0 where
   pub queues : put_all now left ≡ put_all old all
   pub faults : told ++ put_faults now left ≡ before ++ put_faults old all
   pub kept : HasMoreLines old now

@@ -9,8 +9,8 @@ use Rattle.bottimers.specs.declared.call.TimerCall.{TimerCall}
 use Rattle.bottimers.specs.Held.{Held, IsAbove, passed}
 use Rattle.bottimers.specs.Seconds.{seconds_run, last_after}
 use Rattle.bottimers.specs.Zones.{TzText}
-use Rattle.botcalls.specs.declared.occasion.Occasion.{Occasion}
-use Rattle.botcalls.specs.declared.occasion.Occasion.TheVariants.{Due as due_occasion}
+use Rattle.botcalls.specs.declared.trigger.Trigger.{Trigger}
+use Rattle.botcalls.specs.declared.trigger.Trigger.TheVariants.{Due as due_occasion}
 use Rattle.botcore.specs.Happenings.{Happening, second_of, seconds_of, passed_all}
 use Rattle.botcore.specs.Happenings.Happening.{Due}
 use Rattle.botcore.specs.Rising.{IsReached, Rise}
@@ -20,7 +20,7 @@ use Rattle.botcore.specs.Steps.{is_stale}
 -- ---- occasions
 
 -- those of one list and then of another
-pub AreOccasions-append : (hs gs : List Happening) (os ps : List Occasion) → AreOccasions hs os → AreOccasions gs ps
+pub AreOccasions-append : (hs gs : List Happening) (os ps : List Trigger) → AreOccasions hs os → AreOccasions gs ps
     → AreOccasions (hs ++ gs) (os ++ ps)
 AreOccasions-append [] gs [] ps first next = next
 AreOccasions-append [] gs (o ∷ os) ps first next = absurd first
@@ -28,7 +28,7 @@ AreOccasions-append (h ∷ hs) gs [] ps first next = absurd first
 AreOccasions-append (h ∷ hs) gs (o ∷ os) ps first next = (first.0, AreOccasions-append hs gs os ps first.1 next)
 
 -- all are the first of all
-pub AreFirst-all : (hs : List Happening) (os : List Occasion) → AreOccasions hs os → AreFirst hs os
+pub AreFirst-all : (hs : List Happening) (os : List Trigger) → AreOccasions hs os → AreFirst hs os
 AreFirst-all [] [] all = tt
 AreFirst-all [] (o ∷ os) all = absurd all
 AreFirst-all (h ∷ hs) [] all = absurd all
@@ -42,7 +42,7 @@ due_occasions (c ∷ cs) = ((refl, refl), due_occasions cs)
 -- ---- seconds
 
 -- some seconds have run, from first timers on, and the rest are left
-pub record IsRunning (zone : TzText) (first : Held) (all : List ℕ) (timers : Held) (rest : List ℕ) (occasions : List Occasion) : Type 0 where
+pub record IsRunning (zone : TzText) (first : Held) (all : List ℕ) (timers : Held) (rest : List ℕ) (occasions : List Trigger) : Type 0 where
   pub done : List Happening
   pub shown : AreOccasions done occasions
   pub brings : done ++ seconds_of zone timers rest ≡ seconds_of zone first all
@@ -50,7 +50,7 @@ pub record IsRunning (zone : TzText) (first : Held) (all : List ℕ) (timers : H
   pub rises : Rise timers.last rest
 
 -- one more runs
-pub IsRunning-next : (zone : TzText) (first : Held) (all : List ℕ) (timers new : Held) (rest behind : List ℕ) (t : ℕ) (occasions more after : List Occasion)
+pub IsRunning-next : (zone : TzText) (first : Held) (all : List ℕ) (timers new : Held) (rest behind : List ℕ) (t : ℕ) (occasions more after : List Trigger)
     → IsRunning zone first all timers rest occasions → rest ≡ t ∷ behind → new ≡ passed t timers
     → AreOccasions (second_of zone t timers) more → after ≡ occasions ++ more → IsRunning zone first all new behind after
 IsRunning-next zone first all timers new rest behind t occasions more after is next passes shown appended =

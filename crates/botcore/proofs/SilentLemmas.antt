@@ -7,8 +7,8 @@ use Rattle.userfile.specs.declared.change.Change.{Change as UserChange}
 use Rattle.userfile.specs.declared.error.ChangeFault.{ChangeFault}
 use Rattle.usercodec.specs.declared.records.Record.{Record}
 use Rattle.botjournal.specs.declared.TheConstants.{LAYOUT}
-use Rattle.botjournal.specs.declared.reply.Answer.{Answer}
-use Rattle.botjournal.specs.declared.reply.Answer.TheVariants.{Taken, Refused as refused_request}
+use Rattle.botjournal.specs.declared.reply.Verdict.{Verdict}
+use Rattle.botjournal.specs.declared.reply.Verdict.TheVariants.{Taken, Refused as refused_request}
 use Rattle.botjournal.specs.declared.reply.Reply.{Reply}
 use Rattle.protocol.specs.Numbers.{last_number, item_at, Place, Below, Same, Next, Above, place_of}
 use Rattle.protocol.specs.Packets.{Packet, Outgoing, AcceptedChange, change_packet, to_each}
@@ -124,12 +124,12 @@ module _ (leaves number : ℕ) (old : Leaf) where
   change_silent change Next = applied_silent change (refusal old.kept.records change)
   change_silent change Above = refl
 
-  taken_silent : (request : ℕ) (answer : Answer) (is_out : Bool) → IsSilent (reply_taken leaves number Works old request answer is_out)
+  taken_silent : (request : ℕ) (answer : Verdict) (is_out : Bool) → IsSilent (reply_taken leaves number Works old request answer is_out)
   taken_silent request answer false = refl
   taken_silent request (Taken n) true = refl
   taken_silent request (refused_request fault) true = refl
 
-  reply_silent : (leaf request : ℕ) (answer : Answer) → IsSilent (reply_received leaves number Works old leaf request answer)
+  reply_silent : (leaf request : ℕ) (answer : Verdict) → IsSilent (reply_received leaves number Works old leaf request answer)
   reply_silent leaf request answer =
       silent_if (not (leaf == number) || (request == 0)) (noted Stray old) _ refl (taken_silent request answer (is_out request old.kept.out))
 

@@ -18,8 +18,8 @@ use Rattle.chanstate.specs.declared.member.Mark.TheVariants.{Op, Voice, HalfOp}
 use Rattle.chanstate.specs.declared.member.Member.{Member}
 use Rattle.chanstate.specs.declared.state.ChanState.{ChanState}
 use Rattle.chanstate.specs.declared.support.Support.{Support}
-use Rattle.chanstate.specs.declared.verb.Verb.{Verb}
-use Rattle.chanstate.specs.declared.verb.Verb.TheVariants as verb
+use Rattle.chanstate.specs.declared.channel_command.ChannelCommand.{ChannelCommand}
+use Rattle.chanstate.specs.declared.channel_command.ChannelCommand.TheVariants as verb
 use Rattle.chanstate.specs.Channels.{with_members}
 use Rattle.chanstate.specs.Comings.{spelled}
 use Rattle.chanstate.specs.Firsts.{first_changed}
@@ -32,7 +32,7 @@ use Rattle.chanstate.specs.Views.{channel_in, is_op, member_in, members_of}
 use Rattle.rfccase.proofs.SameLemmas.{is_same-refl}
 use Rattle.chanstate.proofs.FindLemmas.{pointwise-same, none-is}
 use Rattle.chanstate.proofs.LookLemmas.{find-changed}
-use Rattle.botcore.specs.declared.cue.Cue.TheVariants as cue
+use Rattle.botcore.specs.declared.watched_command.WatchedCommand.TheVariants as cue
 use Rattle.botcore.specs.Automatic.{cue_of, guarded_as, is_own, mode_wishes, modes_in, set_again}
 use Rattle.chanstate.proofs.ItemLemmas.{mark_keeps}
 use Rattle.botcore.specs.Operators.{is_op_after, op_left, op_marked}
@@ -346,4 +346,4 @@ mode_verb command is = ap verb_of (pointwise-same command (codes "MODE") (third_
 pub after_mode : (message : Message) (s : ChanState) → cue_of message.command ≡ cue.Mode
     → steps (mode_items message.params) s ≡ after message s
 after_mode message s is =
-    ap (λ (v : Verb). steps (items_by v (source_of message.prefix) message.params) s) (sym (mode_verb message.command is))
+    ap (λ (v : ChannelCommand). steps (items_by v (source_of message.prefix) message.params) s) (sym (mode_verb message.command is))

@@ -25,8 +25,8 @@ use Rattle.protocol.specs.Ends.{End}
 use Rattle.sharelink.specs.BotLinks.{BotEnd, asked}
 use Rattle.botcore.specs.declared.fault.ActionFault.{ActionFault}
 use Rattle.botcore.specs.declared.fault.ActionFault.TheVariants.{Link as link_fault, Clock as clock_fault, Queue as queue_fault}
-use Rattle.botcore.specs.declared.fault.Fault.{Fault}
-use Rattle.botcore.specs.declared.fault.Fault.TheVariants.{Unbound as unbound_fault, Action as action_fault}
+use Rattle.botcore.specs.declared.fault.StepFault.{StepFault}
+use Rattle.botcore.specs.declared.fault.StepFault.TheVariants.{Unbound as unbound_fault, Action as action_fault}
 use Rattle.botcalls.specs.declared.made_call.MadeCall.{MadeCall}
 use Rattle.botcalls.specs.declared.made_call.Unbound.{Unbound}
 use Rattle.botcore.specs.Links.{fault_told, link_text}
@@ -116,15 +116,15 @@ acted_all old [] = old
 acted_all old (a ∷ actions) = acted_all (acted old a).after actions
 
 -- a refusal, before those of later actions
-abbrev pub with_fault : Option ActionFault → List Fault → List Fault
+abbrev pub with_fault : Option ActionFault → List StepFault → List StepFault
 with_fault None later = later
 with_fault (Some fault) later = action_fault fault ∷ later
 
 -- the refusals
-abbrev pub action_faults : Acting → List Action → List Fault
+abbrev pub action_faults : Acting → List Action → List StepFault
 action_faults old [] = []
 action_faults old (a ∷ actions) = with_fault (acted old a).fault (action_faults (acted old a).after actions)
 
 -- the binds that were left out, and then the actions that are refused
-abbrev pub faults_of : Acting → List MadeCall → List Unbound → List Fault
+abbrev pub faults_of : Acting → List MadeCall → List Unbound → List StepFault
 faults_of old calls unbound = map (λ u. unbound_fault u) unbound ++ action_faults old (actions_of calls)

@@ -25,8 +25,8 @@ use Rattle.chanstate.specs.Steps.{after}
 use Rattle.chanstate.specs.Views.{member_in, is_op}
 use Rattle.procstore.specs.declared.action.PutWish.{PutWish}
 use Rattle.botcore.specs.declared.config.Config.{Config}
-use Rattle.botcore.specs.declared.cue.Cue.{Cue}
-use Rattle.botcore.specs.declared.cue.Cue.TheVariants as cue
+use Rattle.botcore.specs.declared.watched_command.WatchedCommand.{WatchedCommand}
+use Rattle.botcore.specs.declared.watched_command.WatchedCommand.TheVariants as cue
 use Rattle.botcore.specs.declared.limits.TheConstants.{MAX_NICK}
 
 -- a line of these pieces, for this queue
@@ -151,7 +151,7 @@ mode_wishes bans now who params s =
 abbrev pub is_command : List ℕ → List ℕ → Bool
 is_command word command = bytes_eq command word
 
-abbrev pub cue_of : List ℕ → Cue
+abbrev pub cue_of : List ℕ → WatchedCommand
 cue_of command =
     if is_command (codes "PING") command then cue.Ping
     else (if is_command (codes "JOIN") command then cue.Join
@@ -165,7 +165,7 @@ abbrev pub is_welcome : Message → Bool
 is_welcome message = is_command (codes "001") message.command && not (length message.params == 0)
 
 -- the channels of a message on which it checks a person who has joined
-abbrev pub watched_by : Cue → Message → ChanState → List (List ℕ)
+abbrev pub watched_by : WatchedCommand → Message → ChanState → List (List ℕ)
 watched_by cue.Ping message s = []
 watched_by cue.Join message s = watched (source_of message.prefix) message.params s
 watched_by cue.Mode message s = []
@@ -178,7 +178,7 @@ watched_in message s = watched_by (cue_of message.command) message s
 
 -- the lines of a message, for a bot with this configuration, in these channels before it, with these bans, at the last
 -- second of its clock (0 before the first reading), and welcomed or not
-abbrev pub lines_by : Cue → Config → ChanState → List Ban → Option ℕ → Bool → Message → List PutWish
+abbrev pub lines_by : WatchedCommand → Config → ChanState → List Ban → Option ℕ → Bool → Message → List PutWish
 lines_by cue.Ping config s bans last welcomed message =
     if_there (slice_get message.params 0) (λ text. pong_wish text ∷ [])
 lines_by cue.Join config s bans last welcomed message =

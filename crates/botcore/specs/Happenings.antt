@@ -2,7 +2,7 @@
 use Rattle.std.specs.Prelude.{ℕ, ◌%◌, ◌==◌, ℤ, List, [], ◌∷◌, ◌++◌, map, length, if◌then◌else◌}
 use Rattle.std.specs.Prelude.{Option, Some, None, Result, Ok, Err}
 use Rattle.ircline.specs.declared.line.Line.TheVariants.{Message as a_message}
-use Rattle.chanstate.specs.declared.event.Event.{Event as MessageEvent}
+use Rattle.chanstate.specs.declared.event.IrcEvent.{IrcEvent as MessageEvent}
 use Rattle.chanstate.specs.Events.{events_of}
 use Rattle.chanstate.specs.Speech.{first_word}
 use Rattle.bottimers.specs.Held.{Held, calls_at, passed}
@@ -12,8 +12,8 @@ use Rattle.protocol.specs.Notes.{Note as Meaning, LinkFault as Meant}
 use Rattle.protocol.specs.Notes.Note.{Text as text_note}
 use Rattle.protocol.specs.Bots.{Works}
 use Rattle.sharelink.specs.BotLinks.{took}
-use Rattle.botcore.specs.declared.event.Event.{Event}
-use Rattle.botcore.specs.declared.event.Event.TheVariants.{Line, Receive, Clock}
+use Rattle.botcore.specs.declared.event.BotEvent.{BotEvent}
+use Rattle.botcore.specs.declared.event.BotEvent.TheVariants.{Line, Receive, Clock}
 use Rattle.botcore.specs.Bots.{Bot}
 
 pub data Happening : Type 0 where
@@ -75,7 +75,7 @@ passed_all timers (t ∷ ts) = passed_all (passed t timers) ts
 -- ---- any event
 
 -- the events of a message, the seconds that a reading runs, a text that a packet brings; nothing else calls procs
-abbrev pub happenings_of : Bot → Event → List Happening
+abbrev pub happenings_of : Bot → BotEvent → List Happening
 happenings_of bot (Line (a_message message)) = map Heard (events_of message bot.channels)
 happenings_of bot (Receive packet) = said_if (saying_of (took bot.link packet Works).told)
 happenings_of bot (Clock now) = seconds_of bot.config.zone bot.timers (seconds_run bot.clock now)

@@ -5,7 +5,7 @@ use Rattle.chanstate.specs.declared.state.ChanState.{ChanState}
 use Rattle.chanstate.specs.Steps.{after}
 use Rattle.outqueue.specs.Sending.{sent, after as after_sending}
 use Rattle.procstore.specs.declared.action.PutWish.{PutWish}
-use Rattle.botcore.specs.declared.fault.Fault.{Fault}
+use Rattle.botcore.specs.declared.fault.StepFault.{StepFault}
 use Rattle.botcalls.specs.declared.made_call.MadeCall.{MadeCall}
 use Rattle.botcore.specs.Acting.{Acting, actions_of, acted_all}
 use Rattle.botcore.specs.Automatic.{automatic_lines, is_welcome}
@@ -33,7 +33,7 @@ after_calls bot calls = left_by bot (acting_after bot calls)
 -- what an event leaves: the bot, the faults of its own lines, and the lines that go to the server
 pub record Finish : Type 0 where
   pub after : Bot
-  pub faults : List Fault
+  pub faults : List StepFault
   pub lines : List (List ℕ)
 
 -- a text of another bot leaves what its calls leave, and nothing more

@@ -12,7 +12,7 @@ use Rattle.sharelink.specs.BotOpening.{IsFound, IsLeft, FindsNone, MeanTheSame}
 use Rattle.botcore.specs.declared.config.Config.{Config}
 use Rattle.botcore.specs.declared.fault.BotFault.{BotFault}
 use Rattle.botcore.specs.declared.fault.BotFault.TheVariants.{BadConfig, Journal}
-use Rattle.botcore.specs.declared.making.Returned.{Returned}
+use Rattle.botcore.specs.declared.making.UnopenedBot.{UnopenedBot}
 use Rattle.botcore.specs.Bots.{Bot, begun, new_bot}
 use Rattle.botcore.specs.Configs.{IsGood}
 
@@ -39,7 +39,7 @@ module _ {D : Type 0} (state : D → State) (config : Config) (first second : D)
   NotMade NoMemory first' second' = IsGood config × CannotCreate (state first) (state second) NoMemory (state first') (state second')
 
   -- Making a bot, by cases on the answer.
-  abbrev pub Makes : Result Bot (Returned D) → Type 0
+  abbrev pub Makes : Result Bot (UnopenedBot D) → Type 0
   Makes (Ok bot) = IsGood config × (bot ≡ new_bot config bot.link.device)
   Makes (Err returned) = NotMade returned.error returned.disks.first returned.disks.second
 
@@ -63,7 +63,7 @@ module _ {D : Type 0} (state : D → State) (config : Config) (first second : D)
       × (link ≡ record { number = config.number; leaves = config.leaves; end = link.end; device = link.device })
 
   -- Opening a bot, by cases on the answer.
-  abbrev pub Finds : Result Bot (Returned D) → Type 0
+  abbrev pub Finds : Result Bot (UnopenedBot D) → Type 0
   Finds (Ok bot) = IsGood config × IsOnDisks bot.link × (bot ≡ begun config bot.link)
   Finds (Err returned) = NotFound returned.error returned.disks.first returned.disks.second
 
@@ -73,6 +73,6 @@ module _ {D : Type 0} (state : D → State) (config : Config) (first second : D)
       (IsLeft config.number config.leaves (meaning (state first).seen (state second).seen))
 
   -- so it is at each moment of opening a bot
-  abbrev pub FindsAtEachMoment : Result Bot (Returned D) → Type 0
+  abbrev pub FindsAtEachMoment : Result Bot (UnopenedBot D) → Type 0
   FindsAtEachMoment (Ok bot) = LeavesFound bot.link.device
   FindsAtEachMoment (Err returned) = LeavesFound (device_on (state returned.disks.first) (state returned.disks.second))

@@ -6,7 +6,7 @@ use Rattle.bottimers.specs.Held.{Held}
 use Rattle.userfile.specs.declared.change.Change.{Change}
 use Rattle.procstore.specs.declared.action.Action.{Action}
 use Rattle.sharelink.specs.declared.answer.Outgoing.{Outgoing}
-use Rattle.botcore.specs.declared.fault.Fault.{Fault}
+use Rattle.botcore.specs.declared.fault.StepFault.{StepFault}
 use Rattle.sharelink.specs.BotLinks.{BotEnd, keeps_asks}
 use Rattle.botcore.specs.Acting.{Acting, Acted, acted_all, with_fault, action_faults}
 use Rattle.botcore.specs.Bots.{Bot}
@@ -19,7 +19,7 @@ pub record Progress : Type 0 where
   pub last : Option ℕ
   pub sent : List Outgoing
   pub queues : Sending
-  pub faults : List Fault
+  pub faults : List StepFault
 
 -- all that actions change
 abbrev pub acting_at : BotEnd → Progress → Acting

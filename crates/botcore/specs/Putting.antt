@@ -4,8 +4,8 @@ use Rattle.outqueue.specs.declared.fault.QueueFault.{QueueFault}
 use Rattle.outqueue.specs.Refusals.{refusal, put_last}
 use Rattle.outqueue.specs.Sending.{Sending, no_room}
 use Rattle.procstore.specs.declared.action.PutWish.{PutWish}
-use Rattle.botcore.specs.declared.fault.Fault.{Fault}
-use Rattle.botcore.specs.declared.fault.Fault.TheVariants.{Line as line_fault}
+use Rattle.botcore.specs.declared.fault.StepFault.{StepFault}
+use Rattle.botcore.specs.declared.fault.StepFault.TheVariants.{Line as line_fault}
 
 -- ---- one line
 
@@ -17,7 +17,7 @@ abbrev pub queued : Sending → PutWish → Sending
 queued queues wish = queued_unless (refusal queues wish.queue wish.line) queues wish
 
 -- a refusal, before those of later lines
-abbrev pub with_line_fault : Option QueueFault → List Fault → List Fault
+abbrev pub with_line_fault : Option QueueFault → List StepFault → List StepFault
 with_line_fault None later = later
 with_line_fault (Some fault) later = line_fault fault ∷ later
 
@@ -28,7 +28,7 @@ put_all queues [] = queues
 put_all queues (wish ∷ wishes) = put_all (queued queues wish) wishes
 
 -- the lines that are refused
-abbrev pub put_faults : Sending → List PutWish → List Fault
+abbrev pub put_faults : Sending → List PutWish → List StepFault
 put_faults queues [] = []
 put_faults queues (wish ∷ wishes) =
     with_line_fault (refusal queues wish.queue wish.line) (put_faults (queued queues wish) wishes)

@@ -10,8 +10,8 @@ use Rattle.ircline.specs.declared.message.Message.{Message}
 use Rattle.chanstate.specs.Memory.{takes_memory}
 use Rattle.chanstate.specs.Views.{connected}
 use Rattle.bindtable.specs.Hearing.{hear_messages}
-use Rattle.botcore.specs.declared.event.Event.{Event}
-use Rattle.botcore.specs.declared.event.Event.TheVariants.{Connect, Line, Ask, Pump, Receive, Clock, Bind, Unbind, Compact, Restart}
+use Rattle.botcore.specs.declared.event.BotEvent.{BotEvent}
+use Rattle.botcore.specs.declared.event.BotEvent.TheVariants.{Connect, Line, Ask, Pump, Receive, Clock, Bind, Unbind, Compact, Restart}
 use Rattle.botcore.specs.Automatic.{automatic_lines, watched_in}
 use Rattle.botcore.specs.Bots.{Bot}
 use Rattle.botcore.specs.Links.{link_records}
@@ -40,7 +40,7 @@ pub record PassesQuietly (bot : Bot) (now : ℕ) : Type 0 where
 
 -- an event for whose calls and content the bot does not allocate, or an ask; for others the step's own rule says when
 -- it does not allocate
-abbrev pub NeedsNone : Bot → Event → Type 0
+abbrev pub NeedsNone : Bot → BotEvent → Type 0
 NeedsNone bot (Line (a_message message)) = BringsNothing bot message
 NeedsNone bot (Line (a_bad_line fault)) = ⊥
 NeedsNone bot (Clock now) = PassesQuietly bot now

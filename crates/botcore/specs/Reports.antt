@@ -6,7 +6,7 @@ use Rattle.bindtable.specs.declared.fault.BindFault.{BindFault}
 use Rattle.sharelink.specs.declared.answer.Answer.{Answer}
 use Rattle.sharelink.specs.declared.answer.Outgoing.{Outgoing}
 use Rattle.sharelink.specs.declared.error.LinkFault.{LinkFault}
-use Rattle.botcore.specs.declared.fault.Fault.{Fault}
+use Rattle.botcore.specs.declared.fault.StepFault.{StepFault}
 use Rattle.botcore.specs.declared.fault.Refusal.{Refusal}
 use Rattle.botcore.specs.declared.fault.Refusal.TheVariants.{Link as link_refusal, Bind as bind_refusal}
 use Rattle.botcalls.specs.declared.made_call.MadeCall.{MadeCall}
@@ -51,7 +51,7 @@ unbind_report (Err fault) = refused (bind_refusal fault)
 -- ---- what calls procs
 
 -- what came of an event: its calls, its texts to bots, its lines to the server, and its faults
-abbrev pub told : Option Note → List MadeCall → List Outgoing → List (List ℕ) → List Fault → Report
+abbrev pub told : Option Note → List MadeCall → List Outgoing → List (List ℕ) → List StepFault → Report
 told note calls packets lines faults =
     record {
       end = Done;

@@ -21,20 +21,20 @@ use Rattle.protocol.specs.Network.Event.{Pump as pumps, Compact as compacts}
 use Rattle.userfile.specs.declared.change.Change.{Change}
 use Rattle.sharelink.specs.declared.answer.Answer.{Answer}
 use Rattle.sharelink.specs.declared.error.LinkFault.{LinkFault}
-use Rattle.sharelink.specs.declared.note.Note.TheVariants.{Text as told_text}
+use Rattle.sharelink.specs.declared.note.LinkNote.TheVariants.{Text as told_text}
 use Rattle.sharelink.specs.Shapes.{HasGoodRecords}
 use Rattle.protocol.specs.Ends.{End as LinkEnd}
 use Rattle.sharelink.specs.BotLinks.{BotEnd, did, took, Calls, CallsRestart, Asks, LeavesOwn}
-use Rattle.botcore.specs.declared.event.Event.{Event}
-use Rattle.botcore.specs.declared.event.Event.TheVariants.{Connect, Line, Ask, Pump, Receive, Clock, Bind, Unbind, Compact, Restart}
+use Rattle.botcore.specs.declared.event.BotEvent.{BotEvent}
+use Rattle.botcore.specs.declared.event.BotEvent.TheVariants.{Connect, Line, Ask, Pump, Receive, Clock, Bind, Unbind, Compact, Restart}
 use Rattle.botcore.specs.declared.event.NewBind.{NewBind}
 use Rattle.botcore.specs.declared.event.OldBind.{OldBind}
 use Rattle.botcore.specs.declared.fault.Refusal.TheVariants.{Bind as bind_refusal, Clock as clock_refusal}
 use Rattle.botcore.specs.declared.report.End.{End}
 use Rattle.botcore.specs.declared.report.End.TheVariants.{Done, Refused, NoMemory}
 use Rattle.botcalls.specs.declared.made_call.MadeCall.{MadeCall}
-use Rattle.botcalls.specs.declared.occasion.Occasion.{Occasion}
-use Rattle.botcalls.specs.declared.occasion.Occasion.TheVariants.{Heard, Said}
+use Rattle.botcalls.specs.declared.trigger.Trigger.{Trigger}
+use Rattle.botcalls.specs.declared.trigger.Trigger.TheVariants.{Heard, Said}
 use Rattle.botcore.specs.declared.report.Note.{Note}
 use Rattle.botcore.specs.declared.report.Note.TheVariants.{Link as link_note, Bound, Unbound, Bad}
 use Rattle.botcore.specs.declared.report.Report.{Report}
@@ -178,7 +178,7 @@ TakesMessage promised names old message report new =
     TakesCalls report.end promised (message_told promised names old message) old old None (finish_line old message) report new
 
 -- a text of another bot calls procs by its first word, if it begins with one
-abbrev pub said_occasions : Saying → List Occasion
+abbrev pub said_occasions : Saying → List Trigger
 said_occasions saying = if length (first_word saying.text) == 0 then [] else Said saying.from saying.text ∷ []
 
 abbrev pub text_note : Saying → Note
@@ -215,7 +215,7 @@ run_to old now = record old { clock = Some now; timers = passed_all old.timers (
 abbrev pub TakesSeconds : Promised → List (List ℕ)
     → Bot → ℕ → Report → Bot → Type 0
 TakesSeconds promised names old now report new =
-    (occasions : List Occasion)
+    (occasions : List Trigger)
     × AreTaken report.end (seconds_of old.config.zone old.timers (seconds_run old.clock now)) occasions
     × TakesCalls report.end promised (told_of (bot_setting promised names old) occasions) old (run_to old now)
     None (finish_reading (run_to old now) now) report new
@@ -235,7 +235,7 @@ TakesReading None promised names old now report new = TakesMoment (is_stale old.
 -- ---- any event
 
 -- a packet that arrives has well-formed records
-abbrev pub IsGoodEvent : Event → Type 0
+abbrev pub IsGoodEvent : BotEvent → Type 0
 IsGoodEvent Connect = Unit {0}
 IsGoodEvent (Line line) = Unit {0}
 IsGoodEvent (Ask change) = Unit {0}
@@ -249,7 +249,7 @@ IsGoodEvent Restart = Unit {0}
 
 -- one step with a store of these names, from old to new
 abbrev pub TakesStep : Promised → List (List ℕ)
-    → Bot → Event → Report → Bot → Type 0
+    → Bot → BotEvent → Report → Bot → Type 0
 TakesStep promised names old Connect report new = Gives report.end (Unit {0}) old (connect_due old) report new
 TakesStep promised names old (Line (a_message message)) report new = TakesMessage promised names old message report new
 TakesStep promised names old (Line (a_bad_line fault)) report new = (report ≡ done (Some (Bad fault))) × (new ≡ old)

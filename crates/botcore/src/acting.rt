@@ -1,6 +1,6 @@
 // Carries out the actions of calls.
 
-use crate::fault::{ActionFault, Fault};
+use crate::fault::{ActionFault, StepFault};
 use crate::putting::put;
 use crate::report::Faults;
 use botcalls::MadeCall;
@@ -45,7 +45,7 @@ impl Model for Doing {
 impl Doing {
     ghost use Rattle.std.specs.Prelude.{◌≡◌, ◌++◌, ◌∷◌, [], length, OnOk};
     ghost use Rattle.bottimers.specs.Held.{IsNotBelow, holds_named};
-    ghost use Rattle.botcore.specs.declared.fault.Fault.TheVariants.{Action as action_fault};
+    ghost use Rattle.botcore.specs.declared.fault.StepFault.TheVariants.{Action as action_fault};
     ghost use Rattle.sharelink.specs.BotLinks.{BotEnd, asked};
     ghost use Rattle.botcore.specs.Acting.{acted, actions_of, asked_to, killed_if, put_unless, sent_if, timer_made};
     ghost use Rattle.botcore.specs.Links.{link_text};
@@ -225,6 +225,6 @@ impl Doing {
         ensures told { OnOk result (self.new ≡ record self.old { faults = self.old.faults ++ action_fault fault ∷ [] }) }
         ensures queues { self.new.queues ≡ self.old.queues }
     {
-        self.faults.push(Fault::Action(fault))
+        self.faults.push(StepFault::Action(fault))
     }
 }

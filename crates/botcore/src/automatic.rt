@@ -5,10 +5,10 @@ ghost use Rattle.botcore.specs.Automatic.{greeting, is_welcome, if_there, join_w
 
 use crate::bot::Bot;
 use crate::config::Config;
-use crate::cue::{Cue, cue_of};
 use crate::joining::on_join;
 use crate::limits::MAX_NICK;
 use crate::sticky::on_mode;
+use crate::watched_command::{WatchedCommand, cue_of};
 use crate::wish::{alone, wish};
 use bytetext::{NoMemory, Text};
 use disks::Disk;
@@ -38,8 +38,8 @@ impl<D: Disk> Bot<D> {
     {
         let params = message.params.as_slice();
         match cue_of(message.command.as_bytes()) {
-            Cue::Ping => answer(alloc, params),
-            Cue::Join => {
+            WatchedCommand::Ping => answer(alloc, params),
+            WatchedCommand::Join => {
                 let from = source(message.prefix.as_bytes());
                 let now = self.clock.last().unwrap_or(0);
                 on_join(
@@ -51,7 +51,7 @@ impl<D: Disk> Bot<D> {
                     now,
                 )
             }
-            Cue::Mode => {
+            WatchedCommand::Mode => {
                 let from = source(message.prefix.as_bytes());
                 let now = self.clock.last().unwrap_or(0);
                 on_mode(
@@ -63,9 +63,9 @@ impl<D: Disk> Bot<D> {
                     now,
                 )
             }
-            Cue::RplWelcome => join_all(alloc, params, self.config.channels.as_slice()),
-            Cue::ErrNicknameInUse => other_nick(alloc, welcomed, params),
-            Cue::Other => Ok(Vec::new(alloc)),
+            WatchedCommand::RplWelcome => join_all(alloc, params, self.config.channels.as_slice()),
+            WatchedCommand::ErrNicknameInUse => other_nick(alloc, welcomed, params),
+            WatchedCommand::Other => Ok(Vec::new(alloc)),
         }
     }
 }

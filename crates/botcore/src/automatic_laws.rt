@@ -5,7 +5,7 @@ ghost use Rattle.userfile.specs.declared.ban.Ban.{Ban};
 ghost use Rattle.chanstate.specs.declared.state.ChanState.{ChanState};
 ghost use Rattle.chanstate.specs.Steps.{after};
 ghost use Rattle.botcore.specs.declared.config.Config.{Config};
-ghost use Rattle.botcore.specs.declared.cue.Cue.TheVariants.{Mode};
+ghost use Rattle.botcore.specs.declared.watched_command.WatchedCommand.TheVariants.{Mode};
 ghost use Rattle.botcore.specs.Automatic.{automatic_lines, cue_of};
 
 /// States a law and does nothing: unless a message is a MODE, a bot queues the same lines for it by the channels

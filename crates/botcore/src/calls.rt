@@ -1,13 +1,13 @@
 // What calls and their actions do to a bot.
 ghost use Rattle.std.specs.Prelude.{◌≡◌, [], map, IfOk, IsFalse, IsOk};
-ghost use Rattle.botcore.specs.declared.fault.Fault.TheVariants.{Unbound as unbound_fault};
+ghost use Rattle.botcore.specs.declared.fault.StepFault.TheVariants.{Unbound as unbound_fault};
 ghost use Rattle.botcore.specs.Acting.{actions_of};
 
 use crate::acting::Doing;
 use crate::bot::Bot;
-use crate::fault::Fault;
+use crate::fault::StepFault;
 use crate::report::Faults;
-use botcalls::{Dispatch, MadeCall, Occasion, Scene, Unbound, call_procs};
+use botcalls::{Dispatch, MadeCall, Scene, Trigger, Unbound, call_procs};
 use bottimers::Timers;
 use bytetext::{NoMemory, Seq, Texts, TryCopy};
 use disks::Disk;
@@ -56,7 +56,7 @@ impl<D: Disk> Bot<D> {
         alloc: Global,
         store: &ProcStore<P, B>,
         second: Option<u64>,
-        occasions: &[Occasion],
+        occasions: &[Trigger],
     ) -> Result<Dispatch, Dispatch>
         ensures { IsDispatched P.promised (seen_at self.now second) (bot_setting P.promised store.now self.now)
             occasions.now result }
@@ -153,7 +153,7 @@ fn left_out(alloc: Global, unbound: Vec<Unbound>) -> Result<Faults, NoMemory>
     if unbound.is_empty() {
         return Ok(Seq::empty(alloc));
     }
-    let faults = unbound.into_iter().map(Fault::Unbound).collect(alloc)?;
+    let faults = unbound.into_iter().map(StepFault::Unbound).collect(alloc)?;
     Ok(Seq::new(faults))
 }
 

@@ -8,7 +8,7 @@ use userfile::Change;
 
 /// An event for a bot to handle. Each event is one step of the bot.
 #[derive(Drop)]
-pub enum Event {
+pub enum BotEvent {
     /// The bot has connected to a server: it is on no channel, under the nick of its configuration.
     Connect,
     /// The server sent a line.
@@ -31,19 +31,19 @@ pub enum Event {
     Restart,
 }
 
-impl TryCopy for Event {
-    fn copy(&self, alloc: Global) -> Result<Event, NoMemory> {
+impl TryCopy for BotEvent {
+    fn copy(&self, alloc: Global) -> Result<BotEvent, NoMemory> {
         match self {
-            Event::Connect => Ok(Event::Connect),
-            Event::Line(line) => Ok(Event::Line(line.copy(alloc)?)),
-            Event::Ask(change) => Ok(Event::Ask(change.copy(alloc)?)),
-            Event::Pump => Ok(Event::Pump),
-            Event::Receive(packet) => Ok(Event::Receive(packet.copy(alloc)?)),
-            Event::Clock(now) => Ok(Event::Clock(*now)),
-            Event::Bind(asked) => Ok(Event::Bind(asked.copy(alloc)?)),
-            Event::Unbind(gone) => Ok(Event::Unbind(gone.copy(alloc)?)),
-            Event::Compact => Ok(Event::Compact),
-            Event::Restart => Ok(Event::Restart),
+            BotEvent::Connect => Ok(BotEvent::Connect),
+            BotEvent::Line(line) => Ok(BotEvent::Line(line.copy(alloc)?)),
+            BotEvent::Ask(change) => Ok(BotEvent::Ask(change.copy(alloc)?)),
+            BotEvent::Pump => Ok(BotEvent::Pump),
+            BotEvent::Receive(packet) => Ok(BotEvent::Receive(packet.copy(alloc)?)),
+            BotEvent::Clock(now) => Ok(BotEvent::Clock(*now)),
+            BotEvent::Bind(asked) => Ok(BotEvent::Bind(asked.copy(alloc)?)),
+            BotEvent::Unbind(gone) => Ok(BotEvent::Unbind(gone.copy(alloc)?)),
+            BotEvent::Compact => Ok(BotEvent::Compact),
+            BotEvent::Restart => Ok(BotEvent::Restart),
         }
     }
 }

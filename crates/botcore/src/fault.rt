@@ -107,7 +107,7 @@ impl ActionFault {
 
 /// What went wrong in a step that is done nevertheless.
 #[derive(Debug, Drop)]
-pub enum Fault {
+pub enum StepFault {
     /// A bind or a due timer was left out because the store lacks its proc.
     Unbound(Unbound),
     /// An action of a proc was refused and left out.
@@ -116,16 +116,16 @@ pub enum Fault {
     Line(QueueFault),
 }
 
-impl Fault {
+impl StepFault {
     /// Returns the word that transcripts print: `Unbound`, or the letter and number of the refusal of an action or a
     /// line.
     pub fn word(&self) -> &'static str
         ensures { result.now ≡ fault_word self.now }
     {
         match self {
-            Fault::Unbound(_) => "Unbound",
-            Fault::Action(fault) => fault.code(),
-            Fault::Line(fault) => fault.code(),
+            StepFault::Unbound(_) => "Unbound",
+            StepFault::Action(fault) => fault.code(),
+            StepFault::Line(fault) => fault.code(),
         }
     }
 
@@ -134,18 +134,18 @@ impl Fault {
         ensures { option_copied result ≡ fault_proc self.now }
     {
         match self {
-            Fault::Unbound(unbound) => Some(unbound.proc.as_bytes()),
-            Fault::Action(_) | Fault::Line(_) => None,
+            StepFault::Unbound(unbound) => Some(unbound.proc.as_bytes()),
+            StepFault::Action(_) | StepFault::Line(_) => None,
         }
     }
 }
 
-impl TryCopy for Fault {
-    fn copy(&self, alloc: Global) -> Result<Fault, NoMemory> {
+impl TryCopy for StepFault {
+    fn copy(&self, alloc: Global) -> Result<StepFault, NoMemory> {
         match self {
-            Fault::Unbound(unbound) => Ok(Fault::Unbound(unbound.copy(alloc)?)),
-            Fault::Action(fault) => Ok(Fault::Action(*fault)),
-            Fault::Line(fault) => Ok(Fault::Line(*fault)),
+            StepFault::Unbound(unbound) => Ok(StepFault::Unbound(unbound.copy(alloc)?)),
+            StepFault::Action(fault) => Ok(StepFault::Action(*fault)),
+            StepFault::Line(fault) => Ok(StepFault::Line(*fault)),
         }
     }
 }

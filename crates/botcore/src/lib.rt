@@ -1,7 +1,7 @@
 //! One bot: the events that it handles, the procs that they call, and what it does with the answers.
 //!
 //! A [`Config`] says who a bot is. [`Bot::create`] makes a bot over a new journal on two disks, [`Bot::open`] opens it
-//! from its disks again, and [`Bot::step`] makes one step: it takes an [`Event`] and returns a [`Report`]. A message
+//! from its disks again, and [`Bot::step`] makes one step: it takes an [`BotEvent`] and returns a [`Report`]. A message
 //! of the server, a text of another bot and a reading of the clock call procs of the store that the caller lends. No
 //! other event calls procs.
 //!
@@ -31,7 +31,6 @@ mod automatic_laws;
 mod bot;
 mod calls;
 mod config;
-mod cue;
 mod event;
 mod fault;
 mod joining;
@@ -47,13 +46,14 @@ mod report;
 mod running;
 mod step;
 mod sticky;
+mod watched_command;
 mod wish;
 
 pub use crate::automatic_laws::laws_of_automatic_lines;
 pub use crate::bot::Bot;
 pub use crate::config::Config;
-pub use crate::event::{Event, NewBind, OldBind};
-pub use crate::fault::{ActionFault, BotError, BotFault, Fault, Refusal};
+pub use crate::event::{BotEvent, NewBind, OldBind};
+pub use crate::fault::{ActionFault, BotError, BotFault, Refusal, StepFault};
 pub use crate::limits::MAX_NICK;
-pub use crate::making::Returned;
+pub use crate::making::UnopenedBot;
 pub use crate::report::{End, Faults, Note, Report};

@@ -1,7 +1,7 @@
 // What a line of the server and a text of another bot do to a bot.
 ghost use Rattle.std.specs.Prelude.{◌≡◌, map, IfOk};
 ghost use Rattle.chanstate.specs.Events.{events_of};
-ghost use Rattle.botcalls.specs.declared.occasion.Occasion.TheVariants.{Heard};
+ghost use Rattle.botcalls.specs.declared.trigger.Trigger.TheVariants.{Heard};
 ghost use Rattle.botcore.specs.Steps.{said_occasions};
 
 use crate::automatic::is_welcome;
@@ -9,7 +9,7 @@ use crate::bot::Bot;
 use crate::calls::{Left, Told};
 use crate::putting::put_all;
 use crate::report::{End, Faults, Note, Report};
-use botcalls::{Dispatch, MadeCall, Occasion, Unbound, has_raw_one, starts_with_word};
+use botcalls::{Dispatch, MadeCall, Trigger, Unbound, has_raw_one, starts_with_word};
 use bytetext::{NoMemory, Seq, Text, TryCopy};
 use chanstate::{ChanState, events};
 use disks::Disk;
@@ -24,7 +24,7 @@ impl<D: Disk> Bot<D> {
     ghost use Rattle.chanstate.specs.Memory.{takes_memory};
     ghost use Rattle.chanstate.specs.Views.{connected};
     ghost use Rattle.sharelink.specs.declared.TheConstants.{MAX_TEXTS};
-    ghost use Rattle.botcalls.specs.declared.occasion.Occasion.TheVariants.{Heard as heard_event};
+    ghost use Rattle.botcalls.specs.declared.trigger.Trigger.TheVariants.{Heard as heard_event};
     ghost use Rattle.botcore.specs.Acting.{faults_of};
     ghost use Rattle.botcore.specs.Bots.{bot_seen, bot_setting};
     ghost use Rattle.botcalls.specs.Dispatched.{IsDispatched};
@@ -217,7 +217,7 @@ impl<D: Disk> Bot<D> {
         let (calls, unbound) = made.into_parts();
         match self.settle(alloc, calls.as_slice(), unbound) {
             Ok(told) => {
-                let note = Note::Link(sharelink::Note::Text { from, text });
+                let note = Note::Link(sharelink::LinkNote::Text { from, text });
                 Report::told(Some(note), calls, told.packets, told.lines, told.faults)
             }
             Err(NoMemory) => Report::cut_short(alloc, calls),
@@ -278,20 +278,20 @@ fn heard_of(
     alloc: Global,
     message: &Message,
     channels: &ChanState,
-) -> Result<Vec<Occasion>, NoMemory>
+) -> Result<Vec<Trigger>, NoMemory>
     ensures { IfOk result (λ occasions. occasions.items ≡ map (λ e. Heard e) (events_of message.now channels.now)) }
 {
     let events = events(alloc, message, channels)?;
-    Ok(events.into_iter().map(Occasion::Heard).collect(alloc)?)
+    Ok(events.into_iter().map(Trigger::Heard).collect(alloc)?)
 }
 
 // Returns the occasion of a bot's text, if the text begins with a word.
-fn said_of(alloc: Global, from: u16, text: &Text) -> Result<Vec<Occasion>, NoMemory>
+fn said_of(alloc: Global, from: u16, text: &Text) -> Result<Vec<Trigger>, NoMemory>
     ensures { IfOk result (λ occasions. occasions.items ≡ said_occasions (record { from = from; text = text.now })) }
 {
     let mut occasions = Vec::new(alloc);
     if starts_with_word(text.as_bytes()) {
-        occasions.push(Occasion::Said {
+        occasions.push(Trigger::Said {
             from,
             text: text.copy(alloc)?,
         })?;

@@ -19,7 +19,7 @@ use std::alloc::Global;
 
 /// The disks of a bot that was not made or opened, and why.
 #[derive(Drop)]
-pub struct Returned<D: Disk> {
+pub struct UnopenedBot<D: Disk> {
     /// Why there is no bot.
     pub error: BotError,
     /// The disks, in the order in which they were given.
@@ -42,7 +42,12 @@ impl<D: Disk> Bot<D> {
     /// # Errors
     /// The error returns the disks. `BadConfig` (G1) if `config` breaks a rule, then `NoMemory`: in both cases nothing
     /// was written. `Journal` with J1 if a disk failed: the content of the disks is then unknown.
-    pub fn create(alloc: Global, config: Config, first: D, second: D) -> Result<Bot<D>, Returned<D>>
+    pub fn create(
+        alloc: Global,
+        config: Config,
+        first: D,
+        second: D,
+    ) -> Result<Bot<D>, UnopenedBot<D>>
         requires first_settled { IsSettled (D.state first) }
         requires second_settled { IsSettled (D.state second) }
         ensures made { Makes D.state config first second result }
@@ -50,7 +55,7 @@ impl<D: Disk> Bot<D> {
         let channels = match ready(alloc, &config) {
             Ok(channels) => channels,
             Err(error) => {
-                return Err(Returned {
+                return Err(UnopenedBot {
                     error,
                     disks: Disks { first, second },
                 });
@@ -58,7 +63,7 @@ impl<D: Disk> Bot<D> {
         };
         match BotLink::create(alloc, first, second, config.number, config.leaves) {
             Ok(link) => Ok(Bot::over(alloc, config, channels, link)),
-            Err(returned) => Err(Returned {
+            Err(returned) => Err(UnopenedBot {
                 error: of_journal(returned.error),
                 disks: returned.disks,
             }),
@@ -74,7 +79,12 @@ impl<D: Disk> Bot<D> {
     /// (G1) if `config` breaks a rule; then `NoMemory`; `Journal` with J1 if a read failed, and with J2 if the disks
     /// hold no journal, or another bot's. Then, only for an older layout, `Journal` with J4 if the journal has no next
     /// generation, `NoMemory`, or `Journal` with J1 if a disk failed during the rewrite.
-    pub fn open(alloc: Global, config: Config, first: D, second: D) -> Result<Bot<D>, Returned<D>>
+    pub fn open(
+        alloc: Global,
+        config: Config,
+        first: D,
+        second: D,
+    ) -> Result<Bot<D>, UnopenedBot<D>>
         requires first_settled { IsSettled (D.state first) }
         requires second_settled { IsSettled (D.state second) }
         ensures found { Finds D.state config first second result }
@@ -87,7 +97,7 @@ impl<D: Disk> Bot<D> {
         let channels = match ready(alloc, &config) {
             Ok(channels) => channels,
             Err(error) => {
-                return Err(Returned {
+                return Err(UnopenedBot {
                     error,
                     disks: Disks { first, second },
                 });
@@ -95,7 +105,7 @@ impl<D: Disk> Bot<D> {
         };
         match BotLink::open(alloc, first, second, config.number, config.leaves) {
             Ok(link) => Ok(Bot::over(alloc, config, channels, link)),
-            Err(returned) => Err(Returned {
+            Err(returned) => Err(UnopenedBot {
                 error: of_journal(returned.error),
                 disks: returned.disks,
             }),

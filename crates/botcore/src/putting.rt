@@ -3,7 +3,7 @@ ghost use Rattle.std.specs.Prelude.{◌≡◌, ◌++◌, [], IfOk, OnOk};
 ghost use Rattle.outqueue.specs.Refusals.{refusal};
 ghost use Rattle.botcore.specs.Putting.{HasMoreLines, put_all, put_faults, queued, with_line_fault};
 
-use crate::fault::Fault;
+use crate::fault::StepFault;
 use crate::report::Faults;
 use bytetext::{Failure, NoMemory};
 use outqueue::{QueueFault, Queues};
@@ -33,7 +33,7 @@ fn put_one(queues: &mut Queues, faults: &mut Faults, wish: PutWish) -> Result<()
     ensures kept { HasMoreLines queues.old queues.new }
 {
     match put(queues, wish)? {
-        Some(fault) => faults.push(Fault::Line(fault)),
+        Some(fault) => faults.push(StepFault::Line(fault)),
         None => Ok(()),
     }
 }

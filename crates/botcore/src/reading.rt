@@ -8,7 +8,7 @@ use crate::calls::{Left, Told};
 use crate::fault::Refusal;
 use crate::report::{End, Report};
 use crate::running::run_seconds;
-use botcalls::{MadeCall, Occasion, Unbound};
+use botcalls::{MadeCall, Trigger, Unbound};
 use bottimers::{Clock, ClockFault, Timers};
 use bytetext::{MOMENTS_END, NoMemory, Seq, Texts, TryCopy};
 use disks::Disk;
@@ -21,7 +21,7 @@ use std::mem;
 struct Ran {
     clock: Clock,
     timers: Timers,
-    occasions: Vec<Occasion>,
+    occasions: Vec<Trigger>,
 }
 
 impl<D: Disk> Bot<D> {

@@ -4,7 +4,7 @@ ghost use Rattle.botcore.specs.Reports.{told, cut_short};
 ghost use Rattle.botcore.specs.Reports.{plain, done, refused, out_of_memory};
 ghost use Rattle.botcore.specs.Reports.{answer_report, bind_report, unbind_report};
 
-use crate::fault::{Fault, Refusal};
+use crate::fault::{Refusal, StepFault};
 use bindtable::{BindError, BindFault};
 use botcalls::{MadeCalls, is_logged};
 use bytetext::{Failure, NoMemory, Seq, Texts, TryCopy};
@@ -26,13 +26,13 @@ pub enum End {
 #[derive(Debug, Drop)]
 pub enum Note {
     /// The result of a call of the link.
-    Link(sharelink::Note),
+    Link(sharelink::LinkNote),
     /// The bind has this number.
     Bound(u32),
     /// The bind with this number is removed.
     Unbound(u32),
     /// The line is not a message, and the bot does nothing for it.
-    Bad(ircline::Fault),
+    Bad(ircline::LineFault),
 }
 
 impl TryCopy for Note {
@@ -47,7 +47,7 @@ impl TryCopy for Note {
 }
 
 /// Faults in order.
-pub type Faults = Seq<Fault>;
+pub type Faults = Seq<StepFault>;
 
 /// The report of a step.
 pub struct Report {

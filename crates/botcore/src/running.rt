@@ -3,12 +3,12 @@ ghost use Rattle.std.specs.Prelude.{◌≡◌, ◌<◌, map, IfOk, OnOk};
 ghost use Rattle.bytetext.specs.declared.moment.TheConstants.{MOMENTS_END};
 ghost use Rattle.bottimers.specs.Held.{IsAbove, calls_at, passed};
 ghost use Rattle.botcore.specs.Happenings.{minute_of, second_of, seconds_of, passed_all};
-ghost use Rattle.botcalls.specs.declared.occasion.Occasion.TheVariants.{Due};
+ghost use Rattle.botcalls.specs.declared.trigger.Trigger.TheVariants.{Due};
 ghost use Rattle.botcore.specs.Shown.{AreOccasions};
 ghost use Rattle.botcore.specs.Rising.{Rise};
 
 use crate::config::Config;
-use botcalls::Occasion;
+use botcalls::Trigger;
 use bottimers::{Timers, Zone, civil};
 use bytetext::NoMemory;
 use std::alloc::Global;
@@ -19,7 +19,7 @@ pub(crate) fn run_seconds(
     timers: &mut Timers,
     config: &Config,
     seconds: &[u64],
-) -> Result<Vec<Occasion>, NoMemory>
+) -> Result<Vec<Trigger>, NoMemory>
     requires rise { Rise timers.old.last seconds.now }
     ensures occasions { IfOk result (λ occasions. AreOccasions (seconds_of config.now.zone timers.old seconds.now) occasions.items) }
     ensures passed { OnOk result (timers.new ≡ passed_all timers.old seconds.now) }
@@ -40,7 +40,7 @@ fn run_second(
     timers: &mut Timers,
     config: &Config,
     second: u64,
-) -> Result<Vec<Occasion>, NoMemory>
+) -> Result<Vec<Trigger>, NoMemory>
     requires above { IsAbove timers.old.last second }
     requires moment { second < MOMENTS_END }
     ensures occasions { IfOk result (λ occasions. AreOccasions (second_of config.now.zone second timers.old) occasions.items) }
@@ -53,7 +53,7 @@ fn run_second(
 }
 
 // Returns the timers that are due at a second.
-fn due_of(alloc: Global, timers: &mut Timers, second: u64) -> Result<Vec<Occasion>, NoMemory>
+fn due_of(alloc: Global, timers: &mut Timers, second: u64) -> Result<Vec<Trigger>, NoMemory>
     requires above { IsAbove timers.old.last second }
     ensures occasions { IfOk result (λ occasions. occasions.items ≡ map (λ c. Due c.proc c.text) (calls_at second timers.old)) }
     ensures passed { OnOk result (timers.new ≡ passed second timers.old) }
@@ -62,7 +62,7 @@ fn due_of(alloc: Global, timers: &mut Timers, second: u64) -> Result<Vec<Occasio
     Ok(
         calls
             .into_iter()
-            .map(|call| Occasion::Due {
+            .map(|call| Trigger::Due {
                 proc: call.proc,
                 text: call.text,
             })
@@ -71,15 +71,15 @@ fn due_of(alloc: Global, timers: &mut Timers, second: u64) -> Result<Vec<Occasio
 }
 
 // Returns the minute that begins at a second, if one does.
-fn minute_of(alloc: Global, zone: &Zone, second: u64) -> Result<Vec<Occasion>, NoMemory>
+fn minute_of(alloc: Global, zone: &Zone, second: u64) -> Result<Vec<Trigger>, NoMemory>
     requires moment { second < MOMENTS_END }
     ensures { IfOk result (λ occasions. AreOccasions (minute_of zone.now second) occasions.items) }
 {
     let mut occasions = Vec::new(alloc);
     if second % 60 == 0 {
         let minute = civil(second, zone).unwrap();
-        occasions.push(Occasion::Time(minute))?;
-        occasions.push(Occasion::Cron(minute))?;
+        occasions.push(Trigger::Time(minute))?;
+        occasions.push(Trigger::Cron(minute))?;
     }
     Ok(occasions)
 }

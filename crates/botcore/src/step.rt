@@ -1,7 +1,7 @@
 // One step of a bot.
 use crate::automatic::greeting;
 use crate::bot::Bot;
-use crate::event::{Event, NewBind, OldBind};
+use crate::event::{BotEvent, NewBind, OldBind};
 use crate::putting::put_all;
 use crate::report::{End, Faults, Note, Report};
 use bottimers::{Clock, Timers};
@@ -61,7 +61,7 @@ impl<D: Disk> Bot<D> {
         &mut self,
         alloc: Global,
         store: &ProcStore<P, B>,
-        event: Event,
+        event: BotEvent,
     ) -> Report
         requires good { IsGoodEvent event }
         ensures takes { TakesStep P.promised store.now self.old event result self.new }
@@ -71,16 +71,16 @@ impl<D: Disk> Bot<D> {
         ensures needs_none { NeedsNone self.old event → result.end ≢ End.NoMemory }
     {
         match event {
-            Event::Connect => self.connect(alloc),
-            Event::Line(line) => self.take_line(alloc, store, &line),
-            Event::Ask(change) => self.ask(alloc, change),
-            Event::Pump => self.pump(alloc),
-            Event::Receive(packet) => self.receive(alloc, store, &packet),
-            Event::Clock(now) => self.read_clock(alloc, store, now),
-            Event::Bind(asked) => self.bind(alloc, &asked),
-            Event::Unbind(gone) => self.unbind(alloc, &gone),
-            Event::Compact => self.compact(alloc),
-            Event::Restart => self.restart(alloc),
+            BotEvent::Connect => self.connect(alloc),
+            BotEvent::Line(line) => self.take_line(alloc, store, &line),
+            BotEvent::Ask(change) => self.ask(alloc, change),
+            BotEvent::Pump => self.pump(alloc),
+            BotEvent::Receive(packet) => self.receive(alloc, store, &packet),
+            BotEvent::Clock(now) => self.read_clock(alloc, store, now),
+            BotEvent::Bind(asked) => self.bind(alloc, &asked),
+            BotEvent::Unbind(gone) => self.unbind(alloc, &gone),
+            BotEvent::Compact => self.compact(alloc),
+            BotEvent::Restart => self.restart(alloc),
         }
     }
 
@@ -117,17 +117,17 @@ impl<D: Disk> Bot<D> {
     }
 
     /// Makes the step of `line`, which stays the caller's, with the procs of `store`, as [`Bot::step`] does for
-    /// [`Event::Line`]. It sends at most 64 packets.
+    /// [`BotEvent::Line`]. It sends at most 64 packets.
     pub fn take_line<P: Promise, B: Run>(
         &mut self,
         alloc: Global,
         store: &ProcStore<P, B>,
         line: &Line,
     ) -> Report
-        ensures takes { TakesStep P.promised store.now self.old (Event.Line line.now) result self.new }
+        ensures takes { TakesStep P.promised store.now self.old (BotEvent.Line line.now) result self.new }
         ensures few { length result.packets ≤ MAX_TEXTS }
         ensures good_records { AreGood result.packets }
-        ensures needs_none { NeedsNone self.old (Event.Line line.now) → result.end ≢ End.NoMemory }
+        ensures needs_none { NeedsNone self.old (BotEvent.Line line.now) → result.end ≢ End.NoMemory }
     {
         match line {
             Line::Message(message) => self.hear(alloc, store, message),
@@ -201,7 +201,7 @@ impl<D: Disk> Bot<D> {
         packet: &Packet,
     ) -> Report
         requires { HasGoodRecords packet.now }
-        ensures takes { TakesStep P.promised store.now self.old (Event.Receive packet.now) result self.new }
+        ensures takes { TakesStep P.promised store.now self.old (BotEvent.Receive packet.now) result self.new }
         ensures few { length result.packets ≤ MAX_LEAVES + 1 }
         ensures good_records { AreGood result.packets }
     {
@@ -227,7 +227,7 @@ impl<D: Disk> Bot<D> {
     {
         let Answer { note, packets } = answer;
         match note {
-            sharelink::Note::Text { from, text } => self.hear_text(alloc, store, from, text),
+            sharelink::LinkNote::Text { from, text } => self.hear_text(alloc, store, from, text),
             note => Report::of_answer(alloc, Ok(Answer { note, packets })),
         }
     }

@@ -12,8 +12,8 @@ use Rattle.usercodec.specs.Records.{IsGoodRecord}
 use Rattle.usercodec.proofs.Steps.{IsBytes, chosen, bind_ok, ok_is, Takes}
 use Rattle.usercodec.specs.FaultBytes.{fault_byte, fault_from, known}
 use Rattle.botjournal.specs.declared.base.Base.{Base}
-use Rattle.botjournal.specs.declared.reply.Answer.{Answer}
-use Rattle.botjournal.specs.declared.reply.Answer.TheVariants.{Taken, Refused}
+use Rattle.botjournal.specs.declared.reply.Verdict.{Verdict}
+use Rattle.botjournal.specs.declared.reply.Verdict.TheVariants.{Taken, Refused}
 use Rattle.botjournal.specs.declared.reply.Reply.{Reply}
 use Rattle.botjournal.specs.declared.request.Request.{Request}
 use Rattle.botjournal.specs.declared.layouts.Layout.{Layout}
@@ -38,7 +38,7 @@ answer_part : IsPart answer_at answer_bytes IsGoodAnswer
 unfolding answer_at answer_from byte_at fault_from
 answer_part = record { takes = takes; again = again }
   where
-    from_takes : (byte : ℕ) (bytes : List ℕ) (x : Answer) (rest : List ℕ) → IsBytes bytes → answer_from byte bytes ≡ Ok (x, rest)
+    from_takes : (byte : ℕ) (bytes : List ℕ) (x : Verdict) (rest : List ℕ) → IsBytes bytes → answer_from byte bytes ≡ Ok (x, rest)
         → Takes (byte ∷ bytes) (answer_bytes x) rest × IsGoodAnswer x
     from_takes byte bytes x rest fits e =
         elim (chosen (eqb byte 0) _ _ _ e) [
@@ -47,18 +47,18 @@ answer_part = record { takes = takes; again = again }
               let t = u32_part.takes bytes a.0.0 a.0.1 fits a.1 in
               let parts : byte ∷ bytes ≡ (0 ∷ number w32 a.0.0) ++ a.0.1 =
               ap (λ (k : ℕ). k ∷ bytes) (eqb-true byte 0 p.0) ∙ ap (λ (b : List ℕ). 0 ∷ b) t.0.parts in
-              subst (λ (q : Answer × List ℕ). Takes (byte ∷ bytes) (answer_bytes q.0) q.1 × IsGoodAnswer q.0) (ok_is (Taken a.0.0, a.0.1) (x, rest) a.2)
+              subst (λ (q : Verdict × List ℕ). Takes (byte ∷ bytes) (answer_bytes q.0) q.1 × IsGoodAnswer q.0) (ok_is (Taken a.0.0, a.0.1) (x, rest) a.2)
               (record { parts = parts; rest_fits = t.0.rest_fits }, t.1)
           | inr p ↦
               let a = bind_ok (known (fault_from byte) bytes) (λ f. Ok (Refused f.0, f.1)) (x, rest) p.1 in
               let k = known_is (fault_from byte) bytes a.0.0 a.0.1 a.1 in
               let parts : byte ∷ bytes ≡ (fault_byte a.0.0 ∷ []) ++ a.0.1 =
               ap (λ (k : ℕ). k ∷ bytes) (sym (fault_byte-from byte a.0.0 k.0)) ∙ ap (λ (b : List ℕ). fault_byte a.0.0 ∷ b) k.1 in
-              subst (λ (q : Answer × List ℕ). Takes (byte ∷ bytes) (answer_bytes q.0) q.1 × IsGoodAnswer q.0) (ok_is (Refused a.0.0, a.0.1) (x, rest) a.2)
+              subst (λ (q : Verdict × List ℕ). Takes (byte ∷ bytes) (answer_bytes q.0) q.1 × IsGoodAnswer q.0) (ok_is (Refused a.0.0, a.0.1) (x, rest) a.2)
               (record { parts = parts; rest_fits = subst IsBytes k.1 fits }, tt)
         ]
 
-    takes : (bytes : List ℕ) (x : Answer) (rest : List ℕ) → IsBytes bytes → answer_at bytes ≡ Ok (x, rest) → Takes bytes (answer_bytes x) rest × IsGoodAnswer x
+    takes : (bytes : List ℕ) (x : Verdict) (rest : List ℕ) → IsBytes bytes → answer_at bytes ≡ Ok (x, rest) → Takes bytes (answer_bytes x) rest × IsGoodAnswer x
     takes bytes x rest fits e =
         let a = bind_ok (byte_at bytes) (λ byte. answer_from byte.0 byte.1) (x, rest) e in
         let t = byte_part.takes bytes a.0.0 a.0.1 fits a.1 in
@@ -78,11 +78,11 @@ answer_part = record { takes = takes; again = again }
     refused BadComment rest = refl
     refused Full rest = refl
 
-    again : (x : Answer) (rest : List ℕ) → IsGoodAnswer x → answer_at (answer_bytes x ++ rest) ≡ Ok (x, rest)
+    again : (x : Verdict) (rest : List ℕ) → IsGoodAnswer x → answer_at (answer_bytes x ++ rest) ≡ Ok (x, rest)
     again (Taken n) rest good = ap (made Taken) (u32_part.again n rest good)
     again (Refused fault) rest good = refused fault rest
 
-abbrev reply_of : ℕ × (ℕ × Answer) → Reply
+abbrev reply_of : ℕ × (ℕ × Verdict) → Reply
 reply_of x = record { leaf = x.0; request = x.1.0; answer = x.1.1 }
 
 reply_part : IsPart reply_at reply_bytes IsGoodReply

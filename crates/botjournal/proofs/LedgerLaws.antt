@@ -20,7 +20,7 @@ use Rattle.bytejournal.proofs.Pairs.{either_comm, pair}
 use Rattle.bytejournal.proofs.Appending.{contents_are, nothing_happens}
 use Rattle.botjournal.specs.declared.base.Base.{Base}
 use Rattle.botjournal.specs.declared.entry.Entry.{Entry}
-use Rattle.botjournal.specs.declared.opening.Opened.{Opened}
+use Rattle.botjournal.specs.declared.opening.OpenedJournal.{OpenedJournal}
 use Rattle.botjournal.specs.declared.store.Store.{Store}
 use Rattle.botjournal.specs.declared.store.Store.TheVariants.{Open, Shut, InHand}
 use Rattle.botjournal.specs.Contents.{Contents, meaning, with_base, entries_in, spelled, spelled_by, typed}
@@ -158,13 +158,13 @@ module _ {D : Type 0} (state : D → State) where
 
   -- ---- a journal that was opened again
 
-  opened_contents : (first second : D) (opened : Opened D) → Opens state first second (Ok opened)
+  opened_contents : (first second : D) (opened : OpenedJournal D) → Opens state first second (Ok opened)
       → contents_of state opened.journal ≡ Some (contents_found state opened)
   opened_contents first second opened o =
       contents_in_order state opened.journal ∙ ap (λ x. meaning x (state (second_disk opened.journal)).seen) o.1.seen
       ∙ ap (λ y. meaning (state first).seen y) o.2.seen ∙ o.0.found
 
-  pub opened_goes : (first second : D) (opened : Opened D) (doubt : Option Pending) → doubt ≡ None → opened.whole ≡ true
+  pub opened_goes : (first second : D) (opened : OpenedJournal D) (doubt : Option Pending) → doubt ≡ None → opened.whole ≡ true
       → Opens state first second (Ok opened)
       → IsGoing state opened.journal (record { contents = shown (contents_of state opened.journal); doubt = doubt; down = false })
   opened_goes first second opened doubt none whole o = record {
@@ -174,7 +174,7 @@ module _ {D : Type 0} (state : D → State) where
     doubt = none;
   }
 
-  pub opened_shows : (first second : D) (opened : Opened D) → Opens state first second (Ok opened)
+  pub opened_shows : (first second : D) (opened : OpenedJournal D) → Opens state first second (Ok opened)
       → shown (contents_of state opened.journal) ≡ contents_found state opened
   opened_shows first second opened o = shown_is (contents_of state opened.journal) (contents_found state opened) (opened_contents first second opened o)
 
@@ -184,19 +184,19 @@ module _ {D : Type 0} (state : D → State) where
         → IsEither (Some account.contents) (Some (counted account)) (state first').seen (state second').seen
     again first' second' a b = leaves (state first').seen (state second').seen a.left b.left
 
-    pub again_whole : (opened : Opened D) → OpensAgain state first second (Ok opened) → opened.whole ≡ true
+    pub again_whole : (opened : OpenedJournal D) → OpensAgain state first second (Ok opened) → opened.whole ≡ true
     again_whole opened r =
         let here = again r.0 r.1 r.2 r.3 in
         r.4.0.whole here.first_whole here.second_whole
 
-    again_found : (opened : Opened D) → OpensAgain state first second (Ok opened)
+    again_found : (opened : OpenedJournal D) → OpensAgain state first second (Ok opened)
         → (contents_found state opened ≡ account.contents) ⊎ (contents_found state opened ≡ counted account)
     again_found opened r =
         ⊎_elim (λ b. inl (same_contents (contents_found state opened) account.contents (sym r.4.0.found ∙ b)))
         (λ a. inr (same_contents (contents_found state opened) (counted account) (sym r.4.0.found ∙ a))) (again r.0 r.1 r.2 r.3).means
 
     -- the row of a restart that opened a journal
-    pub restart_finds : (opened : Opened D) → OpensAgain state first second (Ok opened)
+    pub restart_finds : (opened : OpenedJournal D) → OpensAgain state first second (Ok opened)
         → (let contents = shown (contents_of state opened.journal) in ((settled contents ≡ settled account.contents) ⊎ (settled contents ≡ settled (counted account)))
         × ((opened.base ≡ contents.base) × (opened.entries ≡ contents.entries)))
     restart_finds opened r =

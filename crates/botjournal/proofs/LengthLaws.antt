@@ -7,8 +7,8 @@ use Rattle.usercodec.proofs.RecordLengths.{all_map, many_short, record_is_short}
 use Rattle.botjournal.specs.declared.base.Base.{Base}
 use Rattle.botjournal.specs.declared.entry.Entry.{Entry}
 use Rattle.botjournal.specs.declared.entry.Entry.TheVariants.{Accepted, Settled, Applied, ReqOut, ReqDone}
-use Rattle.botjournal.specs.declared.reply.Answer.{Answer}
-use Rattle.botjournal.specs.declared.reply.Answer.TheVariants as answers
+use Rattle.botjournal.specs.declared.reply.Verdict.{Verdict}
+use Rattle.botjournal.specs.declared.reply.Verdict.TheVariants as answers
 use Rattle.botjournal.specs.declared.reply.Reply.{Reply}
 use Rattle.botjournal.specs.declared.request.Request.{Request}
 use Rattle.botjournal.specs.Entries.{entry_bytes, IsGoodEntry}
@@ -29,7 +29,7 @@ entry_is_short (ReqDone r) good = omega arith
 reply_is_short : (reply : Reply) → IsGoodReply reply → length (reply_bytes reply) ≤ 300
 reply_is_short reply good = by reply.answer
   where
-    by : (answer : Answer) → length (reply_bytes (record { leaf = reply.leaf; request = reply.request; answer = answer })) ≤ 300
+    by : (answer : Verdict) → length (reply_bytes (record { leaf = reply.leaf; request = reply.request; answer = answer })) ≤ 300
     by (answers.Taken n) = omega arith
     by (answers.Refused fault) = omega arith
 

@@ -17,7 +17,7 @@ use Rattle.bytejournal.specs.Opening.{new_contents as new_texts, Untouched, held
 use Rattle.bytejournal.proofs.Pairs.{means_byte, meaning_comm as texts_comm}
 use Rattle.bytejournal.proofs.Recovering.{some_is}
 use Rattle.botjournal.specs.declared.base.Base.{Base}
-use Rattle.botjournal.specs.declared.opening.Opened.{Opened}
+use Rattle.botjournal.specs.declared.opening.OpenedJournal.{OpenedJournal}
 use Rattle.botjournal.specs.declared.TheConstants.{LAYOUT}
 use Rattle.botjournal.specs.Bases.{base_bytes, IsGoodBase}
 use Rattle.botjournal.specs.Contents.{Contents, new_contents, with_base, spelled, checked, typed, meaning}
@@ -70,7 +70,7 @@ module _ {D : Type 0} (state : D → State) where
   found_are_read first second texts o = found_in_order texts.journal.swapped (state first).seen (state second).seen (texts_found texts) texts.older
       o.0.found o.0.active o.0.idle
 
-  opened_as_read : (first second : D) (texts : OpenedTexts D) → OpensTexts state first second (Ok texts) → (opened : Opened D)
+  opened_as_read : (first second : D) (texts : OpenedTexts D) → OpensTexts state first second (Ok texts) → (opened : OpenedJournal D)
       → ReadsTexts texts (Ok opened) → Opens state first second (Ok opened)
   opened_as_read first second texts o opened r =
       let journal : opened.journal ≡ texts.journal = r.0 in
@@ -100,7 +100,7 @@ module _ {D : Type 0} (state : D → State) where
   why_not first second texts o (Refused GenerationsSpent) r first' second' = r
   why_not first second texts o NoMemory r first' second' = means_byte (state first) (state second) (texts_found texts) o.0.found
 
-  pub opens : (first second : D) (texts : OpenedTexts D) → OpensTexts state first second (Ok texts) → (result : Result (Opened D) (Returned D))
+  pub opens : (first second : D) (texts : OpenedTexts D) → OpensTexts state first second (Ok texts) → (result : Result (OpenedJournal D) (Returned D))
       → ReadsTexts texts result → Opens state first second result
   opens first second texts o (Ok opened) r = opened_as_read first second texts o opened r
   opens first second texts o (Err returned) r = (
@@ -123,7 +123,7 @@ module _ {D : Type 0} (state : D → State) where
       (cannot_open first second returned.disks.first returned.disks.second returned.error o.0, o.1, o.2)
 
   -- disks that mean a journal are never told to hold none
-  pub not_refused : (first second : D) (result : Result (Opened D) (Returned D)) → Opens state first second result → (contents : Contents)
+  pub not_refused : (first second : D) (result : Result (OpenedJournal D) (Returned D)) → Opens state first second result → (contents : Contents)
       → meaning (state first).seen (state second).seen ≡ Some contents → IsNotRefused result
   not_refused first second (Ok opened) o contents is = tt
   not_refused first second (Err returned) o contents is = λ refused.
@@ -136,6 +136,6 @@ module _ {D : Type 0} (state : D → State) where
       → Restarts state journal (Err returned)
   restarts_nothing journal returned h = (h.0, h.1, h.2, h.3, opens_nothing h.0 h.1 returned h.4)
 
-  pub restarts : (journal : Journal D) (texts : OpenedTexts D) → RestartsTexts state journal (Ok texts) → (result : Result (Opened D) (Returned D))
+  pub restarts : (journal : Journal D) (texts : OpenedTexts D) → RestartsTexts state journal (Ok texts) → (result : Result (OpenedJournal D) (Returned D))
       → ReadsTexts texts result → Restarts state journal result
   restarts journal texts h result r = (h.0, h.1, h.2, h.3, opens h.0 h.1 texts h.4 result r)

@@ -18,7 +18,7 @@ use Rattle.bytejournal.proofs.Lasting.{Stays, StageStays, IsStageKept, Callable,
 use Rattle.bytejournal.proofs.Recovering.{some_is, some_map, none_is_not_some}
 use Rattle.botjournal.specs.declared.base.Base.{Base}
 use Rattle.botjournal.specs.declared.entry.Entry.{Entry}
-use Rattle.botjournal.specs.declared.opening.Opened.{Opened}
+use Rattle.botjournal.specs.declared.opening.OpenedJournal.{OpenedJournal}
 use Rattle.botjournal.specs.Contents.{Contents, meaning, added, rebased}
 use Rattle.botjournal.specs.Journal.{IsEither, IsSound, Appends, Rebases, Creates, Refuses, Opens, Restarts, contents_of}
 use Rattle.botjournal.specs.Recovery.{IsJournal, FindsJournal, after_opening, Calls}
@@ -85,7 +85,7 @@ module _ {D : Type 0} (state : D → State) where
 
   -- ---- opening
 
-  pub opened_is_found : (first second : D) (result : Result (Opened D) (Returned D)) → IsRecoverable state IsJournal first second
+  pub opened_is_found : (first second : D) (result : Result (OpenedJournal D) (Returned D)) → IsRecoverable state IsJournal first second
       → Opens state first second result → FindsJournal result
   opened_is_found first second (Ok opened) is o =
       let here = seen_journal state IsJournal first second is in
@@ -95,18 +95,18 @@ module _ {D : Type 0} (state : D → State) where
       (subst (λ (f : Failure JournalFault). Refuses state first second f handed.disks.first handed.disks.second) e o.0)
       (seen_journal state IsJournal first second is).some
 
-  pub restarted_is_found : (journal : OfTexts D) (result : Result (Opened D) (Returned D))
+  pub restarted_is_found : (journal : OfTexts D) (result : Result (OpenedJournal D) (Returned D))
       → IsRecoverable state IsJournal (first_disk journal) (second_disk journal) → Restarts state journal result → FindsJournal result
   restarted_is_found journal result is r = opened_is_found r.0 r.1 result
       (after_moments state IsJournal (first_disk journal) (second_disk journal) r.0 r.1
       (reopened state IsJournal (first_disk journal) (second_disk journal) r.0 r.1 is r.2 r.3)) r.4
 
-  after_open : (first second : D) (result : Result (Opened D) (Returned D)) → Opens state first second result
+  after_open : (first second : D) (result : Result (OpenedJournal D) (Returned D)) → Opens state first second result
       → Untouched (state first) (state (first_of (after_opening result))) × Untouched (state second) (state (second_of (after_opening result)))
   after_open first second (Ok opened) o = (o.1, o.2)
   after_open first second (Err handed) o = (o.1, o.2)
 
-  opened_callable : (first second : D) (result : Result (Opened D) (Returned D)) → IsRecoverable state IsJournal first second
+  opened_callable : (first second : D) (result : Result (OpenedJournal D) (Returned D)) → IsRecoverable state IsJournal first second
       → Opens state first second result → Callable (IsSound state) (after_opening result)
   opened_callable first second (Ok opened) is o = λ going. o.0.at_rest (opened_is_found first second (Ok opened) is o)
   opened_callable first second (Err handed) is o = tt

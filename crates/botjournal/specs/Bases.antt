@@ -18,8 +18,8 @@ use Rattle.botjournal.specs.declared.layouts.Layout.{Layout}
 use Rattle.botjournal.specs.declared.layouts.Layout.TheVariants.{First, Second, Third}
 use Rattle.botjournal.specs.declared.TheConstants.{WINDOW}
 use Rattle.botjournal.specs.declared.base.Base.{Base}
-use Rattle.botjournal.specs.declared.reply.Answer.{Answer}
-use Rattle.botjournal.specs.declared.reply.Answer.TheVariants.{Taken, Refused}
+use Rattle.botjournal.specs.declared.reply.Verdict.{Verdict}
+use Rattle.botjournal.specs.declared.reply.Verdict.TheVariants.{Taken, Refused}
 use Rattle.botjournal.specs.declared.reply.Reply.{Reply}
 use Rattle.botjournal.specs.declared.request.Request.{Request}
 
@@ -30,7 +30,7 @@ abbrev pub listed : {A : Type 0} → (A → List ℕ) → List A → List ℕ
 listed spelling items = number w16 (length items) ++ flat_map spelling items
 
 -- the reply to a request: 0 and the change's number, or the byte of the fault
-abbrev pub answer_bytes : Answer → List ℕ
+abbrev pub answer_bytes : Verdict → List ℕ
 answer_bytes (Taken n) = 0 ∷ number w32 n
 answer_bytes (Refused fault) = fault_byte fault ∷ []
 
@@ -128,7 +128,7 @@ pub record HasShapes (base : Base) : Type 0 where
   pub few_out : length base.out ≤ WINDOW
   pub out : AllByRecursion HasShapeOut base.out
 
-abbrev pub IsGoodAnswer : Answer → Type 0
+abbrev pub IsGoodAnswer : Verdict → Type 0
 IsGoodAnswer (Taken n) = n < 2 ^ 32
 IsGoodAnswer (Refused fault) = Unit {0}
 
@@ -189,10 +189,10 @@ listed_at item_at bytes = do
   items_at (λ held more. item_at more) count.0 [] count.1
 
 -- what follows the first byte of an answer
-unfoldable pub answer_from : ℕ → List ℕ → Reading Answer
+unfoldable pub answer_from : ℕ → List ℕ → Reading Verdict
 answer_from byte bytes = if byte == 0 then made Taken (number_at w32 bytes) else made Refused (known (fault_from byte) bytes)
 
-unfoldable pub answer_at : List ℕ → Reading Answer
+unfoldable pub answer_at : List ℕ → Reading Verdict
 answer_at bytes = do
   byte ← byte_at bytes
   answer_from byte.0 byte.1

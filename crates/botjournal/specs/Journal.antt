@@ -17,7 +17,7 @@ use Rattle.bytejournal.specs.Opening.{CannotCreate, HoldByte, Untouched, Reopene
 use Rattle.botjournal.specs.declared.base.Base.{Base}
 use Rattle.botjournal.specs.declared.entry.Entry.{Entry}
 use Rattle.botjournal.specs.declared.TheConstants.{LAYOUT}
-use Rattle.botjournal.specs.declared.opening.Opened.{Opened}
+use Rattle.botjournal.specs.declared.opening.OpenedJournal.{OpenedJournal}
 use Rattle.botjournal.specs.Bases.{IsGoodBase}
 use Rattle.botjournal.specs.Entries.{IsGoodEntry}
 use Rattle.botjournal.specs.Contents.{Contents, added, rebased, new_contents, spelled, meaning}
@@ -68,12 +68,12 @@ module _ {D : Type 0} (state : D → State) where
   Creates first second base (Err returned) = CannotCreate (state first) (state second) returned.error (state returned.disks.first) (state returned.disks.second)
 
   -- what an opened journal was found to hold
-  abbrev pub contents_found : Opened D → Contents
+  abbrev pub contents_found : OpenedJournal D → Contents
   contents_found opened =
       record { layout = opened.journal.layout; generation = opened.journal.generation; base = opened.base; entries = opened.entries }
 
   -- The journal was opened on disks with these bytes. If it is whole, it is at rest.
-  pub record IsOpened (first second : List ℕ) (opened : Opened D) : Type 0 where
+  pub record IsOpened (first second : List ℕ) (opened : OpenedJournal D) : Type 0 where
     pub found : meaning first second ≡ Some (contents_found opened)
     pub going : opened.journal.spent ≡ false
     pub whole : IsWhole first → IsWhole second → opened.whole ≡ true
@@ -88,14 +88,14 @@ module _ {D : Type 0} (state : D → State) where
   Refuses first second NoMemory first' second' = HoldByte (state first) (state second)
 
   -- Opening a journal, by cases on the result.
-  abbrev pub Opens : D → D → Result (Opened D) (Returned D) → Type 0
+  abbrev pub Opens : D → D → Result (OpenedJournal D) (Returned D) → Type 0
   Opens first second (Ok opened) = IsOpened (state first).seen (state second).seen opened
       × Untouched (state first) (state (first_disk opened.journal)) × Untouched (state second) (state (second_disk opened.journal))
   Opens first second (Err returned) = Refuses first second returned.error returned.disks.first returned.disks.second
       × Untouched (state first) (state returned.disks.first) × Untouched (state second) (state returned.disks.second)
 
   -- Opening a journal again on what a crash left of its disks.
-  abbrev pub Restarts : OfTexts D → Result (Opened D) (Returned D) → Type 0
+  abbrev pub Restarts : OfTexts D → Result (OpenedJournal D) (Returned D) → Type 0
   Restarts journal result = (first : D) × (second : D) × Reopened (state (first_disk journal)) (state first)
       × Reopened (state (second_disk journal)) (state second) × Opens first second result
 
@@ -115,11 +115,11 @@ CannotRead contents NoMemory = Unit {0}
 
 module _ {D : Type 0} where
   -- what an opened journal holds has spellings, and may be written again
-  abbrev pub IsGoodOpened : Opened D → Type 0
+  abbrev pub IsGoodOpened : OpenedJournal D → Type 0
   IsGoodOpened opened = IsGoodBase opened.base × AllByRecursion IsGoodEntry opened.entries
 
   -- the result isn't that the disks hold no journal
-  abbrev pub IsNotRefused : Result (Opened D) (Returned D) → Type 0
+  abbrev pub IsNotRefused : Result (OpenedJournal D) (Returned D) → Type 0
   IsNotRefused (Ok opened) = Unit {0}
   IsNotRefused (Err returned) = returned.error ≢ Refused NotAJournal
 
@@ -132,7 +132,7 @@ module _ {D : Type 0} where
   contents_read texts = if is_spelled texts.older then spelled (texts_found texts) else None
 
   -- Reading the texts of an opened journal, by cases on the result: the disks are handed on as they are.
-  abbrev pub ReadsTexts : OpenedTexts D → Result (Opened D) (Returned D) → Type 0
+  abbrev pub ReadsTexts : OpenedTexts D → Result (OpenedJournal D) (Returned D) → Type 0
   ReadsTexts texts (Ok opened) = (opened.journal ≡ texts.journal) × (opened.whole ≡ texts.whole)
       × (contents_read texts
       ≡ Some (record { layout = texts.journal.layout; generation = texts.journal.generation; base = opened.base; entries = opened.entries }))

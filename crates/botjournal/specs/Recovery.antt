@@ -15,7 +15,7 @@ use Rattle.bytejournal.specs.Recovery.{Stage}
 use Rattle.bytejournal.specs.Recovery.Stage.{InProgram, OnDisks}
 use Rattle.botjournal.specs.declared.base.Base.{Base}
 use Rattle.botjournal.specs.declared.entry.Entry.{Entry}
-use Rattle.botjournal.specs.declared.opening.Opened.{Opened}
+use Rattle.botjournal.specs.declared.opening.OpenedJournal.{OpenedJournal}
 use Rattle.botjournal.specs.Contents.{meaning, added, rebased}
 use Rattle.botjournal.specs.Journal.{IsEither, IsSound, Appends, Rebases, Opens, Restarts, contents_of}
 
@@ -27,12 +27,12 @@ pub record IsJournal (first second : List ℕ) : Type 0 where
 
 module _ {D : Type 0} where
   -- the journal that was opened, or the disks that were handed back
-  abbrev pub after_opening : Result (Opened D) (Returned D) → Stage D
+  abbrev pub after_opening : Result (OpenedJournal D) (Returned D) → Stage D
   after_opening (Ok opened) = InProgram opened.journal
   after_opening (Err returned) = OnDisks returned.disks.first returned.disks.second
 
   -- the disks were not rejected as holding no journal, and all gates existed
-  abbrev pub FindsJournal : Result (Opened D) (Returned D) → Type 0
+  abbrev pub FindsJournal : Result (OpenedJournal D) (Returned D) → Type 0
   FindsJournal (Ok opened) = opened.whole ≡ true
   FindsJournal (Err returned) = returned.error ≢ Refused NotAJournal
 
@@ -56,10 +56,10 @@ module _ {D : Type 0} (state : D → State) where
         → Calls (InProgram old) (InProgram new)
     rebase : {old new : OfTexts D} (base : Base) (result : Result (Unit {0}) (Failure JournalFault)) → Rebased old base result new
         → Calls (InProgram old) (InProgram new)
-    restart : {journal : OfTexts D} (result : Result (Opened D) (Returned D)) → Restarts state journal result
+    restart : {journal : OfTexts D} (result : Result (OpenedJournal D) (Returned D)) → Restarts state journal result
         → Calls (InProgram journal) (after_opening result)
     into_disks : {journal : OfTexts D} → Calls (InProgram journal) (OnDisks (first_disk journal) (second_disk journal))
     reopen : {first second first' second' : D} → Reopened (state first) (state first') → Reopened (state second) (state second')
         → Calls (OnDisks first second) (OnDisks first' second')
-    opening : {first second : D} (result : Result (Opened D) (Returned D)) → IsSettled (state first) → IsSettled (state second)
+    opening : {first second : D} (result : Result (OpenedJournal D) (Returned D)) → IsSettled (state first) → IsSettled (state second)
         → Opens state first second result → Calls (OnDisks first second) (after_opening result)

@@ -14,7 +14,7 @@ use Rattle.botjournal.specs.declared.store.Store.{Store}
 use Rattle.botjournal.specs.declared.store.Store.TheVariants.{Open, Shut, InHand}
 use Rattle.botjournal.specs.declared.store.Doubt.{Doubt}
 use Rattle.botjournal.specs.declared.store.Doubt.TheVariants.{Adding as AddingOne, Rebasing as RebasingTo}
-use Rattle.botjournal.specs.declared.opening.Opened.{Opened}
+use Rattle.botjournal.specs.declared.opening.OpenedJournal.{OpenedJournal}
 use Rattle.botjournal.specs.Contents.{Contents}
 use Rattle.botjournal.specs.Journal.{IsAtRest, Opens, contents_of}
 use Rattle.botjournal.specs.Ledger.{Account, Device, Pending, Leaves, device_on}
@@ -80,6 +80,6 @@ module _ {D : Type 0} (state : D → State) where
   Stands true InHand account = ⊥
 
   -- Opening a journal on what a crash left of two disks.
-  abbrev pub OpensAgain : D → D → Result (Opened D) (Returned D) → Type 0
+  abbrev pub OpensAgain : D → D → Result (OpenedJournal D) (Returned D) → Type 0
   OpensAgain first second result = (first' : D) × (second' : D) × Reopened (state first) (state first') × Reopened (state second) (state second')
       × Opens state first' second' result

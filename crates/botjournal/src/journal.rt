@@ -23,13 +23,13 @@ use std::marker::Model;
 
 /// A bot's base and the entries appended since, on two disks. Contracts see the journal of texts that it stands on.
 #[derive(Drop)]
-pub struct Journal<D: Disk> {
+pub struct BotJournal<D: Disk> {
     pub(crate) texts: bytejournal::Journal<D>,
     /// Whether a disk failed since the journal was opened.
     pub(crate) spent: bool,
 }
 
-impl<D: Disk> Model for Journal<D> {
+impl<D: Disk> Model for BotJournal<D> {
     ghost use Rattle.std.specs.Prelude.{◌≡◌};
     ghost use Rattle.bytejournal.specs.declared.journal.Journal.{Journal as Texts};
 
@@ -40,7 +40,7 @@ impl<D: Disk> Model for Journal<D> {
     ghost invariant = { λ j. j.spent ≡ j.texts.spent };
 }
 
-impl<D: Disk> Journal<D> {
+impl<D: Disk> BotJournal<D> {
     /// Appends `entry` to a journal of the layout `LAYOUT`. At `Ok` the entry is acknowledged: from then on each crash
     /// leaves it.
     ///

@@ -11,7 +11,7 @@ ghost use Rattle.botjournal.specs.declared.entry.Entry.{Entry};
 ghost use Rattle.botjournal.specs.Entries.{entry_bytes, entry_in, IsGoodEntry, IsGoodEntryBy};
 ghost use Rattle.botjournal.specs.declared.layouts.Layout.{Layout};
 ghost use Rattle.botjournal.specs.declared.layouts.Layout.TheVariants.{Third};
-ghost use Rattle.botjournal.specs.declared.opening.Opened.{Opened};
+ghost use Rattle.botjournal.specs.declared.opening.OpenedJournal.{OpenedJournal};
 ghost use Rattle.botjournal.specs.Journal.{IsSound, Creates, Opens, Restarts};
 ghost use Rattle.botjournal.specs.Recovery.{Calls, IsJournal, FindsJournal};
 
@@ -46,9 +46,9 @@ pub fn laws_of_journals<D: Disk>()
         → Creates D.state first second base (Ok journal)
         → Lives D.state (Calls D.state) (InProgram journal) last → IsIntact D.state (IsSound D.state) IsJournal last }
     // So opening it never returns `NotAJournal`, and finds all gates.
-    ensures opened { (first second : D) (result : Result (Opened D) (Returned D))
+    ensures opened { (first second : D) (result : Result (OpenedJournal D) (Returned D))
         → IsRecoverable D.state IsJournal first second → Opens D.state first second result → FindsJournal result }
-    ensures restarted { (journal : OfTexts D) (result : Result (Opened D) (Returned D))
+    ensures restarted { (journal : OfTexts D) (result : Result (OpenedJournal D) (Returned D))
         → IsRecoverable D.state IsJournal (first_disk journal) (second_disk journal)
         → Restarts D.state journal result → FindsJournal result }
 {}

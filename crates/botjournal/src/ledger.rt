@@ -12,8 +12,8 @@ ghost use Rattle.botjournal.specs.Stores.{OpensAgain, read_error, shown};
 use crate::base::Base;
 use crate::entry::Entry;
 use crate::found::{Found, LedgerError, RebaseError, RebaseFault};
-use crate::journal::Journal;
-use crate::opening::Opened;
+use crate::journal::BotJournal;
+use crate::opening::OpenedJournal;
 use crate::store::{Doubt, Store};
 use bytejournal::{Disks, JournalError, JournalFault, Returned};
 use bytetext::Failure;
@@ -27,7 +27,7 @@ use std::snapshot::Snapshot;
 pub struct Ledger<D: Disk> {
     store: Store<D>,
     /// The journal as it last was at rest, for contracts alone.
-    rested: Snapshot<Journal<D>>,
+    rested: Snapshot<BotJournal<D>>,
     doubt: Option<Doubt>,
     down: bool,
 }
@@ -72,7 +72,7 @@ impl<D: Disk> Ledger<D> {
         requires good { IsGoodBase base.now }
         ensures row { Creates D.state first second base.now result }
     {
-        match Journal::create(alloc, first, second, base) {
+        match BotJournal::create(alloc, first, second, base) {
             Ok(journal) => Ok(Ledger::at_rest(journal)),
             Err(returned) => Err(returned),
         }
@@ -96,7 +96,7 @@ impl<D: Disk> Ledger<D> {
         // What it holds may be written again, as entries and as a base.
         ensures good { IfOk result (λ opened. IsGoodFound opened.1) }
     {
-        match Journal::open(alloc, first, second) {
+        match BotJournal::open(alloc, first, second) {
             Ok(opened) => {
                 if !opened.whole {
                     return Err(Returned {
@@ -114,7 +114,7 @@ impl<D: Disk> Ledger<D> {
         }
     }
 
-    fn at_rest(journal: Journal<D>) -> Ledger<D>
+    fn at_rest(journal: BotJournal<D>) -> Ledger<D>
         requires going { journal.spent ≡ false }
         requires rest { IsAtRest D.state journal }
         ensures shows { result.account ≡ settled (shown (contents_of D.state journal)) }
@@ -295,7 +295,7 @@ impl<D: Disk> Ledger<D> {
 }
 
 // Crashes both disks, and opens the journal on what the crash left.
-fn open_again<D: Disk>(alloc: Global, disks: Disks<D>) -> Result<Opened<D>, Returned<D>>
+fn open_again<D: Disk>(alloc: Global, disks: Disks<D>) -> Result<OpenedJournal<D>, Returned<D>>
     ensures row { OpensAgain D.state disks.first disks.second result }
     ensures good { IfOk result IsGoodOpened }
 {
@@ -303,7 +303,7 @@ fn open_again<D: Disk>(alloc: Global, disks: Disks<D>) -> Result<Opened<D>, Retu
     let mut second = disks.second;
     first.reopen();
     second.reopen();
-    Journal::open(alloc, first, second)
+    BotJournal::open(alloc, first, second)
 }
 
 // Why the disks could not be read.

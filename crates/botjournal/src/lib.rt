@@ -2,7 +2,7 @@
 //!
 //! A [`Base`] is a bot's state at a version: the userfile's records, and what is kept of requests. An [`Entry`] is what
 //! happened since. Each has one spelling as bytes ([`write_base`], [`write_entry`]); the readers accept that spelling
-//! and nothing else. A [`Journal`] keeps them on two disks. After any crash it holds the entries from before a call, or
+//! and nothing else. A [`BotJournal`] keeps them on two disks. After any crash it holds the entries from before a call, or
 //! those and the one being written.
 //!
 //! ```text
@@ -56,11 +56,11 @@ pub use crate::bases::{read_base, write_base};
 pub use crate::entries::{read_entry, write_entry};
 pub use crate::entry::Entry;
 pub use crate::found::{Found, LedgerError, RebaseError, RebaseFault};
-pub use crate::journal::Journal;
+pub use crate::journal::BotJournal;
 pub use crate::laws::{laws_of_bases, laws_of_entries, laws_of_journals};
 pub use crate::ledger::Ledger;
-pub use crate::opening::Opened;
-pub use crate::reply::{Answer, Reply};
+pub use crate::opening::OpenedJournal;
+pub use crate::reply::{Reply, Verdict};
 pub use crate::request::Request;
 
 /// The layout in which a journal is written: the byte after the letters on its disks. Two older layouts are read too:

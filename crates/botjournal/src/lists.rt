@@ -12,7 +12,7 @@ ghost use Rattle.botjournal.specs.Bases.{answer_at, answer_from, reply_at, recor
 
 use crate::WINDOW;
 use crate::layouts::{Layout, so_many_records};
-use crate::reply::{Answer, Reply};
+use crate::reply::{Reply, Verdict};
 use bytetext::{Failure, NoMemory, Seq};
 use std::alloc::Global;
 use usercodec::{
@@ -49,15 +49,15 @@ fn put_reply(out: &mut Vec<u8>, reply: Reply) -> Result<(), NoMemory>
     put_answer(out, reply.answer)
 }
 
-fn put_answer(out: &mut Vec<u8>, answer: Answer) -> Result<(), NoMemory>
+fn put_answer(out: &mut Vec<u8>, answer: Verdict) -> Result<(), NoMemory>
     ensures { OnOk result (out.new.items ≡ out.old.items ++ answer_bytes answer) }
 {
     match answer {
-        Answer::Taken(number) => {
+        Verdict::Taken(number) => {
             out.push(0)?;
             put_u32(out, number)
         }
-        Answer::Refused(fault) => {
+        Verdict::Refused(fault) => {
             out.push(byte_of_fault(fault))?;
             Ok(())
         }
@@ -136,7 +136,7 @@ fn reply(reader: &mut Reader<'_>) -> Result<Reply, CodecError>
 }
 
 #[tactic(auto, unfolding(crate::specs::Bases::answer_at))]
-fn answer(reader: &mut Reader<'_>) -> Result<Answer, CodecError>
+fn answer(reader: &mut Reader<'_>) -> Result<Verdict, CodecError>
     ensures { Gives (λ answer. (answer, reader.new)) result (answer_at reader.old) }
 {
     let byte = reader.byte()?;
@@ -144,14 +144,14 @@ fn answer(reader: &mut Reader<'_>) -> Result<Answer, CodecError>
 }
 
 #[tactic(auto, unfolding(crate::specs::Bases::answer_from))]
-fn answer_of(byte: u8, reader: &mut Reader<'_>) -> Result<Answer, CodecError>
+fn answer_of(byte: u8, reader: &mut Reader<'_>) -> Result<Verdict, CodecError>
     ensures { Gives (λ answer. (answer, reader.new)) result (answer_from byte reader.old) }
 {
     if byte == 0 {
-        return Ok(Answer::Taken(reader.u32()?));
+        return Ok(Verdict::Taken(reader.u32()?));
     }
     match fault_of_byte(byte) {
-        Some(fault) => Ok(Answer::Refused(fault)),
+        Some(fault) => Ok(Verdict::Refused(fault)),
         None => Err(Failure::Refused(CodecFault::NotCanonical)),
     }
 }

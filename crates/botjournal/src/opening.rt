@@ -14,7 +14,7 @@ use crate::base::Base;
 use crate::bases::{read_base_by, write_base};
 use crate::entries::read_entry_by;
 use crate::entry::Entry;
-use crate::journal::Journal;
+use crate::journal::BotJournal;
 use crate::layouts::{Layout, layout_of};
 use bytejournal::{Disks, JournalFault, Older, Returned};
 use bytetext::{Failure, NoMemory, Seq, Text};
@@ -23,9 +23,9 @@ use std::alloc::Global;
 
 /// A journal that was opened, and what it holds.
 #[derive(Drop)]
-pub struct Opened<D: Disk> {
+pub struct OpenedJournal<D: Disk> {
     /// The journal to go on with.
-    pub journal: Journal<D>,
+    pub journal: BotJournal<D>,
     /// The base that counts.
     pub base: Base,
     /// The entries appended since, the oldest first.
@@ -35,7 +35,7 @@ pub struct Opened<D: Disk> {
     pub whole: bool,
 }
 
-impl<D: Disk> Journal<D> {
+impl<D: Disk> BotJournal<D> {
     /// Creates a journal on the disks `first` and `second` with the base `base` and no entry, in generation 1 and the
     /// layout `LAYOUT`. What the disks held is lost.
     ///
@@ -47,7 +47,7 @@ impl<D: Disk> Journal<D> {
         first: D,
         second: D,
         base: &Base,
-    ) -> Result<Journal<D>, Returned<D>>
+    ) -> Result<BotJournal<D>, Returned<D>>
         requires first_settled { IsSettled (D.state first) }
         requires second_settled { IsSettled (D.state second) }
         requires good { IsGoodBase base.now }
@@ -63,7 +63,7 @@ impl<D: Disk> Journal<D> {
             }
         };
         match bytejournal::Journal::create(alloc, first, second, LAYOUT, &text) {
-            Ok(texts) => Ok(Journal {
+            Ok(texts) => Ok(BotJournal {
                 texts,
                 spent: false,
             }),
@@ -77,7 +77,7 @@ impl<D: Disk> Journal<D> {
     /// Each hands the disks back as they were. `DiskFault` if a read failed. `NotAJournal` if the disks don't hold a
     /// journal, or if what follows an open gate, on whichever disk, has a layout that isn't read, or a text that is no
     /// base or no entry. `NoMemory` if it cannot allocate room for what they hold; never if neither holds a byte.
-    pub fn open(alloc: Global, first: D, second: D) -> Result<Opened<D>, Returned<D>>
+    pub fn open(alloc: Global, first: D, second: D) -> Result<OpenedJournal<D>, Returned<D>>
         requires first_settled { IsSettled (D.state first) }
         requires second_settled { IsSettled (D.state second) }
         ensures row { Opens D.state first second result }
@@ -97,7 +97,7 @@ impl<D: Disk> Journal<D> {
     ///
     /// # Errors
     /// As for `open`.
-    pub fn restart(self, alloc: Global) -> Result<Opened<D>, Returned<D>>
+    pub fn restart(self, alloc: Global) -> Result<OpenedJournal<D>, Returned<D>>
         ensures row { Restarts D.state self result }
         ensures good { IfOk result IsGoodOpened }
     {
@@ -120,7 +120,7 @@ impl<D: Disk> Journal<D> {
 fn read_texts<D: Disk>(
     alloc: Global,
     texts: bytejournal::Opened<D>,
-) -> Result<Opened<D>, Returned<D>>
+) -> Result<OpenedJournal<D>, Returned<D>>
     requires { texts.journal.spent ≡ false }
     ensures row { ReadsTexts texts result }
     ensures good { IfOk result IsGoodOpened }
@@ -143,8 +143,8 @@ fn read_texts<D: Disk>(
         Ok(None) => return Err(not_a_journal(texts.journal)),
         Err(NoMemory) => return Err(no_memory(texts.journal)),
     };
-    Ok(Opened {
-        journal: Journal {
+    Ok(OpenedJournal {
+        journal: BotJournal {
             texts: texts.journal,
             spent: false,
         },

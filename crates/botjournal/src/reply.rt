@@ -5,7 +5,7 @@ use userfile::ChangeFault;
 
 /// What became of a leaf's request.
 #[derive(Clone, Copy, Debug)]
-pub enum Answer {
+pub enum Verdict {
     /// The hub accepted the change, which has this number.
     Taken(u32),
     /// The userfile rejected the change.
@@ -20,7 +20,7 @@ pub struct Reply {
     /// The leaf's number for its request.
     pub request: u32,
     /// What became of it.
-    pub answer: Answer,
+    pub answer: Verdict,
 }
 
 // What the unused places of a fixed-size list hold.
@@ -29,7 +29,7 @@ impl Default for Reply {
         Reply {
             leaf: 0,
             request: 0,
-            answer: Answer::Taken(0),
+            answer: Verdict::Taken(0),
         }
     }
 }

@@ -3,7 +3,7 @@ ghost use Rattle.botjournal.specs.Stores.{IsSomewhere, AreIn};
 
 use crate::base::Base;
 use crate::entry::Entry;
-use crate::journal::Journal;
+use crate::journal::BotJournal;
 use bytejournal::Disks;
 use disks::Disk;
 use std::snapshot::Snapshot;
@@ -11,7 +11,7 @@ use std::snapshot::Snapshot;
 #[derive(Drop)]
 pub(crate) enum Store<D: Disk> {
     /// In a journal, which is spent after a fault.
-    Open(Journal<D>),
+    Open(BotJournal<D>),
     /// In no journal: a restart could not open one.
     Shut(Disks<D>),
     /// With the restart that reopens them. No caller sees a ledger in this state.

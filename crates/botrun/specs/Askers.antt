@@ -6,19 +6,19 @@ use Rattle.std.specs.List.{flat_map}
 use Rattle.procstore.specs.declared.action.Action.{Action}
 use Rattle.procstore.specs.declared.action.Action.TheVariants.{Ask, Timer, Utimer, KillTimer, SendBot, Put}
 use Rattle.procstore.specs.declared.call.Call.{Call}
-use Rattle.procstore.specs.declared.kind.Kind.{Kind}
-use Rattle.procstore.specs.declared.kind.Kind.TheVariants.{Raw, Msg, Msgm, Notc, Pub, Pubm, Join, Part, Sign, Kick, Nick, Mode, Topc}
-use Rattle.procstore.specs.declared.kind.Kind.TheVariants.{Bot, Time, Cron, Timer as timer_kind}
+use Rattle.procstore.specs.declared.call_kind.CallKind.{CallKind}
+use Rattle.procstore.specs.declared.call_kind.CallKind.TheVariants.{Raw, Msg, Msgm, Notc, Pub, Pubm, Join, Part, Sign, Kick, Nick, Mode, Topc}
+use Rattle.procstore.specs.declared.call_kind.CallKind.TheVariants.{Bot, Time, Cron, Timer as timer_kind}
 use Rattle.botcalls.specs.declared.made_call.MadeCall.{MadeCall}
 use Rattle.sharewire.specs.declared.packet.Packet.{Packet}
 use Rattle.sharewire.specs.declared.packet.Packet.TheVariants as wire
 use Rattle.sharelink.specs.declared.answer.Outgoing.{Outgoing}
 use Rattle.sharelink.specs.declared.error.LinkFault.{LinkFault}
 use Rattle.sharelink.specs.declared.error.LinkFault.TheVariants as refuses
-use Rattle.sharelink.specs.declared.note.Note.{Note as LinkNote}
-use Rattle.sharelink.specs.declared.note.Note.TheVariants as says
-use Rattle.botcore.specs.declared.fault.Fault.{Fault}
-use Rattle.botcore.specs.declared.fault.Fault.TheVariants.{Action as by_action, Unbound as lacks_proc, Line as by_line}
+use Rattle.sharelink.specs.declared.note.LinkNote.{LinkNote}
+use Rattle.sharelink.specs.declared.note.LinkNote.TheVariants as says
+use Rattle.botcore.specs.declared.fault.StepFault.{StepFault}
+use Rattle.botcore.specs.declared.fault.StepFault.TheVariants.{Action as by_action, Unbound as lacks_proc, Line as by_line}
 use Rattle.botcore.specs.declared.fault.ActionFault.{ActionFault}
 use Rattle.botcore.specs.declared.fault.ActionFault.TheVariants.{Clock, Queue, Link as by_link}
 use Rattle.botcore.specs.declared.report.Note.{Note}
@@ -76,7 +76,7 @@ is_refused_action (Clock fault) = false
 is_refused_action (Queue fault) = false
 is_refused_action (by_link fault) = is_ask_fault fault
 
-abbrev pub is_refused_ask : Fault → Bool
+abbrev pub is_refused_ask : StepFault → Bool
 is_refused_ask (lacks_proc gone) = false
 is_refused_ask (by_action fault) = is_refused_action fault
 is_refused_ask (by_line fault) = false
@@ -89,7 +89,7 @@ abbrev pub asked_by_procs : Report → ℕ
 asked_by_procs report = at_most_usize (sum_by asks_of report.calls) - count_by is_refused_ask report.faults
 
 -- the kinds of calls that are made for words that somebody said; that person's nick comes first
-abbrev pub is_spoken : Kind → Bool
+abbrev pub is_spoken : CallKind → Bool
 is_spoken Msg = true
 is_spoken Msgm = true
 is_spoken Pub = true

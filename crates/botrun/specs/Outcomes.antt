@@ -1,9 +1,9 @@
 -- The outcome of a change that was asked for, from what a turn says.
 use Rattle.std.specs.Prelude.{Bool, true, false, List, [], ◌∷◌, Option, Some, None, if◌then◌else◌}
-use Rattle.sharelink.specs.declared.note.Note.{Note as LinkNote}
+use Rattle.sharelink.specs.declared.note.LinkNote.{LinkNote}
 use Rattle.sharelink.specs.declared.error.LinkFault.{LinkFault}
 use Rattle.sharelink.specs.declared.error.LinkFault.TheVariants as refuses
-use Rattle.sharelink.specs.declared.note.Note.TheVariants as says
+use Rattle.sharelink.specs.declared.note.LinkNote.TheVariants as says
 use Rattle.botcore.specs.declared.fault.Refusal.{Refusal}
 use Rattle.botcore.specs.declared.fault.Refusal.TheVariants.{Link as by_link, Bind, Clock}
 use Rattle.botcore.specs.declared.report.End.{End}

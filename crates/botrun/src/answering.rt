@@ -16,7 +16,7 @@ use crate::outcome::{Outcome, told_by};
 use botcore::{End, Note, Refusal, Report};
 use bytetext::NoMemory;
 use peers::Links;
-use serverlink::Uplink;
+use serverlink::IrcConnection;
 use sharelink::{LinkFault, Outgoings};
 use std::alloc::Global;
 
@@ -27,7 +27,7 @@ impl Others {
         &mut self,
         rt: &R,
         operators: &mut Operators,
-        uplink: &mut Uplink,
+        uplink: &mut IrcConnection,
         reports: &[Report],
         pumped: bool,
         now: u64,
@@ -67,7 +67,7 @@ impl Others {
         &mut self,
         rt: &R,
         operators: &mut Operators,
-        uplink: &mut Uplink,
+        uplink: &mut IrcConnection,
         report: &Report,
         settles: bool,
         now: u64,
@@ -115,7 +115,7 @@ impl Others {
         &mut self,
         alloc: Global,
         operators: &mut Operators,
-        uplink: &mut Uplink,
+        uplink: &mut IrcConnection,
         outcome: Outcome,
     ) -> Result<(), NoMemory>
         ensures asks { OnOk result (self.new.asks.askers.items ≡ answered outcome self.old.asks.askers.items) }
@@ -160,7 +160,7 @@ fn note_all(
         return Ok(());
     };
     links.note(note, more);
-    if let sharelink::Note::Queued = note {
+    if let sharelink::LinkNote::Queued = note {
         let asker = operator_if(asks.asker);
         asks.put(asker)?;
     }

@@ -4,7 +4,7 @@ use crate::ending::{KIND, PROC};
 use crate::outcome::Outcome;
 use botcore::{End, Note, Report};
 use bytetext::NoMemory;
-use control::Advice;
+use control::CommandAdvice;
 use std::alloc::Global;
 use std::fmt::Display;
 
@@ -45,7 +45,7 @@ pub(crate) fn of_no_bind(alloc: Global, why: NoBind) -> Result<Vec<u8>, NoMemory
 }
 
 // Why a command was not understood, as a line.
-pub(crate) fn of_advice(alloc: Global, advice: Advice) -> Result<Vec<u8>, NoMemory> {
+pub(crate) fn of_advice(alloc: Global, advice: CommandAdvice) -> Result<Vec<u8>, NoMemory> {
     fault(alloc, &advice)
 }
 

@@ -7,9 +7,9 @@ ghost use Rattle.botrun.specs.Askers.{asked_by_procs, asker_in, askers_of, asks_
 ghost use Rattle.botrun.specs.Askers.{is_operator, is_refused_ask, is_spoken, proc_askers};
 
 use botcalls::{MadeCall, MadeCalls};
-use botcore::{ActionFault, Fault, Faults, Report};
+use botcore::{ActionFault, Faults, Report, StepFault};
 use bytetext::{NoMemory, Text, TryCopy};
-use procstore::{Action, Call, Kind};
+use procstore::{Action, Call, CallKind};
 use sharelink::LinkFault;
 use std::alloc::Global;
 use std::collections::VecDeque;
@@ -144,24 +144,24 @@ fn asker_in(alloc: Global, call: &Call) -> Result<Asker, NoMemory>
 
 // Whether a call of this kind is made for words that somebody said to the bot or on a channel. That person's nick
 // comes first.
-fn is_spoken(kind: Kind) -> bool
+fn is_spoken(kind: CallKind) -> bool
     ensures { result ≡ is_spoken kind }
 {
     match kind {
-        Kind::Msg | Kind::Msgm | Kind::Pub | Kind::Pubm => true,
-        Kind::Raw
-        | Kind::Notc
-        | Kind::Join
-        | Kind::Part
-        | Kind::Sign
-        | Kind::Kick
-        | Kind::Nick
-        | Kind::Mode
-        | Kind::Topc
-        | Kind::Bot
-        | Kind::Time
-        | Kind::Cron
-        | Kind::Timer => false,
+        CallKind::Msg | CallKind::Msgm | CallKind::Pub | CallKind::Pubm => true,
+        CallKind::Raw
+        | CallKind::Notc
+        | CallKind::Join
+        | CallKind::Part
+        | CallKind::Sign
+        | CallKind::Kick
+        | CallKind::Nick
+        | CallKind::Mode
+        | CallKind::Topc
+        | CallKind::Bot
+        | CallKind::Time
+        | CallKind::Cron
+        | CallKind::Timer => false,
     }
 }
 
@@ -221,14 +221,14 @@ fn refused_in(faults: &Faults) -> usize
 }
 
 // Whether the link refused a change that a proc asked for. Once the link is down, nothing is answered any more.
-fn is_refused_ask(fault: &Fault) -> bool
+fn is_refused_ask(fault: &StepFault) -> bool
     ensures { result ≡ is_refused_ask fault.now }
 {
     match fault {
-        Fault::Action(ActionFault::Link(fault)) => is_ask_fault(*fault),
-        Fault::Action(ActionFault::Clock(_) | ActionFault::Queue(_))
-        | Fault::Unbound(_)
-        | Fault::Line(_) => false,
+        StepFault::Action(ActionFault::Link(fault)) => is_ask_fault(*fault),
+        StepFault::Action(ActionFault::Clock(_) | ActionFault::Queue(_))
+        | StepFault::Unbound(_)
+        | StepFault::Line(_) => false,
     }
 }
 

@@ -19,7 +19,7 @@ use ircline::LineReader;
 use net::{Timeline, Watch};
 use peers::Key;
 use procstore::{ProcStore, Promise, Run};
-use serverlink::Uplink;
+use serverlink::IrcConnection;
 use settings::Settings;
 use std::alloc::Global;
 use std::fs::File;
@@ -96,7 +96,7 @@ where
     Ok(Process {
         bot,
         lines: LineReader::new(rt.alloc()),
-        uplink: Uplink::new(rt.alloc(), settings)?,
+        uplink: IrcConnection::new(rt.alloc(), settings)?,
         operators,
         others: Others::new(rt.alloc(), links),
         bases,

@@ -9,7 +9,7 @@ use crate::ending::RunError;
 use crate::outcome::Outcome;
 use crate::process::Process;
 use crate::status::status_of;
-use botcore::Event;
+use botcore::BotEvent;
 use bytetext::{NoMemory, Text};
 use control::UnbindWords;
 use procstore::{ProcStore, Promise, Run};
@@ -75,7 +75,7 @@ impl Process {
         words: &BindWords,
     ) -> Result<Vec<u8>, RunError> {
         match new_bind(alloc, store, words) {
-            Ok(asked) => self.step_bind(alloc, store, Event::Bind(asked)),
+            Ok(asked) => self.step_bind(alloc, store, BotEvent::Bind(asked)),
             Err(why) => Ok(of_no_bind(alloc, why)?),
         }
     }
@@ -88,7 +88,7 @@ impl Process {
         words: UnbindWords,
     ) -> Result<Vec<u8>, RunError> {
         match old_bind(words) {
-            Ok(gone) => self.step_bind(alloc, store, Event::Unbind(gone)),
+            Ok(gone) => self.step_bind(alloc, store, BotEvent::Unbind(gone)),
             Err(why) => Ok(of_no_bind(alloc, why)?),
         }
     }
@@ -97,7 +97,7 @@ impl Process {
         &mut self,
         alloc: Global,
         store: &ProcStore<P, B>,
-        event: Event,
+        event: BotEvent,
     ) -> Result<Vec<u8>, RunError>
         requires good { IsGoodEvent event }
     {

@@ -4,11 +4,11 @@ ghost use Rattle.botrun.specs.Askers.{is_request};
 ghost use Rattle.botrun.specs.Stations.{IsKnownWhereWanted, IsLinkedAs};
 
 use crate::ending::{RunError, of_folder};
-use botcore::{Bot, End, Event};
+use botcore::{Bot, BotEvent, End};
 use botfolder::BotFolder;
 use disks::FileDisk;
 use net::{DoorFault, Registry, literal};
-use peers::{HubLinks, Key, LeafLink, Links, ListenFault, NetNumber, SecretFault, key_of};
+use peers::{HubConnection, HubLinks, Key, Links, ListenFault, NetNumber, SecretFault, key_of};
 use procstore::{ProcStore, Promise, Run};
 use settings::Settings;
 use sharelink::Outgoing;
@@ -111,7 +111,7 @@ pub(crate) fn links_of<R: AllocGlobal + Net + Files<File = File>>(
         Some(net) if number == 0 => open_hub(rt, registry, settings, key, net),
         // A hub has a number of its net, and so has a leaf that holds records from a hub.
         None if number == 0 || version > 0 => Err(RunError::NoNet),
-        Some(_) | None => Ok(Links::Leaf(LeafLink::new(rt.alloc(), number, key, net)?)),
+        Some(_) | None => Ok(Links::Leaf(HubConnection::new(rt.alloc(), number, key, net)?)),
     }
 }
 
@@ -152,7 +152,7 @@ pub(crate) fn count_out<P: Promise, B: Run>(
     bot: &mut Bot<FileDisk>,
     store: &ProcStore<P, B>,
 ) -> Result<usize, RunError> {
-    let report = bot.step(alloc, store, Event::Pump);
+    let report = bot.step(alloc, store, BotEvent::Pump);
     match report.end {
         End::NoMemory => Err(RunError::NoMemory),
         End::Done | End::Refused(_) => Ok(requests_in(report.packets.as_slice())),

@@ -3,13 +3,13 @@ ghost use Rattle.std.specs.Prelude.{◌≡◌};
 
 use crate::outcome::Outcome;
 use bytetext::{NoMemory, Text};
-use serverlink::Uplink;
+use serverlink::IrcConnection;
 use std::alloc::Global;
 
 // Queues a notice to a person about the outcome of a change. Does nothing without a server, or if too many lines wait.
 pub(crate) fn notice(
     alloc: Global,
-    uplink: &mut Uplink,
+    uplink: &mut IrcConnection,
     nick: &[u8],
     outcome: Outcome,
 ) -> Result<(), NoMemory>

@@ -8,7 +8,7 @@ use crate::entry::Entry;
 use crate::log::log;
 use crate::process::Process;
 use bytetext::Failure;
-use control::Command;
+use control::AdminCommand;
 use procstore::{ProcStore, Promise, Run};
 use settings::Settings;
 
@@ -85,7 +85,7 @@ impl Process {
     ) -> Result<Vec<u8>, RunError>
         requires moment { now < MOMENTS_END }
     {
-        match Command::read(rt.alloc(), line) {
+        match AdminCommand::read(rt.alloc(), line) {
             Ok(command) => {
                 if is_logged(&command) {
                     log(rt, now, &Entry::Asked(first_word(line)));
@@ -102,36 +102,36 @@ impl Process {
         rt: &R,
         store: &ProcStore<P, B>,
         settings: &Settings,
-        command: Command,
+        command: AdminCommand,
         now: u64,
     ) -> Result<Vec<u8>, RunError>
         requires moment { now < MOMENTS_END }
     {
         match command {
-            Command::Change(change) => self.change(rt, store, settings, change, now),
-            Command::Show => self.show(rt.alloc(), settings),
-            Command::Status => self.status(rt.alloc(), settings),
-            Command::Bind(words) => self.bind(rt.alloc(), store, &words),
-            Command::Unbind(words) => self.unbind(rt.alloc(), store, words),
-            Command::Say(line) => self.say(rt.alloc(), line),
-            Command::Compact => self.compact_now(rt, store, settings, now),
-            Command::Jump => self.jump(rt, settings, now),
-            Command::Die(text) => self.die(rt, settings, &text, now),
+            AdminCommand::Change(change) => self.change(rt, store, settings, change, now),
+            AdminCommand::Show => self.show(rt.alloc(), settings),
+            AdminCommand::Status => self.status(rt.alloc(), settings),
+            AdminCommand::Bind(words) => self.bind(rt.alloc(), store, &words),
+            AdminCommand::Unbind(words) => self.unbind(rt.alloc(), store, words),
+            AdminCommand::Say(line) => self.say(rt.alloc(), line),
+            AdminCommand::Compact => self.compact_now(rt, store, settings, now),
+            AdminCommand::Jump => self.jump(rt, settings, now),
+            AdminCommand::Die(text) => self.die(rt, settings, &text, now),
         }
     }
 }
 
 // Whether a command is logged: not if it only asks for the bot's state.
-fn is_logged(command: &Command) -> bool {
+fn is_logged(command: &AdminCommand) -> bool {
     match command {
-        Command::Show | Command::Status => false,
-        Command::Change(_)
-        | Command::Bind(_)
-        | Command::Unbind(_)
-        | Command::Say(_)
-        | Command::Compact
-        | Command::Jump
-        | Command::Die(_) => true,
+        AdminCommand::Show | AdminCommand::Status => false,
+        AdminCommand::Change(_)
+        | AdminCommand::Bind(_)
+        | AdminCommand::Unbind(_)
+        | AdminCommand::Say(_)
+        | AdminCommand::Compact
+        | AdminCommand::Jump
+        | AdminCommand::Die(_) => true,
     }
 }
 

@@ -93,27 +93,27 @@ fn of_end(note: &Option<Note>) -> Outcome
     }
 }
 
-fn of_note(note: &sharelink::Note) -> Outcome
+fn of_note(note: &sharelink::LinkNote) -> Outcome
     ensures { result ≡ of_note note.now }
 {
     match note {
-        sharelink::Note::Accepted(number) => Outcome::Accepted(*number),
-        sharelink::Note::Refused(fault) => Outcome::Refused(*fault),
-        sharelink::Note::Queued
-        | sharelink::Note::Idle
-        | sharelink::Note::Sent(_)
-        | sharelink::Note::Served(_)
-        | sharelink::Note::Old
-        | sharelink::Note::Repeat
-        | sharelink::Note::Gap
-        | sharelink::Note::Early
-        | sharelink::Note::Applied(_)
-        | sharelink::Note::Kept(_)
-        | sharelink::Note::Installed(_)
-        | sharelink::Note::Compacted
-        | sharelink::Note::Relayed
-        | sharelink::Note::Text { from: _, text: _ }
-        | sharelink::Note::Stray
-        | sharelink::Note::Restarted(_) => Outcome::Nothing,
+        sharelink::LinkNote::Accepted(number) => Outcome::Accepted(*number),
+        sharelink::LinkNote::Refused(fault) => Outcome::Refused(*fault),
+        sharelink::LinkNote::Queued
+        | sharelink::LinkNote::Idle
+        | sharelink::LinkNote::Sent(_)
+        | sharelink::LinkNote::Served(_)
+        | sharelink::LinkNote::Old
+        | sharelink::LinkNote::Repeat
+        | sharelink::LinkNote::Gap
+        | sharelink::LinkNote::Early
+        | sharelink::LinkNote::Applied(_)
+        | sharelink::LinkNote::Kept(_)
+        | sharelink::LinkNote::Installed(_)
+        | sharelink::LinkNote::Compacted
+        | sharelink::LinkNote::Relayed
+        | sharelink::LinkNote::Text { from: _, text: _ }
+        | sharelink::LinkNote::Stray
+        | sharelink::LinkNote::Restarted(_) => Outcome::Nothing,
     }
 }

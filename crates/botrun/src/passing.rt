@@ -7,13 +7,13 @@ use crate::entry::Entry;
 use crate::log::log;
 use botcore::{Faults, Report};
 use bytetext::NoMemory;
-use serverlink::Uplink;
+use serverlink::IrcConnection;
 use settings::Settings;
 
 // Queues the lines of a turn's steps for the server, in order, and logs what the steps left out.
 pub(crate) fn pass_all<R: AllocGlobal + Print>(
     rt: &R,
-    uplink: &mut Uplink,
+    uplink: &mut IrcConnection,
     settings: &Settings,
     reports: &[Report],
     now: u64,
@@ -28,7 +28,7 @@ pub(crate) fn pass_all<R: AllocGlobal + Print>(
 
 fn pass<R: AllocGlobal + Print>(
     rt: &R,
-    uplink: &mut Uplink,
+    uplink: &mut IrcConnection,
     settings: &Settings,
     report: &Report,
     now: u64,

@@ -13,7 +13,7 @@ use disks::FileDisk;
 use ircline::LineReader;
 use net::Registry;
 use procstore::{ProcStore, Promise, Run};
-use serverlink::Uplink;
+use serverlink::IrcConnection;
 use settings::Settings;
 use std::net::Net;
 use std::random::RandomSource;
@@ -22,7 +22,7 @@ use std::random::RandomSource;
 pub(crate) struct Process {
     pub(crate) bot: Bot<FileDisk>,
     pub(crate) lines: LineReader,
-    pub(crate) uplink: Uplink,
+    pub(crate) uplink: IrcConnection,
     pub(crate) operators: Operators,
     pub(crate) others: Others,
     // When the journal is rewritten.

@@ -4,7 +4,7 @@ ghost use Rattle.botfolder.specs.Folders.{AreReady};
 use crate::checking::{new_bind, of_line};
 use crate::ending::{RunError, of_bot, of_folder};
 use crate::netting::begin_net;
-use botcore::{Bot, Config, End, Event, Refusal};
+use botcore::{Bot, BotEvent, Config, End, Refusal};
 use botfolder::{Begun, BotFolder, FolderFault};
 use bytetext::{NoMemory, TryCopy};
 use disks::{FileDisk, Pair};
@@ -113,7 +113,7 @@ fn bind_one<P: Promise, B: Run>(
         Ok(asked) => asked,
         Err(why) => return Err(of_line(bind.line, why)),
     };
-    let report = bot.step(alloc, store, Event::Bind(asked));
+    let report = bot.step(alloc, store, BotEvent::Bind(asked));
     match report.end {
         End::Refused(Refusal::Bind(fault)) => Err(RunError::Bind {
             line: bind.line,

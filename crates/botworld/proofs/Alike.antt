@@ -5,15 +5,15 @@ use Rattle.std.proofs.lemmas.List.{map-append}
 use Rattle.std.proofs.lemmas.List.Elements.{filter_map-append}
 use Rattle.std.specs.List.{list_any}
 use Rattle.procstore.specs.declared.call.Call.{Call}
-use Rattle.procstore.specs.declared.kind.Kind.{Kind}
-use Rattle.procstore.specs.declared.kind.Kind.TheVariants.{Raw}
+use Rattle.procstore.specs.declared.call_kind.CallKind.{CallKind}
+use Rattle.procstore.specs.declared.call_kind.CallKind.TheVariants.{Raw}
 use Rattle.procstore.specs.declared.reply.Code.{Code}
 use Rattle.procstore.specs.Calling.{holds}
 use Rattle.bindtable.specs.declared.bind.Bind.{Bind}
 use Rattle.bindtable.specs.Calls.{Occurrence, is_called, called}
 use Rattle.bindtable.specs.Tables.{Asked, with_number}
-use Rattle.botcalls.specs.declared.occasion.Occasion.{Occasion}
-use Rattle.botcalls.specs.declared.occasion.Occasion.TheVariants.{Heard, Due, Time, Cron, Said}
+use Rattle.botcalls.specs.declared.trigger.Trigger.{Trigger}
+use Rattle.botcalls.specs.declared.trigger.Trigger.TheVariants.{Heard, Due, Time, Cron, Said}
 use Rattle.botcalls.specs.Calls.{Entry, Telling, told_all, called_in, calls_in}
 use Rattle.botcalls.specs.Dispatching.{Setting, occurrence_of, told_seen, told_alone, told, is_word, is_one, has_one, is_raw, is_whole, next_of, told_from, told_of}
 use Rattle.botcalls.specs.Heard.{person_of, call_by}
@@ -63,7 +63,7 @@ told_seen-plain setting seen call =
     ap (λ (bs : List Bind). proc_calls (told_all setting.code_of setting.names call bs)) (called-plain seen setting.binds)
     ∙ told_all-plain setting.code_of setting.names call (called seen setting.binds)
 
-told_alone-plain : (setting : Setting) (occasion : Occasion)
+told_alone-plain : (setting : Setting) (occasion : Trigger)
     → proc_calls (told_alone (plain_setting setting) occasion) ≡ proc_calls (told_alone setting occasion)
 told_alone-plain setting (Heard event) =
     let person = person_of setting.users event in told_seen-plain setting (occurrence_of event person) (call_by person.handle event)
@@ -74,7 +74,7 @@ told_alone-plain setting (Said from text) = told_seen-plain setting (said_seen t
 
 -- occasions ------------------------------------------------------------------------------------------------------------
 
-told-plain : (setting : Setting) (taken : Bool) (occasion : Occasion) → proc_calls (told (plain_setting setting) taken occasion) ≡ proc_calls (told setting taken occasion)
+told-plain : (setting : Setting) (taken : Bool) (occasion : Trigger) → proc_calls (told (plain_setting setting) taken occasion) ≡ proc_calls (told setting taken occasion)
 told-plain setting taken occasion = by (setting.exclusive && (taken && is_word (kind_for occasion)))
   where
     by : (t : Bool) → proc_calls (if t then [] else told_alone (plain_setting setting) occasion) ≡ proc_calls (if t then [] else told_alone setting occasion)
@@ -95,7 +95,7 @@ length-proc_calls [] = refl
 length-proc_calls (c ∷ calls) = ap suc (length-proc_calls calls)
 
 -- what follows depends on the calls alone
-next_of-alike : (kind : Kind) (a b : List Entry) → map proc_call_of a ≡ map proc_call_of b → next_of kind a ≡ next_of kind b
+next_of-alike : (kind : CallKind) (a b : List Entry) → map proc_call_of a ≡ map proc_call_of b → next_of kind a ≡ next_of kind b
 next_of-alike kind a b e =
     let ones : has_one a ≡ has_one b =
     has_one-proc_calls a ∙ ap (list_any (λ (c : ProcCall). is_one c.code)) e ∙ sym (has_one-proc_calls b) in
@@ -106,7 +106,7 @@ proc_calls-append : (xs ys : List Telling) → proc_calls (xs ++ ys) ≡ proc_ca
 proc_calls-append xs ys = ap (map proc_call_of) (filter_map-append called_in xs ys) ∙ map-append proc_call_of (calls_in xs) (calls_in ys)
 
 -- an occasion, and those that follow it
-occasion-plain : (setting : Setting) (taken : Bool) (e : Occasion) (es : List Occasion)
+occasion-plain : (setting : Setting) (taken : Bool) (e : Trigger) (es : List Trigger)
     → (let n = next_of (kind_for e) (calls_in (told setting taken e)) in
     proc_calls (told_from (plain_setting setting) n es) ≡ proc_calls (told_from setting n es))
     → proc_calls (told (plain_setting setting) taken e
@@ -125,7 +125,7 @@ occasion-plain setting taken e es rest =
     ∙ sym (proc_calls-append there (told_from setting (next_of (kind_for e) (calls_in there)) es))
 
 -- the occasions that follow one of this kind, which came to these calls
-told_from-plain : (setting : Setting) (kind : Kind) (calls : List Entry) (occasions : List Occasion)
+told_from-plain : (setting : Setting) (kind : CallKind) (calls : List Entry) (occasions : List Trigger)
     → proc_calls (told_from (plain_setting setting) (next_of kind calls) occasions) ≡ proc_calls (told_from setting (next_of kind calls) occasions)
 told_from-plain setting kind calls [] = refl
 told_from-plain setting kind calls (e ∷ es) =
@@ -146,7 +146,7 @@ map-plain [] = refl
 map-plain (b ∷ binds) = ap (λ (bs : List Bind). plain b ∷ bs) (map-plain binds)
 
 -- binds that were asked for alike give the same calls
-pub told_of-alike : (setting : Setting) (xs ys : List Bind) (occasions : List Occasion) → map asked_in xs ≡ map asked_in ys
+pub told_of-alike : (setting : Setting) (xs ys : List Bind) (occasions : List Trigger) → map asked_in xs ≡ map asked_in ys
     → proc_calls (told_of (record setting { binds = xs }) occasions) ≡ proc_calls (told_of (record setting { binds = ys }) occasions)
 told_of-alike setting xs ys occasions alike =
     let same : map plain xs ≡ map plain ys = map-plain xs ∙ ap (map (λ (x : Asked). with_number x 0)) alike ∙ sym (map-plain ys) in

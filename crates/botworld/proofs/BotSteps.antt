@@ -21,8 +21,8 @@ use Rattle.protocol.proofs.NetGoes.{received_goes}
 use Rattle.sharelink.specs.declared.answer.Outgoing.{Outgoing}
 use Rattle.sharelink.specs.Calls.{outgoings_of}
 use Rattle.sharelink.specs.BotLinks.{BotEnd, did, took, Calls}
-use Rattle.botcore.specs.declared.event.Event.{Event}
-use Rattle.botcore.specs.declared.event.Event.TheVariants.{Connect, Line, Ask, Pump, Receive, Clock, Bind, Unbind, Compact, Restart}
+use Rattle.botcore.specs.declared.event.BotEvent.{BotEvent}
+use Rattle.botcore.specs.declared.event.BotEvent.TheVariants.{Connect, Line, Ask, Pump, Receive, Clock, Bind, Unbind, Compact, Restart}
 use Rattle.botcore.specs.declared.event.OldBind.{OldBind}
 use Rattle.botcalls.specs.declared.made_call.MadeCall.{MadeCall}
 use Rattle.botcore.specs.declared.report.End.{End}
@@ -44,7 +44,7 @@ use Rattle.botworld.proofs.Acts.{none_go, acts_go}
 -- ---- one bot
 
 -- a packet that a bot is told was sent to it
-abbrev pub WasSentTo : List Sent → ℕ → Event → Type 0
+abbrev pub WasSentTo : List Sent → ℕ → BotEvent → Type 0
 WasSentTo sent place (Receive packet) =
     (number from : ℕ) × (item_at sent number ≡ Some (record { from = from; to = place; packet = from_wire packet }))
 WasSentTo sent place other = Unit {0}
@@ -169,7 +169,7 @@ module _ (promised : Promised) (names : List (List ℕ))
       (received_goes all sent h among.sound old.link.leaves was.0 (record { from = was.1; to = place; packet = from_wire packet }) old.link.end how
       among.leaves was.2 among.at)
 
-  pub bot_goes : (event : Event) (report : Report) (new : Bot) → WasSentTo sent place event → TakesStep promised names old event report new
+  pub bot_goes : (event : BotEvent) (report : Report) (new : Bot) → WasSentTo sent place event → TakesStep promised names old event report new
       → BotGoes report new
   bot_goes Connect report new was t =
       gives_goes _ _ report new

@@ -8,7 +8,7 @@ use Rattle.std.proofs.Math.Path.{fun_ext}
 use Rattle.std.specs.List.{range_with_len}
 use Rattle.std.specs.Option.{option_map}
 use Rattle.userfile.specs.Records.{Records}
-use Rattle.chanstate.specs.declared.event.Event.{Event as MessageEvent}
+use Rattle.chanstate.specs.declared.event.IrcEvent.{IrcEvent as MessageEvent}
 use Rattle.chanstate.specs.Events.{events_of}
 use Rattle.chanstate.specs.Speech.{first_word}
 use Rattle.chanstate.specs.declared.state.ChanState.{ChanState}
@@ -32,14 +32,14 @@ use Rattle.procstore.specs.declared.reply.Code.{Code}
 use Rattle.bindtable.specs.declared.bind.Bind.{Bind as HeldBind}
 use Rattle.bindtable.specs.declared.fault.BindFault.{BindFault}
 use Rattle.bindtable.specs.Tables.{Asked, refusal}
-use Rattle.botcore.specs.declared.event.Event.{Event}
-use Rattle.botcore.specs.declared.event.Event.TheVariants.{Connect, Line, Ask, Pump, Receive, Clock, Bind, Unbind, Compact, Restart}
+use Rattle.botcore.specs.declared.event.BotEvent.{BotEvent}
+use Rattle.botcore.specs.declared.event.BotEvent.TheVariants.{Connect, Line, Ask, Pump, Receive, Clock, Bind, Unbind, Compact, Restart}
 use Rattle.botcore.specs.declared.event.OldBind.{OldBind}
 use Rattle.botcore.specs.declared.fault.Refusal.{Refusal}
 use Rattle.botcore.specs.declared.fault.Refusal.TheVariants.{Clock as clock_refusal}
 use Rattle.botcalls.specs.declared.made_call.MadeCall.{MadeCall}
-use Rattle.botcalls.specs.declared.occasion.Occasion.{Occasion}
-use Rattle.botcalls.specs.declared.occasion.Occasion.TheVariants.{Heard, Said}
+use Rattle.botcalls.specs.declared.trigger.Trigger.{Trigger}
+use Rattle.botcalls.specs.declared.trigger.Trigger.TheVariants.{Heard, Said}
 use Rattle.botcore.specs.declared.report.Note.{Note}
 use Rattle.botcore.specs.declared.report.End.{End}
 use Rattle.botcore.specs.declared.report.End.TheVariants.{Done, Refused, NoMemory}
@@ -112,7 +112,7 @@ unbind_due-none old gone (Some bind) = refl
 
 -- a done step made the calls of what happened, with some minutes for the numbers of minutes
 pub record AreCalled (promised : Promised) (names : List (List ℕ)) (old : Bot) (happenings : List Happening) (calls : List ProcCall) : Type 0 where
-  pub occasions : List Occasion
+  pub occasions : List Trigger
   pub are : AreOccasions happenings occasions
   pub made : calls ≡ proc_calls (told_of (bot_setting promised names old) occasions)
 
@@ -183,7 +183,7 @@ reading_calls : (promised : Promised) (names : List (List ℕ)) (old : Bot) (now
 reading_calls promised names old now report new done (Some fault) t = absurd (refused_done report (clock_refusal fault) done t.0)
 reading_calls promised names old now report new done None t = moment_calls promised names old now report new done (is_stale old.clock now) refl t
 
-pub step_calls : (promised : Promised) (names : List (List ℕ)) (old : Bot) (event : Event)
+pub step_calls : (promised : Promised) (names : List (List ℕ)) (old : Bot) (event : BotEvent)
     (report : BotReport) (new : Bot) → report.end ≡ Done → TakesStep promised names old event report new
     → AreCalled promised names old (happenings_of old event) (map proc_call report.calls)
 step_calls promised names old Connect report new done t = none_called promised names old report (none_due _ old _ report new done t refl)
@@ -223,7 +223,7 @@ setting_at promised names all bot = setting_by promised names bot (records_of al
 -- the calls are those of the bot at its version
 pub record IsCalled (promised : Promised) (names : List (List ℕ)) (all : List AcceptedChange) (a : Calling) : Type 0 where
   pub version : link_version a.bot.link ≤ length all
-  pub occasions : List Occasion
+  pub occasions : List Trigger
   pub are : AreOccasions a.happenings occasions
   pub calls : a.calls ≡ proc_calls (told_of (setting_at promised names all a.bot) occasions)
 
@@ -301,7 +301,7 @@ same_codes promised names all a b one other alike codes =
     same_occasions b.happenings one.occasions other.occasions (subst (λ (hs : List Happening). AreOccasions hs one.occasions) alike.happenings one.are) other.are
     in
     one.calls
-    ∙ ap (λ (os : List Occasion). proc_calls (told_of (setting_at promised names all a.bot) os)) same
+    ∙ ap (λ (os : List Trigger). proc_calls (told_of (setting_at promised names all a.bot) os)) same
     ∙ ap (λ (c : List ℕ → Call → Code). proc_calls (told_of
     (setting_of c names (records_of all (link_version a.bot.link)).users a.bot.binds.binds a.bot.config.exclusive) other.occasions)) codes
     ∙ ap (λ (v : ℕ). proc_calls (told_of

@@ -12,8 +12,8 @@ use Rattle.sharelink.specs.Calls.{outgoings_of}
 use Rattle.protocol.specs.Ends.{End as LinkEnd}
 use Rattle.protocol.specs.Nets.{IsMoment}
 use Rattle.procstore.specs.Promises.{Promised}
-use Rattle.botcore.specs.declared.event.Event.{Event}
-use Rattle.botcore.specs.declared.event.Event.TheVariants.{Connect, Line, Ask, Pump, Receive, Clock, Bind, Unbind, Compact, Restart}
+use Rattle.botcore.specs.declared.event.BotEvent.{BotEvent}
+use Rattle.botcore.specs.declared.event.BotEvent.TheVariants.{Connect, Line, Ask, Pump, Receive, Clock, Bind, Unbind, Compact, Restart}
 use Rattle.botcore.specs.Bots.{Bot}
 use Rattle.botworld.specs.declared.sent.Sent.{Sent}
 use Rattle.botworld.specs.declared.step.Part.{Part}
@@ -61,14 +61,14 @@ missing_is_fine (reported report) m = absurd m
 missing_is_fine NoSuchBot m = tt
 missing_is_fine NoSuchPacket m = tt
 
-part_at-missing : (w : Net) (bot : ℕ) (event : Event) (why : Outcome) → part_at w bot event ≡ Err why → IsMissing why
+part_at-missing : (w : Net) (bot : ℕ) (event : BotEvent) (why : Outcome) → part_at w bot event ≡ Err why → IsMissing why
 part_at-missing w bot event why e = by (is_bot w bot) e
   where
     by : (b : Bool) → (let r : Result Part Outcome = if b then Ok (record { bot = bot; event = event }) else Err NoSuchBot in r) ≡ Err why → IsMissing why
     by true e = cc
     by false e = let same : NoSuchBot ≡ why = cc in subst IsMissing same tt
 
-told_at-missing : (w : Net) (bot : ℕ) (event : Event) (why : Outcome) → told_at w bot event ≡ Err why → IsMissing why
+told_at-missing : (w : Net) (bot : ℕ) (event : BotEvent) (why : Outcome) → told_at w bot event ≡ Err why → IsMissing why
 told_at-missing w bot event why e = by (is_bot w bot && is_packet event) e
   where
     by : (b : Bool) → (if b then Err NoSuchPacket else part_at w bot event) ≡ Err why → IsMissing why
@@ -85,7 +85,7 @@ part_of-missing w (Deliver packet) why e = delivered-missing w (packet_at w.pack
 
 -- ---- where one does: a packet that it is told was sent to it
 
-unsent : (sent : List LinkSent) (bot : ℕ) (event : Event) → is_packet event ≡ false → WasSentTo sent bot event
+unsent : (sent : List LinkSent) (bot : ℕ) (event : BotEvent) → is_packet event ≡ false → WasSentTo sent bot event
 unsent sent bot (Receive packet) e = cc
 unsent sent bot Connect e = tt
 unsent sent bot (Line line) e = tt
@@ -97,7 +97,7 @@ unsent sent bot (Unbind gone) e = tt
 unsent sent bot Compact e = tt
 unsent sent bot Restart e = tt
 
-part_at-is : (w : Net) (bot : ℕ) (event : Event) (part : Part) → part_at w bot event ≡ Ok part
+part_at-is : (w : Net) (bot : ℕ) (event : BotEvent) (part : Part) → part_at w bot event ≡ Ok part
     → (let p : Part = record { bot = bot; event = event } in p) ≡ part
 part_at-is w bot event part e = by (is_bot w bot) e
   where
@@ -109,7 +109,7 @@ part_at-is w bot event part e = by (is_bot w bot) e
 abbrev WasSent : List LinkSent → Part → Type 0
 WasSent sent part = WasSentTo sent part.bot part.event
 
-told_at-sent : (sent : List LinkSent) (w : Net) (bot : ℕ) (event : Event) (part : Part) → told_at w bot event ≡ Ok part → WasSent sent part
+told_at-sent : (sent : List LinkSent) (w : Net) (bot : ℕ) (event : BotEvent) (part : Part) → told_at w bot event ≡ Ok part → WasSent sent part
 told_at-sent sent w bot event part e = by (is_bot w bot) refl (is_packet event) refl e
   where
     by : (b : Bool) → is_bot w bot ≡ b → (p : Bool) → is_packet event ≡ p → (if b && p then Err NoSuchPacket else part_at w bot event) ≡ Ok part

@@ -4,8 +4,8 @@ use Rattle.std.proofs.Common.{Option, None, Some, Result, Err, IsOk, refl, ap, s
 use Rattle.std.proofs.lemmas.Option.{get_or_from_slice_get}
 use Rattle.sharelink.specs.declared.answer.Outgoing.{Outgoing}
 use Rattle.sharelink.specs.Shapes.{HasGoodRecords, AreGood}
-use Rattle.botcore.specs.declared.event.Event.{Event}
-use Rattle.botcore.specs.declared.event.Event.TheVariants.{Connect, Line, Ask, Pump, Receive, Clock, Bind, Unbind, Compact, Restart}
+use Rattle.botcore.specs.declared.event.BotEvent.{BotEvent}
+use Rattle.botcore.specs.declared.event.BotEvent.TheVariants.{Connect, Line, Ask, Pump, Receive, Clock, Bind, Unbind, Compact, Restart}
 use Rattle.botcore.specs.Steps.{IsGoodEvent}
 use Rattle.botworld.specs.declared.sent.Sent.{Sent}
 use Rattle.botworld.specs.declared.step.Part.{Part}
@@ -41,7 +41,7 @@ delivered_good w (suc place) sent good ok is = by (slice_get w.packets place) re
         subst (λ (s : Sent). HasGoodRecords s.packet) (sym same) (sent_good w.packets place x good at)
 
 -- an event that is no packet
-other_good : (event : Event) → is_packet event ≡ false → IsGoodEvent event
+other_good : (event : BotEvent) → is_packet event ≡ false → IsGoodEvent event
 other_good (Receive packet) e = cc
 other_good Connect e = tt
 other_good (Line line) e = tt
@@ -54,7 +54,7 @@ other_good Compact e = tt
 other_good Restart e = tt
 
 -- what a bot may be told
-pub told_good : (w : Net) (bot : ℕ) (event : Event) → IsOk (told_at w bot event) → IsGoodEvent event
+pub told_good : (w : Net) (bot : ℕ) (event : BotEvent) → IsOk (told_at w bot event) → IsGoodEvent event
 told_good w bot event ok = by (is_packet event) refl (is_bot w bot) refl
   where
     by : (p : Bool) → is_packet event ≡ p → (b : Bool) → is_bot w bot ≡ b → IsGoodEvent event

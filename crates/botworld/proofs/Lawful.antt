@@ -24,16 +24,16 @@ use Rattle.protocol.specs.Network.Event.{Pump as pumps}
 use Rattle.protocol.proofs.Moves.{next_is_applied, pump_accepts}
 use Rattle.protocol.proofs.HubGoes.{version_stands}
 use Rattle.sharelink.specs.declared.answer.Answer.{Answer}
-use Rattle.sharelink.specs.declared.note.Note.{Note as LinkNote}
-use Rattle.sharelink.specs.declared.note.Note.TheVariants as note
+use Rattle.sharelink.specs.declared.note.LinkNote.{LinkNote}
+use Rattle.sharelink.specs.declared.note.LinkNote.TheVariants as note
 use Rattle.sharelink.specs.declared.error.LinkFault.{LinkFault}
 use Rattle.sharelink.specs.Calls.{note_of}
 use Rattle.protocol.specs.Ends.{End as LinkEnd, AtHub, AtLeaf, end_asks, end_version}
 use Rattle.protocol.specs.Nets.{leaf_ends, ends_of as ends_in, MovesAsTold}
 use Rattle.sharelink.specs.BotLinks.{did, took, Calls}
 use Rattle.procstore.specs.Promises.{Promised}
-use Rattle.botcore.specs.declared.event.Event.{Event}
-use Rattle.botcore.specs.declared.event.Event.TheVariants.{Pump, Receive}
+use Rattle.botcore.specs.declared.event.BotEvent.{BotEvent}
+use Rattle.botcore.specs.declared.event.BotEvent.TheVariants.{Pump, Receive}
 use Rattle.botcore.specs.declared.report.End.TheVariants.{Done}
 use Rattle.botcore.specs.declared.report.Note.{Note}
 use Rattle.botcore.specs.declared.report.Note.TheVariants.{Link as link_note}
@@ -59,13 +59,13 @@ pub is_bot-at : (w : Net) (bot : ℕ) (b : Bot) → slice_get w.bots bot ≡ Som
 is_bot-at w bot b e = lt-ltb bot (length w.bots) (slice_get_within w.bots bot b e)
 
 record DoneBy (promised : Promised)
-    (old : Net) (bot : ℕ) (event : Event) (was : Bot) (o : Outcome) (new : Net) : Type 0 where
+    (old : Net) (bot : ℕ) (event : BotEvent) (was : Bot) (o : Outcome) (new : Net) : Type 0 where
   taken : TakesPart promised old (record { bot = bot; event = event }) o new
   same : taken.was ≡ was
   done : taken.report.end ≡ Done
 
 done_by : (promised : Promised)
-    (old : Net) (bot : ℕ) (event : Event) (was : Bot) (o : Outcome) (new : Net)
+    (old : Net) (bot : ℕ) (event : BotEvent) (was : Bot) (o : Outcome) (new : Net)
     → slice_get old.bots bot ≡ Some was → Comes promised old (part_at old bot event) o new → IsDone o → DoneBy promised old bot event was o new
 done_by promised old bot event was o new here c done =
     let part : Part = record { bot = bot; event = event } in

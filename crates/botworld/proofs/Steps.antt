@@ -4,8 +4,8 @@ use Rattle.std.proofs.Common.{slice_set, Option, None, Some, Result, Ok, Err, Is
 use Rattle.std.proofs.lemmas.Bool.{ltb-true}
 use Rattle.std.proofs.lemmas.Option.{slice_get_read}
 use Rattle.procstore.specs.Promises.{Promised}
-use Rattle.botcore.specs.declared.event.Event.{Event}
-use Rattle.botcore.specs.declared.event.Event.TheVariants.{Receive}
+use Rattle.botcore.specs.declared.event.BotEvent.{BotEvent}
+use Rattle.botcore.specs.declared.event.BotEvent.TheVariants.{Receive}
 use Rattle.botcore.specs.declared.report.Report.{Report as BotReport}
 use Rattle.botcore.specs.Bots.{Bot}
 use Rattle.botcore.specs.Steps.{TakesStep}
@@ -20,18 +20,18 @@ use Rattle.botworld.specs.Net.{Net, is_bot, is_packet, part_at, told_at, deliver
 -- who takes part -------------------------------------------------------------------------------------------------------
 
 -- a part that there is, is that of the bot and the event
-record IsPart (w : Net) (bot : ℕ) (event : Event) (r : Result Part Outcome) : Type 0 where
+record IsPart (w : Net) (bot : ℕ) (event : BotEvent) (r : Result Part Outcome) : Type 0 where
   there : bot < length w.bots
   is : r ≡ Ok (record { bot = bot; event = event })
 
-part_at-ok : (w : Net) (bot : ℕ) (event : Event) → IsOk (part_at w bot event) → IsPart w bot event (part_at w bot event)
+part_at-ok : (w : Net) (bot : ℕ) (event : BotEvent) → IsOk (part_at w bot event) → IsPart w bot event (part_at w bot event)
 part_at-ok w bot event ok = by (is_bot w bot) refl
   where
     by : (b : Bool) → is_bot w bot ≡ b → IsPart w bot event (part_at w bot event)
     by true e = record { there = ltb-true bot (length w.bots) e; is = rw e refl }
     by false e = let none : part_at w bot event ≡ Err NoSuchBot = rw e refl in let bad = subst (λ (r : Result Part Outcome). IsOk r) none ok in cc
 
-told_at-ok : (w : Net) (bot : ℕ) (event : Event) → IsOk (told_at w bot event) → IsPart w bot event (told_at w bot event)
+told_at-ok : (w : Net) (bot : ℕ) (event : BotEvent) → IsOk (told_at w bot event) → IsPart w bot event (told_at w bot event)
 told_at-ok w bot event ok = by (is_bot w bot && is_packet event) refl
   where
     by : (b : Bool) → (is_bot w bot && is_packet event) ≡ b → IsPart w bot event (told_at w bot event)

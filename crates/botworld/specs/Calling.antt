@@ -7,7 +7,7 @@ use Rattle.procstore.specs.declared.call.Call.{Call}
 use Rattle.procstore.specs.declared.reply.Code.{Code}
 use Rattle.bindtable.specs.declared.bind.Bind.{Bind}
 use Rattle.bindtable.specs.Tables.{Asked}
-use Rattle.botcore.specs.declared.event.Event.{Event}
+use Rattle.botcore.specs.declared.event.BotEvent.{BotEvent}
 use Rattle.botcalls.specs.declared.made_call.MadeCall.{MadeCall}
 use Rattle.botcore.specs.declared.report.End.{End}
 use Rattle.botcore.specs.declared.report.End.TheVariants.{Done, Refused, NoMemory}
@@ -16,7 +16,7 @@ use Rattle.botcore.specs.Happenings.{Happening, happenings_of}
 use Rattle.botcore.specs.Links.{link_version}
 use Rattle.botworld.specs.declared.step.Part.{Part}
 use Rattle.botworld.specs.declared.step.Step.{Step}
-use Rattle.botworld.specs.declared.outcome.Report.{Report}
+use Rattle.botworld.specs.declared.outcome.WorldReport.{WorldReport}
 use Rattle.botworld.specs.declared.outcome.Outcome.{Outcome}
 use Rattle.botworld.specs.declared.outcome.Outcome.TheVariants.{Report as reported, NoSuchBot, NoSuchPacket}
 use Rattle.botworld.specs.Net.{Net, part_of}
@@ -37,12 +37,12 @@ pub record Calling : Type 0 where
   pub happenings : List Happening
   pub calls : List ProcCall
 
-abbrev pub calling_done : End → Event → Report → Bot → Option Calling
+abbrev pub calling_done : End → BotEvent → WorldReport → Bot → Option Calling
 calling_done Done event report was = Some (record { bot = was; happenings = happenings_of was event; calls = map proc_call report.calls })
 calling_done (Refused why) event report was = None
 calling_done NoMemory event report was = None
 
-abbrev pub calling_by : Option Bot → Event → Report → Option Calling
+abbrev pub calling_by : Option Bot → BotEvent → WorldReport → Option Calling
 calling_by None event report = None
 calling_by (Some was) event report = calling_done report.end event report was
 

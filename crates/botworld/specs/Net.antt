@@ -6,8 +6,8 @@ use Rattle.userfile.specs.Records.{Records}
 use Rattle.procstore.specs.Promises.{Promised}
 use Rattle.sharelink.specs.declared.answer.Outgoing.{Outgoing}
 use Rattle.sharelink.specs.Shapes.{HasGoodRecords}
-use Rattle.botcore.specs.declared.event.Event.{Event}
-use Rattle.botcore.specs.declared.event.Event.TheVariants.{Receive}
+use Rattle.botcore.specs.declared.event.BotEvent.{BotEvent}
+use Rattle.botcore.specs.declared.event.BotEvent.TheVariants.{Receive}
 use Rattle.botcore.specs.declared.report.Report.{Report as BotReport}
 use Rattle.botcore.specs.Bots.{Bot}
 use Rattle.botcore.specs.Links.{link_version, link_records}
@@ -16,7 +16,7 @@ use Rattle.botworld.specs.declared.sent.Sent.{Sent}
 use Rattle.botworld.specs.declared.step.Part.{Part}
 use Rattle.botworld.specs.declared.step.Step.{Step}
 use Rattle.botworld.specs.declared.step.Step.TheVariants.{At, Deliver}
-use Rattle.botworld.specs.declared.outcome.Report.{Report}
+use Rattle.botworld.specs.declared.outcome.WorldReport.{WorldReport}
 use Rattle.botworld.specs.declared.outcome.Outcome.{Outcome}
 use Rattle.botworld.specs.declared.outcome.Outcome.TheVariants.{Report as reported, NoSuchBot, NoSuchPacket}
 
@@ -42,16 +42,16 @@ packet_at packets (suc place) = slice_get packets place
 abbrev pub is_bot : Net → ℕ → Bool
 is_bot w bot = nat_lt bot (length w.bots)
 
-abbrev pub is_packet : Event → Bool
+abbrev pub is_packet : BotEvent → Bool
 is_packet (Receive packet) = true
 is_packet other = false
 
 -- the part of the bot with this number, if there is one
-abbrev pub part_at : Net → ℕ → Event → Result Part Outcome
+abbrev pub part_at : Net → ℕ → BotEvent → Result Part Outcome
 part_at w bot event = if is_bot w bot then Ok (record { bot = bot; event = event }) else Err NoSuchBot
 
 -- a bot may handle anything but a packet: a packet that nobody sent reaches nobody
-abbrev pub told_at : Net → ℕ → Event → Result Part Outcome
+abbrev pub told_at : Net → ℕ → BotEvent → Result Part Outcome
 told_at w bot event = if is_bot w bot && is_packet event then Err NoSuchPacket else part_at w bot event
 
 -- a packet that was sent reaches its addressee
@@ -76,7 +76,7 @@ posted from [] = []
 posted from (o ∷ os) = record { from = from; to = o.to; packet = o.packet } ∷ posted from os
 
 -- a bot's report, as an outcome: it gives the numbers of its packets, which continue from this one
-abbrev pub report_of : ℕ → ℕ → BotReport → Report
+abbrev pub report_of : ℕ → ℕ → BotReport → WorldReport
 report_of bot first report = record {
   bot = bot;
   end = report.end;

@@ -9,12 +9,12 @@ use Rattle.protocol.specs.Truth.{IsTrue, IsKeptAnswer, AllSent}
 use Rattle.protocol.specs.Claims.{Holds}
 use Rattle.protocol.specs.Network.{Net as LinkNet}
 use Rattle.sharelink.specs.Calls.{note_of}
-use Rattle.sharelink.specs.declared.note.Note.TheVariants.{Accepted}
+use Rattle.sharelink.specs.declared.note.LinkNote.TheVariants.{Accepted}
 use Rattle.sharelink.specs.declared.error.LinkFault.TheVariants.{OtherLayout, Diverged}
 use Rattle.protocol.specs.Ends.{End as LinkEnd, end_asks}
 use Rattle.protocol.specs.Nets.{IsMoment, MovesAsTold, ends_of as ends_in}
 use Rattle.procstore.specs.Promises.{Promised}
-use Rattle.botcore.specs.declared.event.Event.TheVariants.{Pump}
+use Rattle.botcore.specs.declared.event.BotEvent.TheVariants.{Pump}
 use Rattle.botcore.specs.declared.fault.Refusal.TheVariants.{Link as link_refusal}
 use Rattle.botcore.specs.declared.report.End.{End}
 use Rattle.botcore.specs.declared.report.End.TheVariants.{Done, Refused, NoMemory}

@@ -1,6 +1,6 @@
 //! A whole botnet in memory: the hub, its leaves, the procs that their binds call, and every packet ever sent.
 //!
-//! A [`World`] makes any list of [`Step`]s: a bot handles an [`Event`](botcore::Event), or a packet is delivered. A
+//! A [`World`] makes any list of [`Step`]s: a bot handles an [`Event`](botcore::BotEvent), or a packet is delivered. A
 //! packet may be delivered never, once or often, and in any order, which is all that a network can do. A bot's disks
 //! may fail at any call. The record that was being written is then in the journal or not, as the next restart finds.
 //! Each step has an [`Outcome`].
@@ -36,7 +36,7 @@ mod step;
 mod world;
 
 pub use crate::error::{RefusedWorld, WorldFault};
-pub use crate::outcome::{Outcome, Outcomes, Report, Transcript};
+pub use crate::outcome::{Outcome, Outcomes, Transcript, WorldReport};
 pub use crate::sent::Sent;
 pub use crate::step::Step;
 pub use crate::world::World;

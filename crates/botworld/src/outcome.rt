@@ -10,7 +10,7 @@ use std::alloc::Global;
 
 /// A bot's part in a step: the bot's report, with the numbers of its packets.
 #[derive(Drop)]
-pub struct Report {
+pub struct WorldReport {
     /// The bot's number.
     pub bot: u16,
     /// How its part ended.
@@ -32,13 +32,13 @@ pub struct Report {
     pub logged: bool,
 }
 
-impl TryCopy for Report {
-    fn copy(&self, alloc: Global) -> Result<Report, NoMemory> {
+impl TryCopy for WorldReport {
+    fn copy(&self, alloc: Global) -> Result<WorldReport, NoMemory> {
         let note = copy_of_note(alloc, &self.note)?;
         let calls = self.calls.copy(alloc)?;
         let lines = self.lines.copy(alloc)?;
         let faults = self.faults.copy(alloc)?;
-        Ok(Report {
+        Ok(WorldReport {
             bot: self.bot,
             end: self.end,
             note,
@@ -65,7 +65,7 @@ fn copy_of_note(alloc: Global, note: &Option<Note>) -> Result<Option<Note>, NoMe
 #[derive(Drop)]
 pub enum Outcome {
     /// A bot took part.
-    Report(Report),
+    Report(WorldReport),
     /// O2: no bot has this number; nothing changed.
     NoSuchBot,
     /// O3: no packet has this number, or the step gives a bot a packet without a delivery; nothing changed.

@@ -1,5 +1,5 @@
 // The steps of a world.
-use botcore::Event;
+use botcore::BotEvent;
 use bytetext::{NoMemory, TryCopy};
 use std::alloc::Global;
 
@@ -12,7 +12,7 @@ pub enum Step {
         /// The bot's number.
         bot: u16,
         /// The event that the bot handles.
-        event: Event,
+        event: BotEvent,
     },
     /// Delivers the packet with this number, from 1 in the order of sending, to its addressee, perhaps not for the
     /// first time.
@@ -40,5 +40,5 @@ pub(crate) struct Part {
     // The bot's number.
     pub bot: u16,
     // The event that the bot handles.
-    pub event: Event,
+    pub event: BotEvent,
 }

@@ -7,10 +7,10 @@ ghost use Rattle.botworld.specs.declared.world.TheConstants.{MOST_SENT};
 ghost use Rattle.botworld.specs.declared.outcome.Outcome.TheVariants.{Report as reported};
 
 use crate::error::{RefusedWorld, WorldFault};
-use crate::outcome::{Outcome, Report, Transcript};
+use crate::outcome::{Outcome, Transcript, WorldReport};
 use crate::sent::Sent;
 use crate::step::{Part, Step};
-use botcore::{Bot, Event, Report as BotReport};
+use botcore::{Bot, BotEvent, Report as BotReport};
 use bytetext::{NoMemory, Seq, TryCopy};
 use disks::Disk;
 use procstore::{Body, ProcStore, Promise, Run};
@@ -291,7 +291,7 @@ impl<P: Promise, D: Disk, B: Run> World<P, D, B> {
                 let sent = &self.packets[(*packet - 1) as usize];
                 Ok(Part {
                     bot: sent.to,
-                    event: Event::Receive(sent.packet.copy(alloc)?),
+                    event: BotEvent::Receive(sent.packet.copy(alloc)?),
                 })
             }
         }
@@ -318,20 +318,20 @@ fn is_numbered_at<D: Disk>(bots: usize, place: usize, bot: &Bot<D>) -> bool
     config.number as usize == place && config.leaves as usize + 1 == bots
 }
 
-fn is_packet(event: &Event) -> bool
+fn is_packet(event: &BotEvent) -> bool
     ensures { result ≡ is_packet event.now }
 {
     match event {
-        Event::Receive(_) => true,
-        Event::Connect
-        | Event::Line(_)
-        | Event::Ask(_)
-        | Event::Pump
-        | Event::Clock(_)
-        | Event::Bind(_)
-        | Event::Unbind(_)
-        | Event::Compact
-        | Event::Restart => false,
+        BotEvent::Receive(_) => true,
+        BotEvent::Connect
+        | BotEvent::Line(_)
+        | BotEvent::Ask(_)
+        | BotEvent::Pump
+        | BotEvent::Clock(_)
+        | BotEvent::Bind(_)
+        | BotEvent::Unbind(_)
+        | BotEvent::Compact
+        | BotEvent::Restart => false,
     }
 }
 
@@ -347,7 +347,7 @@ fn post(packets: &mut Vec<Sent>, bot: u16, report: BotReport) -> Outcome
     let (note, calls, outgoing, lines, faults) = report.into_parts();
     let count = outgoing.len();
     send_all(packets, bot, outgoing.into_vec());
-    Outcome::Report(Report {
+    Outcome::Report(WorldReport {
         bot,
         end,
         note,

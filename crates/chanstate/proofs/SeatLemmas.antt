@@ -16,8 +16,8 @@ use Rattle.std.proofs.lemmas.List.Elements.{filter_map-append}
 use Rattle.rfccase.specs.Casemapping.{folded, is_same}
 use Rattle.chanstate.specs.declared.member.Member.{Member}
 use Rattle.chanstate.specs.Seats.{SitsAt, AreIndexed, IsChanged, IsIndexedNext, Entries, place_under, has_key, seated, taken, is_seat_of, IsUnder, AreUnder}
-use Rattle.chanstate.specs.declared.edit.Edit.{Edit}
-use Rattle.chanstate.specs.declared.edit.Edit.TheVariants.{Marked, Listed, Addressed}
+use Rattle.chanstate.specs.declared.member_edit.MemberEdit.{MemberEdit}
+use Rattle.chanstate.specs.declared.member_edit.MemberEdit.TheVariants.{Marked, Listed, Addressed}
 use Rattle.chanstate.specs.declared.member.Mark.TheVariants.{Op, Voice, HalfOp}
 use Rattle.chanstate.specs.Members.{is_called, with_nick, edited}
 use Rattle.chanstate.specs.Firsts.{first_removed, first_changed}
@@ -554,19 +554,19 @@ respelled old nick lower key ps es fs gs at m n o d indexed is read none lower-i
         (by_lower (folded old) (folded nick) None es fs change)
 
 -- an edit leaves the nick
-pub edited-nick : (edit : Edit) (m : Member) → (edited edit m).nick ≡ m.nick
+pub edited-nick : (edit : MemberEdit) (m : Member) → (edited edit m).nick ≡ m.nick
 edited-nick (Marked Op on) m = refl
 edited-nick (Marked Voice on) m = refl
 edited-nick (Marked HalfOp on) m = refl
 edited-nick (Listed more) m = refl
 edited-nick (Addressed user host) m = refl
 
-pub edited-indexed : (edit : Edit) (ps : Places) (es : Entries) (at : ℕ) (m n : Member) (o : Option Member) → at < length ps → o ≡ get_or ps at o
+pub edited-indexed : (edit : MemberEdit) (ps : Places) (es : Entries) (at : ℕ) (m n : Member) (o : Option Member) → at < length ps → o ≡ get_or ps at o
     → o ≡ Some m → n ≡ edited edit m → AreIndexed ps es → AreIndexed (set ps at (Some n)) es
 edited-indexed edit ps es at m n o within read is made indexed =
     indexed-edited ps es at m n indexed (SitsAt-from ps at m o within (sym read ∙ is)) (ap (λ (y : Member). y.nick) made ∙ edited-nick edit m)
 
-pub edited-seated : (edit : Edit) (nick : List ℕ) (ps : Places) (es : Entries) (at : ℕ) (m n : Member) (o : Option Member) → o ≡ get_or ps at o
+pub edited-seated : (edit : MemberEdit) (nick : List ℕ) (ps : Places) (es : Entries) (at : ℕ) (m n : Member) (o : Option Member) → o ≡ get_or ps at o
     → o ≡ Some m → n ≡ edited edit m → AreIndexed ps es
     → place_under (folded nick) es ≡ Some at → seated (set ps at (Some n)) ≡ first_changed (is_called nick) (edited edit) (seated ps)
 edited-seated edit nick ps es at m n o read is made indexed place =

@@ -4,13 +4,13 @@ use Rattle.std.specs.List.{filter_map}
 use Rattle.std.specs.Option.{option_to_list}
 use Rattle.std.proofs.lemmas.List.{map-append, at_drop_more}
 use Rattle.std.proofs.lemmas.List.Elements.{filter-append, filter_map-append}
-use Rattle.chanstate.specs.declared.event.Event.{Event}
+use Rattle.chanstate.specs.declared.event.IrcEvent.{IrcEvent}
 use Rattle.chanstate.specs.declared.support.Support.{Support}
 use Rattle.chanstate.specs.Items.{Single, single_at, singles, sign_after, arguments_after}
 
 -- one more piece of a list that is cut into pieces, of which some name a channel that events tell of
-pub told_more : {X : Type 0} (v : X → List ℕ) (f : List ℕ → Event) (g : List ℕ → Option (List ℕ)) (p : List ℕ → Bool) (xs : List X) (x : X)
-    (names : List (List ℕ)) (old new : List Event) → old ≡ map f (filter_map g (filter p (map v xs)))
+pub told_more : {X : Type 0} (v : X → List ℕ) (f : List ℕ → IrcEvent) (g : List ℕ → Option (List ℕ)) (p : List ℕ → Bool) (xs : List X) (x : X)
+    (names : List (List ℕ)) (old new : List IrcEvent) → old ≡ map f (filter_map g (filter p (map v xs)))
     → names ≡ filter_map g (filter p (v x ∷ [])) → new ≡ old ++ map f names
     → new ≡ map f (filter_map g (filter p (map v (xs ++ x ∷ []))))
 told_more v f g p xs x names old new so_far named more =
@@ -23,7 +23,7 @@ told_more v f g p xs x names old new so_far named more =
     ∙ sym (ap (λ ps. map f (filter_map g (filter p ps))) (map-append v xs (x ∷ [])))
 
 -- one more byte of a mode string: the events so far and those of the bytes that are left are all events still
-pub modes_more : (sup : Support) (f : Single → Event) (on : Bool) (string : List ℕ) (i d : ℕ) (arguments : List (List ℕ)) (old new : List Event) → i < length string
+pub modes_more : (sup : Support) (f : Single → IrcEvent) (on : Bool) (string : List ℕ) (i d : ℕ) (arguments : List (List ℕ)) (old new : List IrcEvent) → i < length string
     → let b = get_or string i d in
     new ≡ old ++ map f (option_to_list (single_at sup on b arguments)) →
     new ++ map f (singles sup (sign_after on b) (drop (i + 1) string) (arguments_after sup on b arguments))

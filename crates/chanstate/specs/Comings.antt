@@ -2,8 +2,8 @@
 use Rattle.std.specs.Prelude.{ℕ, Bool, true, false, List, [], ◌∷◌, ◌++◌, map, Option, Some, slice_get}
 use Rattle.std.specs.List.{filter_map}
 use Rattle.std.specs.Option.{option_map}
-use Rattle.chanstate.specs.declared.event.Event.{Event}
-use Rattle.chanstate.specs.declared.event.Kind.TheVariants.{Join, Part, Sign, Nick}
+use Rattle.chanstate.specs.declared.event.IrcEvent.{IrcEvent}
+use Rattle.chanstate.specs.declared.event.EventKind.TheVariants.{Join, Part, Sign, Nick}
 use Rattle.chanstate.specs.declared.state.ChanState.{ChanState}
 use Rattle.rfccase.specs.Casemapping.{is_same}
 use Rattle.chanstate.specs.Items.{channels_in}
@@ -26,19 +26,19 @@ abbrev pub listed_in : Bool → ChanState → List ℕ → List (List ℕ)
 listed_in own s list = filter_map (spelled own s) (channels_in list)
 
 -- JOIN: on each listed channel that the bot is on, or on every listed channel if the bot itself joins
-abbrev pub joins : List ℕ → List ℕ → List (List ℕ) → ChanState → List Event
+abbrev pub joins : List ℕ → List ℕ → List (List ℕ) → ChanState → List IrcEvent
 joins nick address ps s = when_given (slice_get ps 0)
     (λ list. map (event_on Join nick address (hostmask nick address) []) (listed_in (is_same nick s.nick) s list))
 
 -- PART: on each listed channel that the bot is on, with the message
-abbrev pub parts : List ℕ → List ℕ → List (List ℕ) → ChanState → List Event
+abbrev pub parts : List ℕ → List ℕ → List (List ℕ) → ChanState → List IrcEvent
 parts nick address ps s = when_given (slice_get ps 0)
     (λ list. map (event_on Part nick address (hostmask nick address) (text_at ps 1 ∷ [])) (listed_in false s list))
 
 -- QUIT: on each channel that the nick is on, in the order in which the bot joined them, with the reason
-abbrev pub signs_off : List ℕ → List ℕ → List (List ℕ) → ChanState → List Event
+abbrev pub signs_off : List ℕ → List ℕ → List (List ℕ) → ChanState → List IrcEvent
 signs_off nick address ps s = map (event_on Sign nick address (hostmask nick address) (text_at ps 0 ∷ [])) (channels_with nick s)
 
 -- NICK: on each channel that the old nick is on, in the order in which the bot joined them, with the new one
-abbrev pub renames : List ℕ → List ℕ → List (List ℕ) → ChanState → List Event
+abbrev pub renames : List ℕ → List ℕ → List (List ℕ) → ChanState → List IrcEvent
 renames nick address ps s = when_given (slice_get ps 0) (λ new. map (event_on Nick nick address new (new ∷ [])) (channels_with nick s))

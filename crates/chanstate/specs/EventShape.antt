@@ -1,13 +1,13 @@
 -- An event by its parts.
 use Rattle.std.specs.Prelude.{ℕ, List, ◌∷◌, ◌++◌, Option, Some}
-use Rattle.chanstate.specs.declared.event.Event.{Event}
-use Rattle.chanstate.specs.declared.event.Kind.{Kind}
+use Rattle.chanstate.specs.declared.event.IrcEvent.{IrcEvent}
+use Rattle.chanstate.specs.declared.event.EventKind.{EventKind}
 
-abbrev pub event_with : Kind → List ℕ → Option (List ℕ) → List (List ℕ) → Event
+abbrev pub event_with : EventKind → List ℕ → Option (List ℕ) → List (List ℕ) → IrcEvent
 event_with kind subject channel arguments = record { kind = kind; subject = subject; channel = channel; arguments = arguments }
 
 -- An event on a channel. Its subject is the channel, a space and one more text, by which masks distinguish events. Its
 -- arguments are the nick and address of the author, the channel, and the other texts of the event.
-abbrev pub event_on : Kind → List ℕ → List ℕ → List ℕ → List (List ℕ) → List ℕ → Event
+abbrev pub event_on : EventKind → List ℕ → List ℕ → List ℕ → List (List ℕ) → List ℕ → IrcEvent
 event_on kind nick address about more channel =
     event_with kind (channel ++ 32 ∷ about) (Some channel) (nick ∷ address ∷ channel ∷ more)

@@ -15,8 +15,8 @@ use Rattle.chanstate.specs.declared.member.Mark.{Mark}
 use Rattle.chanstate.specs.declared.member.Mark.TheVariants.{Op, Voice, HalfOp}
 use Rattle.chanstate.specs.declared.support.Support.{Support}
 use Rattle.chanstate.specs.Announced.{is_in, is_sign, takes_argument}
-use Rattle.chanstate.specs.declared.verb.Verb.{Verb}
-use Rattle.chanstate.specs.declared.verb.Verb.TheVariants as verb
+use Rattle.chanstate.specs.declared.channel_command.ChannelCommand.{ChannelCommand}
+use Rattle.chanstate.specs.declared.channel_command.ChannelCommand.TheVariants as verb
 
 pub data Item : Type 0 where
   -- the server has welcomed the bot under this nick
@@ -129,7 +129,7 @@ read_by s (NamesTold channel names) = map (Listed channel) (names_in s names)
 read_by s item = item ∷ []
 
 -- the command of a message, as far as channels and events are concerned
-abbrev pub word_of : Verb → List ℕ
+abbrev pub word_of : ChannelCommand → List ℕ
 word_of verb.RplWelcome = codes "001"
 word_of verb.RplISupport = codes "005"
 word_of verb.Join = codes "JOIN"
@@ -147,7 +147,7 @@ word_of verb.Privmsg = codes "PRIVMSG"
 word_of verb.Notice = codes "NOTICE"
 word_of verb.Other = []
 
-abbrev pub all_verbs : List Verb
+abbrev pub all_verbs : List ChannelCommand
 all_verbs =
     verb.RplWelcome ∷
     verb.RplISupport ∷
@@ -166,7 +166,7 @@ all_verbs =
     verb.Notice ∷
     []
 
-abbrev pub verb_of : List ℕ → Verb
+abbrev pub verb_of : List ℕ → ChannelCommand
 verb_of command = unwrap_or (find (λ verb. bytes_eq (word_of verb) command) all_verbs) verb.Other
 
 -- 001: the first parameter is the bot's nick
@@ -228,7 +228,7 @@ rpl_who_reply_items ps =
     (λ channel. if_given (slice_get ps 2)
     (λ user. if_given (slice_get ps 3) (λ host. if_given (slice_get ps 5) (λ nick. Addressed channel nick user host ∷ []))))
 
-abbrev pub items_by : Verb → Source → List (List ℕ) → List Item
+abbrev pub items_by : ChannelCommand → Source → List (List ℕ) → List Item
 items_by verb.RplWelcome who ps = rpl_welcome_items ps
 items_by verb.RplISupport who ps = rpl_isupport_items ps
 items_by verb.Join who ps = join_items who ps

@@ -4,8 +4,8 @@ use Rattle.std.specs.List.{list_any}
 use Rattle.chanstate.specs.declared.member.Member.{Member}
 use Rattle.chanstate.specs.declared.member.Mark.{Mark}
 use Rattle.chanstate.specs.declared.member.Mark.TheVariants.{Op, Voice, HalfOp}
-use Rattle.chanstate.specs.declared.edit.Edit.{Edit}
-use Rattle.chanstate.specs.declared.edit.Edit.TheVariants.{Marked, Listed, Addressed}
+use Rattle.chanstate.specs.declared.member_edit.MemberEdit.{MemberEdit}
+use Rattle.chanstate.specs.declared.member_edit.MemberEdit.TheVariants.{Marked, Listed, Addressed}
 use Rattle.rfccase.specs.Casemapping.{is_same}
 use Rattle.chanstate.specs.Firsts.{first_removed, first_changed}
 
@@ -40,7 +40,7 @@ abbrev pub with_marks_of : Member → Member → Member
 with_marks_of more m = record m { op = m.op || more.op; voice = m.voice || more.voice; half_op = m.half_op || more.half_op }
 
 -- the member after a change that keeps the nick
-abbrev pub edited : Edit → Member → Member
+abbrev pub edited : MemberEdit → Member → Member
 edited (Marked mark on) m = with_mark mark on m
 edited (Listed more) m = with_marks_of more m
 edited (Addressed user host) m = with_address user host m

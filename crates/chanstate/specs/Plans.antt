@@ -2,20 +2,20 @@
 use Rattle.std.specs.Prelude.{◌≡◌, Bool, true, false, List, Option, None, Some, if◌then◌else◌, unwrap_or}
 use Rattle.ircline.specs.declared.message.Message.{Message}
 use Rattle.chanstate.specs.declared.state.ChanState.{ChanState}
-use Rattle.chanstate.specs.declared.plan.Plan.{Plan}
-use Rattle.chanstate.specs.declared.plan.Plan.TheVariants.{Plain, Welcome, Title, Address, Open, Seat}
+use Rattle.chanstate.specs.declared.message_plan.MessagePlan.{MessagePlan}
+use Rattle.chanstate.specs.declared.message_plan.MessagePlan.TheVariants.{Plain, Welcome, Title, Address, Open, Seat}
 use Rattle.chanstate.specs.Items.{Item, Welcomed, Titled, Addressed, items_of}
 use Rattle.chanstate.specs.Steps.{step, steps}
 use Rattle.chanstate.specs.Memory.{any_adds}
 use Rattle.chanstate.specs.Takes.{given}
 
 -- whether nothing had to be prepared
-abbrev pub is_plain : Plan → Bool
+abbrev pub is_plain : MessagePlan → Bool
 is_plain Plain = true
 is_plain other = false
 
 -- the state that takes in what was prepared, or gets back what was taken out for it
-abbrev pub settled : Bool → Plan → ChanState → ChanState
+abbrev pub settled : Bool → MessagePlan → ChanState → ChanState
 settled done Plain s = s
 settled done (Welcome nick) s = if done then step (Welcomed nick) s else s
 settled done (Title channel topic) s = if done then step (Titled channel topic) s else s
@@ -27,7 +27,7 @@ settled done (Seat own takes) s = record s {
 }
 
 -- the state after what was prepared, if anything had to be
-abbrev pub after_plan : Plan → ChanState → Option ChanState
+abbrev pub after_plan : MessagePlan → ChanState → Option ChanState
 after_plan plan s = if is_plain plan then None else Some (settled true plan s)
 
 -- what was prepared suits some items and a state: it gives the state after them, or nothing if they allocate nothing
@@ -36,7 +36,7 @@ Suits items s None = any_adds items s ≡ false
 Suits items s (Some next) = next ≡ steps items s
 
 -- a plan for some items, and the state that is left meanwhile
-abbrev pub IsPlanFor : List Item → Plan → ChanState → ChanState → Type 0
+abbrev pub IsPlanFor : List Item → MessagePlan → ChanState → ChanState → Type 0
 IsPlanFor items plan left s = (settled false plan left ≡ s) × Suits items s (after_plan plan left)
 
 -- what was prepared for a message and a state

@@ -1,8 +1,8 @@
 -- What contracts see of a message, borrowed part by part.
 use Rattle.std.specs.Prelude.{ℕ, List, [], ◌∷◌, map}
 use Rattle.ircline.specs.declared.person.Person.{Person}
-use Rattle.chanstate.specs.declared.change.Change.{Change}
-use Rattle.chanstate.specs.declared.change.Change.TheVariants as change
+use Rattle.chanstate.specs.declared.message_parts.MessageParts.{MessageParts}
+use Rattle.chanstate.specs.declared.message_parts.MessageParts.TheVariants as change
 use Rattle.chanstate.specs.Items.{Item, Welcomed, Announced, Joined, Left, Departed, Renamed, ModesSet, Titled, NamesTold, Addressed, channels_in}
 
 -- the joins of a person on the channels of a list
@@ -10,7 +10,7 @@ abbrev pub joins_in : Person → List ℕ → List Item
 joins_in person list = map (Joined person.nick.now person.user.now person.host.now) (channels_in list)
 
 -- the items that a change means
-abbrev pub items_seen : Change → List Item
+abbrev pub items_seen : MessageParts → List Item
 items_seen change.Nothing = []
 items_seen (change.Welcome nick) = Welcomed nick.now ∷ []
 items_seen (change.Announce tokens) = Announced tokens.now ∷ []

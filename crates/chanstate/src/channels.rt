@@ -13,8 +13,8 @@ ghost use Rattle.chanstate.specs.Channels.{is_named, is_held, with_topic, on_cha
 
 use crate::channel::Channel;
 use crate::member::{Mark, Member};
+use crate::message_plan::Opening;
 use crate::names::is_same;
-use crate::plan::Opening;
 use crate::roster::Roster;
 use crate::support::Support;
 use crate::take::Take;

@@ -10,7 +10,7 @@ ghost use Rattle.chanstate.specs.Views.{channels_with};
 
 use crate::channel::Channel;
 use crate::deed::{Author, Deed, joined};
-use crate::event::{Event, Kind};
+use crate::event::{EventKind, IrcEvent};
 use crate::names::is_same;
 use crate::state::ChanState;
 use crate::words::{param, text_at};
@@ -24,7 +24,7 @@ pub(crate) fn join(
     by: Author<'_>,
     params: &[Text],
     state: &ChanState,
-) -> Result<Vec<Event>, NoMemory>
+) -> Result<Vec<IrcEvent>, NoMemory>
     ensures { IfOk result (λ v. v.items ≡ joins by.entry.nick.now by.entry.address.now params.now state.now) }
 {
     let Some(list) = param(params, 0) else {
@@ -32,7 +32,7 @@ pub(crate) fn join(
     };
     let mask = joined(alloc, by.nick, b'!', by.address)?;
     let deed = Deed {
-        kind: Kind::Join,
+        kind: EventKind::Join,
         by,
         about: mask.as_bytes(),
         more: &[],
@@ -47,7 +47,7 @@ pub(crate) fn part(
     by: Author<'_>,
     params: &[Text],
     state: &ChanState,
-) -> Result<Vec<Event>, NoMemory>
+) -> Result<Vec<IrcEvent>, NoMemory>
     ensures { IfOk result (λ v. v.items ≡ parts by.entry.nick.now by.entry.address.now params.now state.now) }
 {
     let Some(list) = param(params, 0) else {
@@ -55,7 +55,7 @@ pub(crate) fn part(
     };
     let mask = joined(alloc, by.nick, b'!', by.address)?;
     let deed = Deed {
-        kind: Kind::Part,
+        kind: EventKind::Part,
         by,
         about: mask.as_bytes(),
         more: &[text_at(params, 1)],
@@ -69,12 +69,12 @@ pub(crate) fn quit(
     by: Author<'_>,
     params: &[Text],
     state: &ChanState,
-) -> Result<Vec<Event>, NoMemory>
+) -> Result<Vec<IrcEvent>, NoMemory>
     ensures { IfOk result (λ v. v.items ≡ signs_off by.entry.nick.now by.entry.address.now params.now state.now) }
 {
     let mask = joined(alloc, by.nick, b'!', by.address)?;
     let deed = Deed {
-        kind: Kind::Sign,
+        kind: EventKind::Sign,
         by,
         about: mask.as_bytes(),
         more: &[text_at(params, 0)],
@@ -88,14 +88,14 @@ pub(crate) fn rename(
     by: Author<'_>,
     params: &[Text],
     state: &ChanState,
-) -> Result<Vec<Event>, NoMemory>
+) -> Result<Vec<IrcEvent>, NoMemory>
     ensures { IfOk result (λ v. v.items ≡ renames by.entry.nick.now by.entry.address.now params.now state.now) }
 {
     let Some(new) = param(params, 0) else {
         return Ok(Vec::new(alloc));
     };
     let deed = Deed {
-        kind: Kind::Nick,
+        kind: EventKind::Nick,
         by,
         about: new,
         more: &[new],
@@ -121,7 +121,7 @@ fn on_listed(
     own: bool,
     list: &[u8],
     state: &ChanState,
-) -> Result<Vec<Event>, NoMemory>
+) -> Result<Vec<IrcEvent>, NoMemory>
     ensures { IfOk result (λ v. v.items ≡ map (told deed.now) (listed_in own state.now list.now)) }
 {
     let mut events = Vec::new(alloc);
@@ -132,14 +132,14 @@ fn on_listed(
 }
 
 // Returns the events of `deed` on the channels that its author is on, in the order in which the bot joined them.
-fn on_shared(alloc: Global, deed: &Deed<'_>, state: &ChanState) -> Result<Vec<Event>, NoMemory>
+fn on_shared(alloc: Global, deed: &Deed<'_>, state: &ChanState) -> Result<Vec<IrcEvent>, NoMemory>
     ensures { IfOk result (λ v. v.items ≡ map (told deed.now) (channels_with deed.now.by.nick.now state.now)) }
 {
     on_each(alloc, deed, state.channels.as_slice())
 }
 
 // Returns the events of `deed` on those of `channels` that its author is on.
-fn on_each(alloc: Global, deed: &Deed<'_>, channels: &[Channel]) -> Result<Vec<Event>, NoMemory>
+fn on_each(alloc: Global, deed: &Deed<'_>, channels: &[Channel]) -> Result<Vec<IrcEvent>, NoMemory>
     ensures { IfOk result (λ v. v.items
         ≡ map (λ channel. told deed.now channel.name) (filter (λ channel. has_member deed.now.by.nick.now channel.members) channels.now)) }
 {

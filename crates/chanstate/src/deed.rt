@@ -3,7 +3,7 @@ ghost use Rattle.std.specs.Prelude.{◌≡◌, ◌++◌, ◌∷◌, [], IfOk, On
 ghost use Rattle.std.specs.Option.{option_copied, option_to_list};
 ghost use Rattle.chanstate.specs.Deeds.{told};
 
-use crate::event::{Event, Kind, push_texts};
+use crate::event::{EventKind, IrcEvent, push_texts};
 use bytetext::{NoMemory, Text, Texts};
 use std::alloc::Global;
 
@@ -19,7 +19,7 @@ pub struct Author<'a> {
 /// What someone does on one channel or on several.
 #[derive(Clone, Copy)]
 pub struct Deed<'a> {
-    pub(crate) kind: Kind,
+    pub(crate) kind: EventKind,
     pub(crate) by: Author<'a>,
     // The part of the subject after the channel and a space. Masks are matched against the subject.
     pub(crate) about: &'a [u8],
@@ -29,7 +29,7 @@ pub struct Deed<'a> {
 
 impl Deed<'_> {
     // Returns the event of the deed on `channel`.
-    pub(crate) fn on(&self, alloc: Global, channel: &[u8]) -> Result<Event, NoMemory>
+    pub(crate) fn on(&self, alloc: Global, channel: &[u8]) -> Result<IrcEvent, NoMemory>
         ensures { IfOk result (λ e. e ≡ told self.now channel.now) }
     {
         let subject = joined(alloc, channel, b' ', self.about)?;
@@ -41,7 +41,7 @@ impl Deed<'_> {
             &[self.by.nick, self.by.address, channel],
         )?;
         push_texts(&mut arguments, alloc, self.more)?;
-        Ok(Event {
+        Ok(IrcEvent {
             kind: self.kind,
             subject,
             channel: Some(name),
@@ -50,7 +50,7 @@ impl Deed<'_> {
     }
 
     // Returns a list with just the event of the deed on `channel`.
-    pub(crate) fn on_one(&self, alloc: Global, channel: &[u8]) -> Result<Vec<Event>, NoMemory>
+    pub(crate) fn on_one(&self, alloc: Global, channel: &[u8]) -> Result<Vec<IrcEvent>, NoMemory>
         ensures { IfOk result (λ v. v.items ≡ told self.now channel.now ∷ []) }
     {
         let mut events = Vec::with_capacity(alloc, 1)?;
@@ -61,7 +61,7 @@ impl Deed<'_> {
     // Appends the event of the deed on `channel` to `events`, if there is a channel.
     pub(crate) fn push_on(
         &self,
-        events: &mut Vec<Event>,
+        events: &mut Vec<IrcEvent>,
         alloc: Global,
         channel: Option<&[u8]>,
     ) -> Result<(), NoMemory>

@@ -8,7 +8,7 @@ use std::alloc::Global;
 
 /// The kinds of events, named as Eggdrop's bind types.
 #[derive(Clone, Copy, Debug)]
-pub enum Kind {
+pub enum EventKind {
     /// Any message, by its command.
     Raw,
     /// A private message, by its first word.
@@ -39,9 +39,9 @@ pub enum Kind {
 
 /// An event that a message gives.
 #[derive(Debug)]
-pub struct Event {
+pub struct IrcEvent {
     /// The kind of event.
-    pub kind: Kind,
+    pub kind: EventKind,
     /// What a bind's mask is matched against.
     pub subject: Text,
     /// The channel that it happens on, as the bot spells it; `None` for an event that is on no channel.
@@ -52,10 +52,10 @@ pub struct Event {
     pub arguments: Texts,
 }
 
-// Written by hand, so that it is proved once and not in each function that drops an `Event`.
-impl Drop for Event {
+// Written by hand, so that it is proved once and not in each function that drops an `IrcEvent`.
+impl Drop for IrcEvent {
     fn drop(self) {
-        let Event {
+        let IrcEvent {
             kind: _,
             subject: _,
             channel: _,
@@ -64,15 +64,15 @@ impl Drop for Event {
     }
 }
 
-impl Event {
+impl IrcEvent {
     // Creates an event of these parts.
     pub(crate) fn new(
         alloc: Global,
-        kind: Kind,
+        kind: EventKind,
         subject: &[u8],
         channel: Option<&[u8]>,
         arguments: &[&[u8]],
-    ) -> Result<Event, NoMemory>
+    ) -> Result<IrcEvent, NoMemory>
         ensures { IfOk result (λ e. e ≡ event_with kind subject.now (option_copied channel.entry) (map (λ x. x.now) arguments.now)) }
     {
         let subject = Text::from_slice(alloc, subject)?;
@@ -81,7 +81,7 @@ impl Event {
             None => None,
         };
         let arguments = texts_of(alloc, arguments)?;
-        Ok(Event {
+        Ok(IrcEvent {
             kind,
             subject,
             channel,
@@ -90,13 +90,13 @@ impl Event {
     }
 }
 
-impl TryCopy for Event {
-    fn copy(&self, alloc: Global) -> Result<Event, NoMemory> {
+impl TryCopy for IrcEvent {
+    fn copy(&self, alloc: Global) -> Result<IrcEvent, NoMemory> {
         let channel = match &self.channel {
             Some(name) => Some(name.copy(alloc)?),
             None => None,
         };
-        Ok(Event {
+        Ok(IrcEvent {
             kind: self.kind,
             subject: self.subject.copy(alloc)?,
             channel,

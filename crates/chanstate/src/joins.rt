@@ -14,8 +14,8 @@ ghost use Rattle.chanstate.specs.Plans.{IsPlanFor};
 use crate::channel::Channel;
 use crate::channels::Channels;
 use crate::member::Member;
+use crate::message_plan::MessagePlan;
 use crate::names::is_same;
-use crate::plan::Plan;
 use crate::state::ChanState;
 use crate::take::{Take, is_taken};
 use crate::task::Task;
@@ -89,14 +89,14 @@ impl ChanState {
         alloc: Global,
         person: Person<'_>,
         list: &[u8],
-    ) -> Result<Plan, NoMemory>
+    ) -> Result<MessagePlan, NoMemory>
         requires { is_same person.nick.now self.old.nick ≡ true }
         ensures memory { OnErr result (any_adds (joins_in person.entry list.now) self.old ≡ true) }
         ensures ready { MatchResult result (λ plan. IsPlanFor (joins_in person.entry list.now) plan self.new self.old) (λ _. self.new ≡ self.old) }
     {
         let opened = opened_each(alloc, person, list)?;
         let opening = self.channels.ready_opening(alloc, opened)?;
-        Ok(Plan::Open(opening))
+        Ok(MessagePlan::Open(opening))
     }
 
     // Prepares the joins of a person on the channels of a list.
@@ -105,7 +105,7 @@ impl ChanState {
         alloc: Global,
         person: Person<'_>,
         list: &[u8],
-    ) -> Result<Plan, NoMemory>
+    ) -> Result<MessagePlan, NoMemory>
         ensures memory { OnErr result (any_adds (joins_in person.entry list.now) self.old ≡ true) }
         ensures ready { MatchResult result (λ plan. IsPlanFor (joins_in person.entry list.now) plan self.new self.old) (λ _. self.new ≡ self.old) }
     {
@@ -113,7 +113,7 @@ impl ChanState {
             return self.ready_own_join(alloc, person, list);
         }
         let takes = self.channels.ready_arrivals(alloc, person, list)?;
-        Ok(Plan::Seat { own: None, takes })
+        Ok(MessagePlan::Seat { own: None, takes })
     }
 }
 

@@ -19,7 +19,7 @@
 //!
 //! `apply` either takes in a message as a whole or leaves the state as it was. A caller that must allocate more for a
 //! message calls the two halves of `apply`. [`ChanState::ready`] allocates all that the message needs, or fails. Then
-//! [`Update::commit`] takes the message in and allocates nothing, or [`Update::cancel`] gives it up, because another
+//! [`StateUpdate::commit`] takes the message in and allocates nothing, or [`StateUpdate::cancel`] gives it up, because another
 //! allocation failed.
 //!
 //! [`events`] returns what a message means to bound procs. Every message has a raw event. A message has others when a
@@ -47,13 +47,12 @@
 //! ```
 #![tactic(auto)]
 
-mod change;
 mod channel;
+mod channel_command;
 mod channels;
 mod comings;
 mod copies;
 mod deed;
-mod edit;
 mod event;
 mod history;
 mod joins;
@@ -63,31 +62,32 @@ mod listings;
 mod marks;
 mod meaning;
 mod member;
+mod member_edit;
 mod members;
+mod message_parts;
+mod message_plan;
 pub mod modes;
 mod names;
 mod newcomers;
 mod operations;
-mod plan;
 mod renames;
 mod roster;
 mod seating;
 mod seats;
 mod speech;
 mod state;
+mod state_update;
 mod support;
 mod take;
 mod task;
 mod topics;
-mod update;
-mod verb;
 mod words;
 
-pub use crate::event::{Event, Kind};
+pub use crate::event::{EventKind, IrcEvent};
 pub use crate::history::history_says;
 pub use crate::meaning::events;
 pub use crate::member::{Mark, Member};
 pub use crate::members::Members;
 pub use crate::state::ChanState;
+pub use crate::state_update::{Made, StateUpdate};
 pub use crate::support::Support;
-pub use crate::update::{Made, Update};

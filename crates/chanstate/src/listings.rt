@@ -4,8 +4,8 @@ ghost use Rattle.chanstate.specs.Items.{NamesTold};
 ghost use Rattle.chanstate.specs.Memory.{any_adds};
 ghost use Rattle.chanstate.specs.Plans.{IsPlanFor};
 
+use crate::message_plan::MessagePlan;
 use crate::newcomers::named_by;
-use crate::plan::Plan;
 use crate::state::ChanState;
 use crate::task::Task;
 use bytetext::NoMemory;
@@ -18,16 +18,16 @@ impl ChanState {
         alloc: Global,
         channel: &[u8],
         names: &[u8],
-    ) -> Result<Plan, NoMemory>
+    ) -> Result<MessagePlan, NoMemory>
         ensures memory { OnErr result (any_adds (NamesTold channel.now names.now ∷ []) self.old ≡ true) }
         ensures ready { MatchResult result (λ plan. IsPlanFor (NamesTold channel.now names.now ∷ []) plan self.new self.old) (λ _. self.new ≡ self.old) }
     {
         let Some(at) = self.channels.place_lacking(&self.support, channel, names) else {
-            return Ok(Plan::Plain);
+            return Ok(MessagePlan::Plain);
         };
         let ones = named_by(alloc, &self.support, names)?;
         let mut takes = Vec::new(alloc);
         self.channels.take(alloc, at, Task::List(ones), &mut takes)?;
-        Ok(Plan::Seat { own: None, takes })
+        Ok(MessagePlan::Seat { own: None, takes })
     }
 }

@@ -3,13 +3,13 @@ ghost use Rattle.std.specs.Prelude.{◌≡◌, ◌++◌, ◌∷◌, IfOk};
 ghost use Rattle.ircline.specs.Sources.{Server, Person as SomePerson};
 ghost use Rattle.chanstate.specs.Events.{typed_by, typed, events_of};
 
+use crate::channel_command::{ChannelCommand, read_verb};
 use crate::comings::{join, part, quit, rename};
 use crate::deed::{Author, joined};
-use crate::event::{Event, Kind};
+use crate::event::{EventKind, IrcEvent};
 use crate::operations::{kick, mode, title};
 use crate::speech::{notice, say};
 use crate::state::ChanState;
-use crate::verb::{Verb, read_verb};
 use bytetext::{NoMemory, Text};
 use ircline::{Message, Person, Source, source};
 use std::alloc::Global;
@@ -19,7 +19,11 @@ use std::alloc::Global;
 ///
 /// # Errors
 /// Returns `NoMemory` if the events can't be allocated.
-pub fn events(alloc: Global, message: &Message, state: &ChanState) -> Result<Vec<Event>, NoMemory>
+pub fn events(
+    alloc: Global,
+    message: &Message,
+    state: &ChanState,
+) -> Result<Vec<IrcEvent>, NoMemory>
     ensures { IfOk result (λ v. v.items ≡ events_of message.now state.now) }
 {
     let parts = [
@@ -27,14 +31,20 @@ pub fn events(alloc: Global, message: &Message, state: &ChanState) -> Result<Vec
         message.command.as_bytes(),
         message.rest.as_bytes(),
     ];
-    let raw = Event::new(alloc, Kind::Raw, message.command.as_bytes(), None, &parts)?;
+    let raw = IrcEvent::new(
+        alloc,
+        EventKind::Raw,
+        message.command.as_bytes(),
+        None,
+        &parts,
+    )?;
     let mut events = typed(alloc, message, state)?;
     events.insert(0, raw)?;
     Ok(events)
 }
 
 // Returns the events that depend on the command.
-fn typed(alloc: Global, message: &Message, state: &ChanState) -> Result<Vec<Event>, NoMemory>
+fn typed(alloc: Global, message: &Message, state: &ChanState) -> Result<Vec<IrcEvent>, NoMemory>
     ensures { IfOk result (λ v. v.items ≡ typed message.now state.now) }
 {
     let verb = read_verb(message.command.as_bytes());
@@ -49,11 +59,11 @@ fn typed(alloc: Global, message: &Message, state: &ChanState) -> Result<Vec<Even
 // Returns the events of a message from a server.
 fn by_server(
     alloc: Global,
-    verb: Verb,
+    verb: ChannelCommand,
     name: &[u8],
     params: &[Text],
     state: &ChanState,
-) -> Result<Vec<Event>, NoMemory>
+) -> Result<Vec<IrcEvent>, NoMemory>
     ensures { IfOk result (λ v. v.items ≡ typed_by verb (Server name.now) params.now state.now) }
 {
     let by = Author {
@@ -61,30 +71,33 @@ fn by_server(
         address: name,
     };
     match verb {
-        Verb::Kick => kick(alloc, by, params, state),
-        Verb::Mode => mode(alloc, by, params, state),
-        Verb::Topic => title(alloc, by, params, state),
-        Verb::Privmsg | Verb::Notice | Verb::Join | Verb::Part | Verb::Quit | Verb::Nick => {
-            Ok(Vec::new(alloc))
-        }
-        Verb::RplWelcome
-        | Verb::RplISupport
-        | Verb::RplTopic
-        | Verb::RplNoTopic
-        | Verb::RplNamReply
-        | Verb::RplWhoReply
-        | Verb::Other => Ok(Vec::new(alloc)),
+        ChannelCommand::Kick => kick(alloc, by, params, state),
+        ChannelCommand::Mode => mode(alloc, by, params, state),
+        ChannelCommand::Topic => title(alloc, by, params, state),
+        ChannelCommand::Privmsg
+        | ChannelCommand::Notice
+        | ChannelCommand::Join
+        | ChannelCommand::Part
+        | ChannelCommand::Quit
+        | ChannelCommand::Nick => { Ok(Vec::new(alloc)) }
+        ChannelCommand::RplWelcome
+        | ChannelCommand::RplISupport
+        | ChannelCommand::RplTopic
+        | ChannelCommand::RplNoTopic
+        | ChannelCommand::RplNamReply
+        | ChannelCommand::RplWhoReply
+        | ChannelCommand::Other => Ok(Vec::new(alloc)),
     }
 }
 
 // Returns the events of a message from a person.
 fn by_person(
     alloc: Global,
-    verb: Verb,
+    verb: ChannelCommand,
     person: Person<'_>,
     params: &[Text],
     state: &ChanState,
-) -> Result<Vec<Event>, NoMemory>
+) -> Result<Vec<IrcEvent>, NoMemory>
     ensures { IfOk result (λ v. v.items
         ≡ typed_by verb (SomePerson person.entry.nick.now person.entry.user.now person.entry.host.now) params.now state.now) }
 {
@@ -94,21 +107,21 @@ fn by_person(
         address: address.as_bytes(),
     };
     match verb {
-        Verb::Privmsg => say(alloc, by, params, state),
-        Verb::Notice => notice(alloc, by, params, state),
-        Verb::Join => join(alloc, by, params, state),
-        Verb::Part => part(alloc, by, params, state),
-        Verb::Quit => quit(alloc, by, params, state),
-        Verb::Nick => rename(alloc, by, params, state),
-        Verb::Kick => kick(alloc, by, params, state),
-        Verb::Mode => mode(alloc, by, params, state),
-        Verb::Topic => title(alloc, by, params, state),
-        Verb::RplWelcome
-        | Verb::RplISupport
-        | Verb::RplTopic
-        | Verb::RplNoTopic
-        | Verb::RplNamReply
-        | Verb::RplWhoReply
-        | Verb::Other => Ok(Vec::new(alloc)),
+        ChannelCommand::Privmsg => say(alloc, by, params, state),
+        ChannelCommand::Notice => notice(alloc, by, params, state),
+        ChannelCommand::Join => join(alloc, by, params, state),
+        ChannelCommand::Part => part(alloc, by, params, state),
+        ChannelCommand::Quit => quit(alloc, by, params, state),
+        ChannelCommand::Nick => rename(alloc, by, params, state),
+        ChannelCommand::Kick => kick(alloc, by, params, state),
+        ChannelCommand::Mode => mode(alloc, by, params, state),
+        ChannelCommand::Topic => title(alloc, by, params, state),
+        ChannelCommand::RplWelcome
+        | ChannelCommand::RplISupport
+        | ChannelCommand::RplTopic
+        | ChannelCommand::RplNoTopic
+        | ChannelCommand::RplNamReply
+        | ChannelCommand::RplWhoReply
+        | ChannelCommand::Other => Ok(Vec::new(alloc)),
     }
 }

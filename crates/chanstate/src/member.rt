@@ -2,7 +2,7 @@
 ghost use Rattle.std.specs.Prelude.{◌≡◌, ◌<◌, ◌+◌, length, IfOk, IfErr};
 ghost use Rattle.chanstate.specs.Members.{unmarked, with_mark, edited};
 
-use crate::edit::Edit;
+use crate::member_edit::MemberEdit;
 use bytetext::{NoMemory, Text, TryCopy};
 use std::alloc::Global;
 
@@ -54,17 +54,17 @@ impl Member {
     }
 
     // Changes what is known of the member.
-    pub(crate) fn edit(&mut self, edit: Edit)
+    pub(crate) fn edit(&mut self, edit: MemberEdit)
         ensures { self.new ≡ edited edit self.old }
     {
         match edit {
-            Edit::Marked(mark, on) => self.set_mark(mark, on),
-            Edit::Listed(more) => {
+            MemberEdit::Marked(mark, on) => self.set_mark(mark, on),
+            MemberEdit::Listed(more) => {
                 self.op |= more.op;
                 self.voice |= more.voice;
                 self.half_op |= more.half_op;
             }
-            Edit::Addressed(user, host) => {
+            MemberEdit::Addressed(user, host) => {
                 self.user = user;
                 self.host = host;
             }

@@ -8,8 +8,8 @@ ghost use Rattle.chanstate.specs.Items.{names_in};
 ghost use Rattle.chanstate.specs.Seats.{AreIndexed, AreUnder, IsUnder, seated};
 ghost use Rattle.chanstate.specs.Members.{listed, listed_each};
 
-use crate::edit::Edit;
 use crate::member::Member;
+use crate::member_edit::MemberEdit;
 use crate::seats::{Seats, edit_at, place_of, seat_last};
 use crate::support::Support;
 use crate::words::named_member;
@@ -63,7 +63,7 @@ fn list(seats: &mut Seats, key: Vec<u8>, one: Member)
     ensures entries { spare seats.old.index ≤ spare seats.new.index + 1 }
 {
     match place_of(seats, one.nick.as_bytes()) {
-        Some(at) => edit_at(seats, at, Edit::Listed(one)),
+        Some(at) => edit_at(seats, at, MemberEdit::Listed(one)),
         None => seat_last(seats, key, one),
     }
 }

@@ -5,7 +5,7 @@ ghost use Rattle.chanstate.specs.Items.{single_at, singles};
 ghost use Rattle.chanstate.specs.Operations.{kicks, modes, topics, mode_on};
 
 use crate::deed::{Author, Deed};
-use crate::event::{Event, Kind};
+use crate::event::{EventKind, IrcEvent};
 use crate::modes::{argument, is_mode, next_arguments, next_sign};
 use crate::state::ChanState;
 use crate::support::Support;
@@ -19,7 +19,7 @@ pub(crate) fn kick(
     by: Author<'_>,
     params: &[Text],
     state: &ChanState,
-) -> Result<Vec<Event>, NoMemory>
+) -> Result<Vec<IrcEvent>, NoMemory>
     ensures { IfOk result (λ v. v.items ≡ kicks by.entry.nick.now by.entry.address.now params.now state.now) }
 {
     let Some(name) = param(params, 0) else {
@@ -32,7 +32,7 @@ pub(crate) fn kick(
         return Ok(Vec::new(alloc));
     };
     let deed = Deed {
-        kind: Kind::Kick,
+        kind: EventKind::Kick,
         by,
         about: target,
         more: &[target, text_at(params, 2)],
@@ -46,7 +46,7 @@ pub(crate) fn title(
     by: Author<'_>,
     params: &[Text],
     state: &ChanState,
-) -> Result<Vec<Event>, NoMemory>
+) -> Result<Vec<IrcEvent>, NoMemory>
     ensures { IfOk result (λ v. v.items ≡ topics by.entry.nick.now by.entry.address.now params.now state.now) }
 {
     let Some(name) = param(params, 0) else {
@@ -62,7 +62,7 @@ pub(crate) fn title(
         return Ok(Vec::new(alloc));
     };
     let deed = Deed {
-        kind: Kind::Topc,
+        kind: EventKind::Topc,
         by,
         about: topic,
         more: &[topic],
@@ -76,7 +76,7 @@ pub(crate) fn mode(
     by: Author<'_>,
     params: &[Text],
     state: &ChanState,
-) -> Result<Vec<Event>, NoMemory>
+) -> Result<Vec<IrcEvent>, NoMemory>
     ensures { IfOk result (λ v. v.items ≡ modes by.entry.nick.now by.entry.address.now params.now state.now) }
 {
     let Some(name) = param(params, 0) else {
@@ -106,7 +106,7 @@ fn each_mode(
     support: &Support,
     letters: &[u8],
     arguments: &[Text],
-) -> Result<Vec<Event>, NoMemory>
+) -> Result<Vec<IrcEvent>, NoMemory>
     ensures { IfOk result (λ v. v.items
         ≡ map (mode_on by.entry.nick.now by.entry.address.now channel.now) (singles support.now true letters.now arguments.now)) }
 {
@@ -123,7 +123,7 @@ fn each_mode(
 
 // Appends an event, if `byte` of the mode string is a single mode.
 fn push_mode(
-    events: &mut Vec<Event>,
+    events: &mut Vec<IrcEvent>,
     alloc: Global,
     by: Author<'_>,
     channel: &[u8],
@@ -140,7 +140,7 @@ fn push_mode(
     }
     let signed = [if on { b'+' } else { b'-' }, byte];
     let deed = Deed {
-        kind: Kind::Mode,
+        kind: EventKind::Mode,
         by,
         about: &signed,
         more: &[&signed, argument(support, on, byte, arguments)],

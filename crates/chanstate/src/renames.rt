@@ -9,8 +9,8 @@ ghost use Rattle.chanstate.specs.Members.{renamed};
 ghost use Rattle.chanstate.specs.Takes.{IsTaken, given, is_taken, on_place};
 
 use crate::channels::Channels;
+use crate::message_plan::MessagePlan;
 use crate::names::is_same;
-use crate::plan::Plan;
 use crate::state::ChanState;
 use crate::take::Take;
 use crate::task::Task;
@@ -79,16 +79,16 @@ impl ChanState {
         alloc: Global,
         old: &[u8],
         new: &[u8],
-    ) -> Result<Plan, NoMemory>
+    ) -> Result<MessagePlan, NoMemory>
         ensures memory { OnErr result (any_adds (Renamed old.now new.now ∷ []) self.old ≡ true) }
         ensures ready { MatchResult result (λ plan. IsPlanFor (Renamed old.now new.now ∷ []) plan self.new self.old) (λ _. self.new ≡ self.old) }
     {
         if !self.respells(old, new) {
-            return Ok(Plan::Plain);
+            return Ok(MessagePlan::Plain);
         }
         let own = self.own_after(alloc, old, new)?;
         let takes = self.channels.ready_renaming(alloc, old, new)?;
-        Ok(Plan::Seat { own, takes })
+        Ok(MessagePlan::Seat { own, takes })
     }
 
     // Returns the bot's new nick, if `old` is the bot's nick.

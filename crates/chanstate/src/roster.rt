@@ -10,8 +10,8 @@ ghost use Rattle.chanstate.specs.Firsts.{first_removed, first_changed};
 ghost use Rattle.chanstate.specs.Tasks.{IsKeyed, done_by};
 
 use crate::copies::{copies_of, seats_of};
-use crate::edit::Edit;
 use crate::member::{Mark, Member};
+use crate::member_edit::MemberEdit;
 use crate::seating::Seating;
 use crate::seats::{Seats, add, edit_at, index_taken, make_room, member_of, place_of, vacate};
 use crate::support::Support;
@@ -100,7 +100,7 @@ impl Roster {
     }
 
     // Changes what is known of the member called `nick`.
-    fn edit(&mut self, nick: &[u8], edit: Edit)
+    fn edit(&mut self, nick: &[u8], edit: MemberEdit)
         ensures { self.new ≡ first_changed (is_called nick.now) (edited edit) self.old }
     {
         if let Some(at) = place_of(&self.seats, nick) {
@@ -112,14 +112,14 @@ impl Roster {
     pub(crate) fn mark(&mut self, nick: &[u8], mark: Mark, on: bool)
         ensures { self.new ≡ first_changed (is_called nick.now) (with_mark mark on) self.old }
     {
-        self.edit(nick, Edit::Marked(mark, on));
+        self.edit(nick, MemberEdit::Marked(mark, on));
     }
 
     // Sets the user and host of the member called `nick`.
     pub(crate) fn place_at(&mut self, nick: &[u8], user: Text, host: Text)
         ensures { self.new ≡ first_changed (is_called nick.now) (with_address user host) self.old }
     {
-        self.edit(nick, Edit::Addressed(user, host));
+        self.edit(nick, MemberEdit::Addressed(user, host));
     }
 
     // Returns whether `word` of a list of names names someone who is not a member.
@@ -149,7 +149,7 @@ impl Roster {
         let (signs, nick) = split_signs(support, word);
         if !nick.is_empty() {
             let one = shown(alloc, signs, Text::empty(alloc));
-            self.edit(nick, Edit::Listed(one));
+            self.edit(nick, MemberEdit::Listed(one));
         }
     }
 

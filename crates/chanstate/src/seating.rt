@@ -7,8 +7,8 @@ ghost use Rattle.chanstate.specs.Seats.{AreIndexed, IsUnder, seated};
 ghost use Rattle.chanstate.specs.Takes.{pick};
 ghost use Rattle.chanstate.specs.Tasks.{done_by, IsKeyed, places_for};
 
-use crate::edit::Edit;
 use crate::member::Member;
+use crate::member_edit::MemberEdit;
 use crate::newcomers::list_each;
 use crate::roster::Roster;
 use crate::seats::{Seats, edit_at, place_of, rename_in, seat_last};
@@ -80,7 +80,7 @@ fn arrive(seats: &mut Seats, key: Vec<u8>, one: Member)
     match place_of(seats, one.nick.as_bytes()) {
         Some(at) => {
             let Member { user, host, .. } = one;
-            edit_at(seats, at, Edit::Addressed(user, host));
+            edit_at(seats, at, MemberEdit::Addressed(user, host));
         }
         None => seat_last(seats, key, one),
     }

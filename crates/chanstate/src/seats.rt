@@ -12,8 +12,8 @@ ghost use Rattle.chanstate.specs.Members.{is_called, has_member, edited, renamed
 ghost use Rattle.chanstate.specs.Firsts.{first_removed, first_changed};
 ghost use Rattle.rfccase.specs.Casemapping.{is_same};
 
-use crate::edit::Edit;
 use crate::member::Member;
+use crate::member_edit::MemberEdit;
 use crate::names::is_same;
 use bytetext::{NoMemory, Text};
 use indexmap::IndexMap;
@@ -100,7 +100,7 @@ pub(crate) fn member_of<'a>(seats: &'a Seats, nick: &[u8]) -> Option<&'a Member>
 }
 
 // Changes what is known of the member on the seat `at`.
-pub(crate) fn edit_at(seats: &mut Seats, at: usize, edit: Edit)
+pub(crate) fn edit_at(seats: &mut Seats, at: usize, edit: MemberEdit)
     requires { at < vec_len seats.old.places }
     ensures index { seats.new.index ≡ seats.old.index }
     ensures indexed { AreIndexed seats.old.places.items seats.old.index.entries

@@ -6,7 +6,7 @@ ghost use Rattle.chanstate.specs.Speech.{spaces_len, word_len, first_word, after
 ghost use Rattle.chanstate.specs.Speech.{said, noted, says, notes};
 
 use crate::deed::{Author, joined};
-use crate::event::{Event, Kind};
+use crate::event::{EventKind, IrcEvent};
 use crate::names::is_same;
 use crate::state::ChanState;
 use crate::words::param;
@@ -52,7 +52,12 @@ fn is_for_programs(text: &[u8]) -> bool
 }
 
 // Returns the two events of a text: one by the whole text, and one by its first word, if it begins with a word.
-fn both(alloc: Global, whole: Event, word: Event, has_word: bool) -> Result<Vec<Event>, NoMemory>
+fn both(
+    alloc: Global,
+    whole: IrcEvent,
+    word: IrcEvent,
+    has_word: bool,
+) -> Result<Vec<IrcEvent>, NoMemory>
     ensures { IfOk result (λ v. v.items ≡ (if has_word then whole ∷ word ∷ [] else whole ∷ [])) }
 {
     let mut events = Vec::with_capacity(alloc, 2)?;
@@ -69,14 +74,14 @@ fn say_to_bot(
     nick: &[u8],
     address: &[u8],
     text: &[u8],
-) -> Result<Vec<Event>, NoMemory>
+) -> Result<Vec<IrcEvent>, NoMemory>
     ensures { IfOk result (λ v. v.items ≡ to_bot nick.now address.now text.now) }
 {
     let word = &text[..count_word(text)];
-    let whole = Event::new(alloc, Kind::Msgm, text, None, &[nick, address, text])?;
-    let first = Event::new(
+    let whole = IrcEvent::new(alloc, EventKind::Msgm, text, None, &[nick, address, text])?;
+    let first = IrcEvent::new(
         alloc,
-        Kind::Msg,
+        EventKind::Msg,
         word,
         None,
         &[nick, address, after_word(text)],
@@ -91,21 +96,21 @@ fn say_on(
     address: &[u8],
     channel: &[u8],
     text: &[u8],
-) -> Result<Vec<Event>, NoMemory>
+) -> Result<Vec<IrcEvent>, NoMemory>
     ensures { IfOk result (λ v. v.items ≡ to_channel nick.now address.now channel.now text.now) }
 {
     let word = &text[..count_word(text)];
     let subject = joined(alloc, channel, b' ', text)?;
-    let whole = Event::new(
+    let whole = IrcEvent::new(
         alloc,
-        Kind::Pubm,
+        EventKind::Pubm,
         subject.as_bytes(),
         Some(channel),
         &[nick, address, channel, text],
     )?;
-    let first = Event::new(
+    let first = IrcEvent::new(
         alloc,
-        Kind::Pub,
+        EventKind::Pub,
         word,
         Some(channel),
         &[nick, address, channel, after_word(text)],
@@ -121,13 +126,13 @@ fn note(
     channel: Option<&[u8]>,
     text: &[u8],
     dest: &[u8],
-) -> Result<Vec<Event>, NoMemory>
+) -> Result<Vec<IrcEvent>, NoMemory>
     ensures { IfOk result (λ v. v.items ≡ noticed nick.now address.now (option_copied channel.entry) text.now dest.now) }
 {
     let mut events = Vec::with_capacity(alloc, 1)?;
-    events.push(Event::new(
+    events.push(IrcEvent::new(
         alloc,
-        Kind::Notc,
+        EventKind::Notc,
         text,
         channel,
         &[nick, address, text, dest],
@@ -143,7 +148,7 @@ fn say_to(
     target: &[u8],
     text: &[u8],
     state: &ChanState,
-) -> Result<Vec<Event>, NoMemory>
+) -> Result<Vec<IrcEvent>, NoMemory>
     ensures { IfOk result (λ v. v.items ≡ said nick.now address.now target.now text.now state.now) }
 {
     if is_for_programs(text) {
@@ -166,7 +171,7 @@ fn note_to(
     target: &[u8],
     text: &[u8],
     state: &ChanState,
-) -> Result<Vec<Event>, NoMemory>
+) -> Result<Vec<IrcEvent>, NoMemory>
     ensures { IfOk result (λ v. v.items ≡ noted nick.now address.now target.now text.now state.now) }
 {
     if is_for_programs(text) {
@@ -187,7 +192,7 @@ pub(crate) fn say(
     by: Author<'_>,
     params: &[Text],
     state: &ChanState,
-) -> Result<Vec<Event>, NoMemory>
+) -> Result<Vec<IrcEvent>, NoMemory>
     ensures { IfOk result (λ v. v.items ≡ says by.entry.nick.now by.entry.address.now params.now state.now) }
 {
     let Some(target) = param(params, 0) else {
@@ -205,7 +210,7 @@ pub(crate) fn notice(
     by: Author<'_>,
     params: &[Text],
     state: &ChanState,
-) -> Result<Vec<Event>, NoMemory>
+) -> Result<Vec<IrcEvent>, NoMemory>
     ensures { IfOk result (λ v. v.items ≡ notes by.entry.nick.now by.entry.address.now params.now state.now) }
 {
     let Some(target) = param(params, 0) else {

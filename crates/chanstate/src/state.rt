@@ -8,11 +8,11 @@ ghost use Rattle.chanstate.specs.Memory.{takes_memory};
 ghost use Rattle.chanstate.specs.Items.{items_of};
 ghost use Rattle.chanstate.specs.Plans.{IsPlanFor};
 
-use crate::change::{Change, change_of};
 use crate::channels::Channels;
 use crate::member::Member;
 use crate::members::Members;
-use crate::plan::Plan;
+use crate::message_parts::{MessageParts, change_of};
+use crate::message_plan::MessagePlan;
 use crate::support::Support;
 use bytetext::{NoMemory, Text, Texts, TryCopy};
 use ircline::Message;
@@ -186,23 +186,23 @@ impl ChanState {
     }
 
     // Prepares `message`. Takes out the members of the channels that it changes.
-    pub(crate) fn plan(&mut self, alloc: Global, message: &Message) -> Result<Plan, NoMemory>
+    pub(crate) fn plan(&mut self, alloc: Global, message: &Message) -> Result<MessagePlan, NoMemory>
         ensures memory { OnErr result (takes_memory message.now self.old ≡ true) }
         ensures ready { MatchResult result (λ plan. IsPlanFor (items_of message.now) plan self.new self.old) (λ _. self.new ≡ self.old) }
     {
         match change_of(message) {
-            Change::Nothing => Ok(Plan::Plain),
-            Change::Announce(_) => Ok(Plan::Plain),
-            Change::Part { .. } => Ok(Plan::Plain),
-            Change::Kick { .. } => Ok(Plan::Plain),
-            Change::Quit(_) => Ok(Plan::Plain),
-            Change::Mode { .. } => Ok(Plan::Plain),
-            Change::Welcome(nick) => Ok(Plan::Welcome(Text::from_slice(alloc, nick)?)),
-            Change::Join { person, list } => self.ready_join(alloc, person, list),
-            Change::Nick { old, new } => self.ready_nick(alloc, old, new),
-            Change::Topic { channel, topic } => self.ready_topic(alloc, channel, topic),
-            Change::Names { channel, names } => self.ready_list(alloc, channel, names),
-            Change::Address {
+            MessageParts::Nothing => Ok(MessagePlan::Plain),
+            MessageParts::Announce(_) => Ok(MessagePlan::Plain),
+            MessageParts::Part { .. } => Ok(MessagePlan::Plain),
+            MessageParts::Kick { .. } => Ok(MessagePlan::Plain),
+            MessageParts::Quit(_) => Ok(MessagePlan::Plain),
+            MessageParts::Mode { .. } => Ok(MessagePlan::Plain),
+            MessageParts::Welcome(nick) => Ok(MessagePlan::Welcome(Text::from_slice(alloc, nick)?)),
+            MessageParts::Join { person, list } => self.ready_join(alloc, person, list),
+            MessageParts::Nick { old, new } => self.ready_nick(alloc, old, new),
+            MessageParts::Topic { channel, topic } => self.ready_topic(alloc, channel, topic),
+            MessageParts::Names { channel, names } => self.ready_list(alloc, channel, names),
+            MessageParts::Address {
                 channel,
                 user,
                 host,
@@ -217,23 +217,23 @@ impl ChanState {
         ensures { self.new ≡ after message.now self.old }
     {
         match change_of(message) {
-            Change::Nothing => {}
+            MessageParts::Nothing => {}
             // These would allocate if they changed anything, so here they change nothing.
-            Change::Welcome(_) => {}
-            Change::Join { .. } => {}
-            Change::Nick { .. } => {}
-            Change::Topic { .. } => {}
-            Change::Address { .. } => {}
-            Change::Announce(tokens) => self.support.announce(tokens),
-            Change::Part { nick, list } => self.leave_all(nick, list),
-            Change::Kick { channel, target } => self.leave(target, channel),
-            Change::Quit(nick) => self.depart(nick),
-            Change::Mode {
+            MessageParts::Welcome(_) => {}
+            MessageParts::Join { .. } => {}
+            MessageParts::Nick { .. } => {}
+            MessageParts::Topic { .. } => {}
+            MessageParts::Address { .. } => {}
+            MessageParts::Announce(tokens) => self.support.announce(tokens),
+            MessageParts::Part { nick, list } => self.leave_all(nick, list),
+            MessageParts::Kick { channel, target } => self.leave(target, channel),
+            MessageParts::Quit(nick) => self.depart(nick),
+            MessageParts::Mode {
                 channel,
                 modes,
                 arguments,
             } => self.mode(channel, modes, arguments),
-            Change::Names { channel, names } => {
+            MessageParts::Names { channel, names } => {
                 self.channels.show(alloc, &self.support, channel, names);
             }
         }

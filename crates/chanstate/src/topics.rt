@@ -5,7 +5,7 @@ ghost use Rattle.chanstate.specs.Memory.{any_adds, readdresses, retitles};
 ghost use Rattle.chanstate.specs.Plans.{IsPlanFor};
 ghost use Rattle.chanstate.specs.Views.{channel_in, member_in};
 
-use crate::plan::Plan;
+use crate::message_plan::MessagePlan;
 use crate::state::ChanState;
 use bytetext::{NoMemory, Text};
 use std::alloc::Global;
@@ -27,14 +27,14 @@ impl ChanState {
         alloc: Global,
         channel: &[u8],
         topic: &[u8],
-    ) -> Result<Plan, NoMemory>
+    ) -> Result<MessagePlan, NoMemory>
         ensures memory { OnErr result (any_adds (Titled channel.now topic.now ∷ []) self.now ≡ true) }
         ensures ready { IfOk result (λ plan. IsPlanFor (Titled channel.now topic.now ∷ []) plan self.now self.now) }
     {
         if !self.retitles(channel, topic) {
-            return Ok(Plan::Plain);
+            return Ok(MessagePlan::Plain);
         }
-        Ok(Plan::Title {
+        Ok(MessagePlan::Title {
             channel: Text::from_slice(alloc, channel)?,
             topic: Text::from_slice(alloc, topic)?,
         })
@@ -61,14 +61,14 @@ impl ChanState {
         user: &[u8],
         host: &[u8],
         nick: &[u8],
-    ) -> Result<Plan, NoMemory>
+    ) -> Result<MessagePlan, NoMemory>
         ensures memory { OnErr result (any_adds (Addressed channel.now nick.now user.now host.now ∷ []) self.now ≡ true) }
         ensures ready { IfOk result (λ plan. IsPlanFor (Addressed channel.now nick.now user.now host.now ∷ []) plan self.now self.now) }
     {
         if !self.readdresses(channel, nick, user, host) {
-            return Ok(Plan::Plain);
+            return Ok(MessagePlan::Plain);
         }
-        Ok(Plan::Address {
+        Ok(MessagePlan::Address {
             channel: Text::from_slice(alloc, channel)?,
             nick: Text::from_slice(alloc, nick)?,
             user: Text::from_slice(alloc, user)?,

@@ -7,37 +7,37 @@ use Rattle.userfile.specs.declared.change.Change.{Change}
 use Rattle.recordtext.specs.Words.{words_of, is_empty, rest_of}
 use Rattle.recordtext.specs.Changes.{change_named}
 use Rattle.control.specs.declared.TheConstants.{MAX_COMMAND, MAX_LINE}
-use Rattle.control.specs.declared.word.Word.{Word}
-use Rattle.control.specs.declared.word.Word.TheVariants as word
-use Rattle.control.specs.declared.advice.Advice.{Advice}
-use Rattle.control.specs.declared.advice.Advice.TheVariants.{TooLong, BareByte, Unknown, Form}
-use Rattle.control.specs.declared.command.Command.{Command}
-use Rattle.control.specs.declared.command.Command.TheVariants as command
+use Rattle.control.specs.declared.command_word.CommandWord.{CommandWord}
+use Rattle.control.specs.declared.command_word.CommandWord.TheVariants as word
+use Rattle.control.specs.declared.advice.CommandAdvice.{CommandAdvice}
+use Rattle.control.specs.declared.advice.CommandAdvice.TheVariants.{TooLong, BareByte, Unknown, Form}
+use Rattle.control.specs.declared.admin_command.AdminCommand.{AdminCommand}
+use Rattle.control.specs.declared.admin_command.AdminCommand.TheVariants as command
 use Rattle.control.specs.Vocabulary.{word_named}
 
 -- ---- what follows each word
 
 -- a word that stands alone
-abbrev pub alone : Word → List (List ℕ) → Command → Result Command Advice
+abbrev pub alone : CommandWord → List (List ℕ) → AdminCommand → Result AdminCommand CommandAdvice
 alone name [] asked = Ok asked
 alone name (w ∷ words) asked = Err (Form name)
 
 -- a change by its name and words
-abbrev pub change_found : Word → Option Change → Result Command Advice
+abbrev pub change_found : CommandWord → Option Change → Result AdminCommand CommandAdvice
 change_found name None = Err (Form name)
 change_found name (Some change) = Ok (command.Change change)
 
-abbrev pub change_said : Word → List ℕ → List (List ℕ) → Result Command Advice
+abbrev pub change_said : CommandWord → List ℕ → List (List ℕ) → Result AdminCommand CommandAdvice
 change_said name spelling words = change_found name (change_named spelling words)
 
 -- bind TYPE FLAGS PROC MASK: the mask takes the rest of the line
-abbrev pub bound : List ℕ → List ℕ → List ℕ → Option (List ℕ) → Result Command Advice
+abbrev pub bound : List ℕ → List ℕ → List ℕ → Option (List ℕ) → Result AdminCommand CommandAdvice
 bound kind flags proc None = Err (Form word.Bind)
 bound kind flags proc (Some mask) =
     if is_empty kind || is_empty flags || is_empty proc then Err (Form word.Bind)
     else Ok (command.Bind (record { kind = kind; flags = flags; proc = proc; mask = mask }))
 
-abbrev pub bind_said : List (List ℕ) → Result Command Advice
+abbrev pub bind_said : List (List ℕ) → Result AdminCommand CommandAdvice
 bind_said (kind ∷ flags ∷ proc ∷ mask ∷ words) = bound kind flags proc (rest_of (mask ∷ words))
 bind_said (kind ∷ flags ∷ proc ∷ []) = Err (Form word.Bind)
 bind_said (kind ∷ flags ∷ []) = Err (Form word.Bind)
@@ -45,24 +45,24 @@ bind_said (kind ∷ []) = Err (Form word.Bind)
 bind_said [] = Err (Form word.Bind)
 
 -- unbind TYPE PROC MASK
-abbrev pub unbound : List ℕ → List ℕ → Option (List ℕ) → Result Command Advice
+abbrev pub unbound : List ℕ → List ℕ → Option (List ℕ) → Result AdminCommand CommandAdvice
 unbound kind proc None = Err (Form word.Unbind)
 unbound kind proc (Some mask) =
     if is_empty kind || is_empty proc then Err (Form word.Unbind)
     else Ok (command.Unbind (record { kind = kind; proc = proc; mask = mask }))
 
-abbrev pub unbind_said : List (List ℕ) → Result Command Advice
+abbrev pub unbind_said : List (List ℕ) → Result AdminCommand CommandAdvice
 unbind_said (kind ∷ proc ∷ mask ∷ words) = unbound kind proc (rest_of (mask ∷ words))
 unbind_said (kind ∷ proc ∷ []) = Err (Form word.Unbind)
 unbind_said (kind ∷ []) = Err (Form word.Unbind)
 unbind_said [] = Err (Form word.Unbind)
 
 -- say LINE, which is at most as long as a line of IRC may be
-abbrev pub said : Option (List ℕ) → Result Command Advice
+abbrev pub said : Option (List ℕ) → Result AdminCommand CommandAdvice
 said None = Err (Form word.Say)
 said (Some line) = if nat_lt MAX_LINE (length line) then Err (Form word.Say) else Ok (command.Say line)
 
-abbrev pub say_said : List (List ℕ) → Result Command Advice
+abbrev pub say_said : List (List ℕ) → Result AdminCommand CommandAdvice
 say_said [] = Err (Form word.Say)
 say_said (w ∷ words) = said (rest_of (w ∷ words))
 
@@ -71,13 +71,13 @@ abbrev pub die_text : Option (List ℕ) → List ℕ
 die_text None = []
 die_text (Some text) = text
 
-abbrev pub die_said : List (List ℕ) → Result Command Advice
+abbrev pub die_said : List (List ℕ) → Result AdminCommand CommandAdvice
 die_said [] = Ok (command.Die [])
 die_said (w ∷ words) = Ok (command.Die (die_text (rest_of (w ∷ words))))
 
 -- ---- a line
 
-abbrev pub said_of : Option Word → List ℕ → List (List ℕ) → Result Command Advice
+abbrev pub said_of : Option CommandWord → List ℕ → List (List ℕ) → Result AdminCommand CommandAdvice
 said_of None spelling words = Err Unknown
 said_of (Some word.AddBan) spelling words = change_said word.AddBan spelling words
 said_of (Some word.AddHost) spelling words = change_said word.AddHost spelling words
@@ -100,7 +100,7 @@ said_of (Some word.Sticky) spelling words = change_said word.Sticky spelling wor
 said_of (Some word.Unbind) spelling words = unbind_said words
 
 -- the first word says what is asked for
-abbrev pub command_by_words : List (List ℕ) → Result Command Advice
+abbrev pub command_by_words : List (List ℕ) → Result AdminCommand CommandAdvice
 command_by_words [] = Err Unknown
 command_by_words (name ∷ words) = said_of (word_named name) name words
 
@@ -109,7 +109,7 @@ abbrev pub is_bare : ℕ → Bool
 is_bare b = b == 0 || b == 10 || b == 13
 
 -- what a line asks for
-abbrev pub command_of : List ℕ → Result Command Advice
+abbrev pub command_of : List ℕ → Result AdminCommand CommandAdvice
 command_of line =
     if nat_lt MAX_COMMAND (length line) then Err TooLong
     else if list_any is_bare line then Err BareByte
@@ -118,7 +118,7 @@ command_of line =
 -- ---- what reading answers
 
 -- this is what is to be answered, unless memory runs out
-abbrev pub Answers : Result Command Advice → Result Command (Failure Advice) → Type 0
+abbrev pub Answers : Result AdminCommand CommandAdvice → Result AdminCommand (Failure CommandAdvice) → Type 0
 Answers asked (Ok found) = asked ≡ Ok found
 Answers asked (Err (Refused advice)) = asked ≡ Err advice
 Answers asked (Err NoMemory) = Unit {0}

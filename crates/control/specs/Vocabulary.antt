@@ -1,11 +1,11 @@
 -- The first words of commands, as operators spell them.
 use Rattle.std.specs.Prelude.{ℕ, List, [], ◌∷◌, Option, find, codes}
 use Rattle.std.specs.Str.{bytes_eq}
-use Rattle.control.specs.declared.word.Word.{Word}
-use Rattle.control.specs.declared.word.Word.TheVariants.{AddBan, AddHost, AddUser, Bind, Bot, Chan, Compact, DelBan, DelHost}
-use Rattle.control.specs.declared.word.Word.TheVariants.{DelUser, Die, Global, Info, Jump, Say, Show, Status, Sticky, Unbind}
+use Rattle.control.specs.declared.command_word.CommandWord.{CommandWord}
+use Rattle.control.specs.declared.command_word.CommandWord.TheVariants.{AddBan, AddHost, AddUser, Bind, Bot, Chan, Compact, DelBan, DelHost}
+use Rattle.control.specs.declared.command_word.CommandWord.TheVariants.{DelUser, Die, Global, Info, Jump, Say, Show, Status, Sticky, Unbind}
 
-abbrev pub spelling_of : Word → List ℕ
+abbrev pub spelling_of : CommandWord → List ℕ
 spelling_of AddBan = codes "addban"
 spelling_of AddHost = codes "addhost"
 spelling_of AddUser = codes "adduser"
@@ -26,11 +26,11 @@ spelling_of Status = codes "status"
 spelling_of Sticky = codes "sticky"
 spelling_of Unbind = codes "unbind"
 
-abbrev pub all_words : List Word
+abbrev pub all_words : List CommandWord
 all_words =
     AddBan ∷ AddHost ∷ AddUser ∷ Bind ∷ Bot ∷ Chan ∷ Compact ∷ DelBan ∷ DelHost ∷ DelUser ∷ Die ∷ Global ∷ Info ∷ Jump ∷ Say ∷ Show ∷
     Status ∷ Sticky ∷ Unbind ∷ []
 
 -- the word with this spelling: no two are spelled alike
-abbrev pub word_named : List ℕ → Option Word
+abbrev pub word_named : List ℕ → Option CommandWord
 word_named spelling = find (λ word. bytes_eq (spelling_of word) spelling) all_words

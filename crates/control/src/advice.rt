@@ -1,12 +1,12 @@
 // What to say instead of a command that is not understood.
-use crate::word::Word;
+use crate::command_word::CommandWord;
 use bytetext::Failure;
 use std::fmt;
 use std::fmt::Display;
 
 /// What to say instead of a command that is not understood, in the order of the checks.
 #[derive(Clone, Copy, Debug, PartialEq, Eq)]
-pub enum Advice {
+pub enum CommandAdvice {
     /// It has more than 600 bytes.
     TooLong,
     /// It has a NUL, a line feed or a carriage return.
@@ -14,49 +14,53 @@ pub enum Advice {
     /// The first word is unknown.
     Unknown,
     /// The line does not have the form of this word.
-    Form(Word),
+    Form(CommandWord),
 }
 
 /// Why a line is no command: what to say instead, or `NoMemory` if an allocation failed.
-pub type CommandError = Failure<Advice>;
+pub type CommandError = Failure<CommandAdvice>;
 
-impl Display for Advice {
+impl Display for CommandAdvice {
     fn fmt<W: fmt::Write>(&self, f: &mut fmt::Formatter<W>) -> fmt::Result {
         match *self {
-            Advice::TooLong => f.write_str("say at most 600 bytes"),
-            Advice::BareByte => f.write_str("say it in one line, without a carriage return or NUL"),
-            Advice::Unknown => f.write_str(
+            CommandAdvice::TooLong => f.write_str("say at most 600 bytes"),
+            CommandAdvice::BareByte => f.write_str(
+                "say it in one line, without a carriage return or NUL",
+            ),
+            CommandAdvice::Unknown => f.write_str(
                 "begin with addban, addhost, adduser, bind, bot, chan, compact, delban, delhost, deluser, die, global, \
                  info, jump, say, show, status, sticky or unbind",
             ),
-            Advice::Form(word) => f.write_str(form_of(word)),
+            CommandAdvice::Form(word) => f.write_str(form_of(word)),
         }
     }
 }
 
 // The form of a command of this word.
-fn form_of(word: Word) -> &'static str {
+fn form_of(word: CommandWord) -> &'static str {
     match word {
-        Word::AddBan =>
+        CommandWord::AddBan =>
             "say addban CHANNEL MASK HANDLE EXPIRY COMMENT, as in addban #egg *!*@spam.example alice 0 no spam here",
-        Word::AddHost => "say addhost HANDLE MASK, as in addhost alice *!*alice@host.example",
-        Word::AddUser => "say adduser HANDLE, as in adduser alice",
-        Word::Bind => "say bind TYPE FLAGS PROC MASK, as in bind pub - echo !echo",
-        Word::Bot => "say bot HANDLE FLAGS, as in bot egg1 s",
-        Word::Chan => "say chan HANDLE CHANNEL FLAGS, as in chan alice #egg o",
-        Word::Compact => "say compact alone",
-        Word::DelBan => "say delban CHANNEL MASK, as in delban #egg *!*@spam.example",
-        Word::DelHost => "say delhost HANDLE MASK, as in delhost alice *!*alice@host.example",
-        Word::DelUser => "say deluser HANDLE, as in deluser alice",
-        Word::Die => "say die, and what the server is told after it, as in die back soon",
-        Word::Global => "say global HANDLE FLAGS, as in global alice o",
-        Word::Info => "say info HANDLE TEXT, as in info alice I keep the eggs",
-        Word::Jump => "say jump alone",
-        Word::Say => "say say LINE, of at most 510 bytes, as in say PRIVMSG #egg :hello",
-        Word::Show => "say show alone",
-        Word::Status => "say status alone",
-        Word::Sticky =>
+        CommandWord::AddHost =>
+            "say addhost HANDLE MASK, as in addhost alice *!*alice@host.example",
+        CommandWord::AddUser => "say adduser HANDLE, as in adduser alice",
+        CommandWord::Bind => "say bind TYPE FLAGS PROC MASK, as in bind pub - echo !echo",
+        CommandWord::Bot => "say bot HANDLE FLAGS, as in bot egg1 s",
+        CommandWord::Chan => "say chan HANDLE CHANNEL FLAGS, as in chan alice #egg o",
+        CommandWord::Compact => "say compact alone",
+        CommandWord::DelBan => "say delban CHANNEL MASK, as in delban #egg *!*@spam.example",
+        CommandWord::DelHost =>
+            "say delhost HANDLE MASK, as in delhost alice *!*alice@host.example",
+        CommandWord::DelUser => "say deluser HANDLE, as in deluser alice",
+        CommandWord::Die => "say die, and what the server is told after it, as in die back soon",
+        CommandWord::Global => "say global HANDLE FLAGS, as in global alice o",
+        CommandWord::Info => "say info HANDLE TEXT, as in info alice I keep the eggs",
+        CommandWord::Jump => "say jump alone",
+        CommandWord::Say => "say say LINE, of at most 510 bytes, as in say PRIVMSG #egg :hello",
+        CommandWord::Show => "say show alone",
+        CommandWord::Status => "say status alone",
+        CommandWord::Sticky =>
             "say sticky CHANNEL MASK N, with N 1 or 0, as in sticky #egg *!*@spam.example 1",
-        Word::Unbind => "say unbind TYPE PROC MASK, as in unbind pub echo !echo",
+        CommandWord::Unbind => "say unbind TYPE PROC MASK, as in unbind pub echo !echo",
     }
 }

@@ -15,7 +15,7 @@
 //! | `jump` | leaves this server for the next |
 //! | `die TEXT` | ends, and sends the server the TEXT, which may be left out |
 //!
-//! [`Command::read`] returns what a line asks for, or what to say instead. Only the bot, when it is asked, decides
+//! [`AdminCommand::read`] returns what a line asks for, or what to say instead. Only the bot, when it is asked, decides
 //! whether it accepts a change, a bind or a line of IRC.
 //!
 //! An answer is lines, and then a line with a full stop alone. [`body_of`] returns the lines of a whole answer, and
@@ -28,16 +28,16 @@
 //! ```
 #![tactic(auto)]
 
+mod admin_command;
 mod advice;
 mod answer;
-mod command;
+mod command_word;
 mod reading;
-mod word;
 
-pub use crate::advice::{Advice, CommandError};
+pub use crate::admin_command::{AdminCommand, UnbindWords};
+pub use crate::advice::{CommandAdvice, CommandError};
 pub use crate::answer::{body_of, is_refusal};
-pub use crate::command::{Command, UnbindWords};
-pub use crate::word::Word;
+pub use crate::command_word::CommandWord;
 
 /// The most bytes that a command has, without the line feed after it.
 pub const MAX_COMMAND: usize = 600;

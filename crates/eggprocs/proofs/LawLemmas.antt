@@ -24,14 +24,14 @@ use Rattle.procstore.specs.declared.action.Action.TheVariants.{Ask, Timer, Utime
 use Rattle.outqueue.specs.declared.queue.Queue.TheVariants.{Help, Mode as mode_queue, Server}
 use Rattle.procstore.specs.declared.call.Call.{Call}
 use Rattle.procstore.specs.declared.limits.TheConstants.{MAX_ACTIONS}
-use Rattle.procstore.specs.declared.reply.Reply.{Reply}
+use Rattle.procstore.specs.declared.reply.ProcReply.{ProcReply}
 use Rattle.procstore.specs.Promises.{IsKept}
 use Rattle.procstore.specs.Seen.{Seen}
 use Rattle.eggprocs.specs.declared.rights.TheConstants.{AUTO_OP, AUTO_VOICE, OP, VOICE, MASTER, OWNER}
-use Rattle.eggprocs.specs.declared.rights.Standing.{Standing}
-use Rattle.eggprocs.specs.declared.rights.Standing.TheVariants.{Elsewhere, Stranger, Master}
-use Rattle.eggprocs.specs.declared.which.Which.{Which}
-use Rattle.eggprocs.specs.declared.which.Which.TheVariants as which
+use Rattle.eggprocs.specs.declared.rights.Requester.{Requester}
+use Rattle.eggprocs.specs.declared.rights.Requester.TheVariants.{Elsewhere, Stranger, Master}
+use Rattle.eggprocs.specs.declared.proc_name.ProcName.{ProcName}
+use Rattle.eggprocs.specs.declared.proc_name.ProcName.TheVariants as which
 use Rattle.eggprocs.specs.Args.{nick_of, handle_of, channel_of, told_of, last_of, has_word, or_else}
 use Rattle.eggprocs.specs.Basics.{is_command}
 use Rattle.eggprocs.specs.Bans.{asked_by_ban, asked_by_unban}
@@ -100,14 +100,14 @@ is_master-lacks call seen = or-false (has_letter (global_by call seen) MASTER) (
 -- ---- answers
 
 -- a reply that keeps the promise of a proc's name asks for what that proc asks for
-actions-kept : (w : Which) (call : Call) (seen : Seen) (reply : Reply) → IsKept ours (name_of w) call seen reply
+actions-kept : (w : ProcName) (call : Call) (seen : Seen) (reply : ProcReply) → IsKept ours (name_of w) call seen reply
     → reply.actions ≡ actions_by w call seen
-actions-kept w call seen reply kept = kept.actions ∙ ap (λ (named : Option Which). actions_if named call seen) (which_named-name_of w)
+actions-kept w call seen reply kept = kept.actions ∙ ap (λ (named : Option ProcName). actions_if named call seen) (which_named-name_of w)
 
-pub does-nothing : (w : Which) (call : Call) (seen : Seen) → actions_by w call seen ≡ [] → DoesNothing (name_of w) call seen
+pub does-nothing : (w : ProcName) (call : Call) (seen : Seen) → actions_by w call seen ≡ [] → DoesNothing (name_of w) call seen
 does-nothing w call seen none = λ reply kept. actions-kept w call seen reply kept ∙ none
 
-pub asks-no-change : (w : Which) (call : Call) (seen : Seen) → list_any is_ask (actions_by w call seen) ≡ false
+pub asks-no-change : (w : ProcName) (call : Call) (seen : Seen) → list_any is_ask (actions_by w call seen) ≡ false
     → AsksNoChange (name_of w) call seen
 asks-no-change w call seen none = λ reply kept. ap (list_any is_ask) (actions-kept w call seen reply kept) ∙ none
 
@@ -252,7 +252,7 @@ own-info true known call seen = refl
 own-info false true call seen = own-known call seen (length (told_of call) == 0)
 own-info false false call seen = refl
 
-pub info-own : (call : Call) (seen : Seen) (reply : Reply) → IsKept ours (codes "info") call seen reply → list_all (is_own call) reply.actions ≡ true
+pub info-own : (call : Call) (seen : Seen) (reply : ProcReply) → IsKept ours (codes "info") call seen reply → list_all (is_own call) reply.actions ≡ true
 unfolding actions_by
 info-own call seen reply kept =
     ap (list_all (is_own call)) (actions-kept which.Info call seen reply kept)
@@ -414,15 +414,15 @@ spared-wish : (wish : Option Change) (call : Call) (seen : Seen) (usage : List �
 spared-wish None call seen usage none = refl
 spared-wish (Some change) call seen usage none = spared change call seen (is_owner call seen) (is_for_owners change seen) refl none refl
 
-spared-command : (standing : Standing) (call : Call) (seen : Seen) (usage : List ℕ) (wish : Option Change) → is_owner call seen ≡ false
+spared-command : (standing : Requester) (call : Call) (seen : Seen) (usage : List ℕ) (wish : Option Change) → is_owner call seen ≡ false
     → list_any (is_ask_for_owners seen) (asked_by_command standing call seen usage wish) ≡ false
 spared-command Elsewhere call seen usage wish none = refl
 spared-command Stranger call seen usage wish none = refl
 spared-command Master call seen usage wish none = spared-wish wish call seen usage none
 
-pub spares-owners : (w : Which) (usage : List ℕ) (wish : Call → Option Change) (call : Call) (seen : Seen)
+pub spares-owners : (w : ProcName) (usage : List ℕ) (wish : Call → Option Change) (call : Call) (seen : Seen)
     → actions_by w call seen ≡ asked_by_command (standing_of call seen) call seen usage (wish call) → is_owner call seen ≡ false
-    → (reply : Reply) → IsKept ours (name_of w) call seen reply → list_any (is_ask_for_owners seen) reply.actions ≡ false
+    → (reply : ProcReply) → IsKept ours (name_of w) call seen reply → list_any (is_ask_for_owners seen) reply.actions ≡ false
 spares-owners w usage wish call seen is none = λ reply kept.
     ap (list_any (is_ask_for_owners seen)) (actions-kept w call seen reply kept ∙ is)
     ∙ spared-command (standing_of call seen) call seen usage (wish call) none
@@ -480,7 +480,7 @@ spared-info true known call seen none = refl
 spared-info false true call seen none = spared-known call seen (length (told_of call) == 0) none
 spared-info false false call seen none = refl
 
-pub info-spares : (call : Call) (seen : Seen) → is_owner call seen ≡ false → (reply : Reply) → IsKept ours (codes "info") call seen reply
+pub info-spares : (call : Call) (seen : Seen) → is_owner call seen ≡ false → (reply : ProcReply) → IsKept ours (codes "info") call seen reply
     → list_any (is_ask_for_owners seen) reply.actions ≡ false
 unfolding actions_by
 info-spares call seen none reply kept =

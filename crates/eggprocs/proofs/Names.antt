@@ -1,13 +1,13 @@
 -- Each proc is found by its name, so that its body keeps the promise of that name.
 use Rattle.std.proofs.Common.{◌≡◌, ◌∙◌, refl, ap, sym, Ok, Err, Option, Some}
-use Rattle.procstore.specs.declared.reply.Reply.{Reply}
+use Rattle.procstore.specs.declared.reply.ProcReply.{ProcReply}
 use Rattle.procstore.specs.Promises.{KeepsPromise}
-use Rattle.eggprocs.specs.declared.which.Which.{Which}
-use Rattle.eggprocs.specs.declared.which.Which.TheVariants.{Quiet, Stop, AddUser, Tick, Tell, Echo, Op, Deop, Voice, Devoice, AutoOp, Kick, Topic, Invite, Ban, Unban, Lift}
-use Rattle.eggprocs.specs.declared.which.Which.TheVariants.{PlusUser, MinusUser, PlusHost, MinusHost, Chattr, Whois, Info, Greet, Stick, Unstick, Bans, Seen, OpAll}
+use Rattle.eggprocs.specs.declared.proc_name.ProcName.{ProcName}
+use Rattle.eggprocs.specs.declared.proc_name.ProcName.TheVariants.{Quiet, Stop, AddUser, Tick, Tell, Echo, Op, Deop, Voice, Devoice, AutoOp, Kick, Topic, Invite, Ban, Unban, Lift}
+use Rattle.eggprocs.specs.declared.proc_name.ProcName.TheVariants.{PlusUser, MinusUser, PlusHost, MinusHost, Chattr, Whois, Info, Greet, Stick, Unstick, Bans, Seen, OpAll}
 use Rattle.eggprocs.specs.Procs.{name_of, which_named, code_if, actions_if, answers_by, ours}
 
-pub which_named-name_of : (which : Which) → which_named (name_of which) ≡ Some which
+pub which_named-name_of : (which : ProcName) → which_named (name_of which) ≡ Some which
 unfolding which_named
 which_named-name_of Quiet = refl
 which_named-name_of Stop = refl
@@ -40,9 +40,9 @@ which_named-name_of Bans = refl
 which_named-name_of Seen = refl
 which_named-name_of OpAll = refl
 
-pub keeps : (which : Which) → KeepsPromise ours (name_of which) (answers_by which)
+pub keeps : (which : ProcName) → KeepsPromise ours (name_of which) (answers_by which)
 keeps which call seen (Ok reply) is = record {
-  code = ap (λ (r : Reply). r.code) is ∙ sym (ap code_if (which_named-name_of which));
-  actions = ap (λ (r : Reply). r.actions) is ∙ sym (ap (λ (named : Option Which). actions_if named call seen) (which_named-name_of which));
+  code = ap (λ (r : ProcReply). r.code) is ∙ sym (ap code_if (which_named-name_of which));
+  actions = ap (λ (r : ProcReply). r.actions) is ∙ sym (ap (λ (named : Option ProcName). actions_if named call seen) (which_named-name_of which));
 }
 keeps which call seen (Err lack) is = tt

@@ -5,14 +5,14 @@ use Rattle.outqueue.specs.declared.queue.Queue.TheVariants.{Help}
 use Rattle.procstore.specs.declared.action.Action.{Action}
 use Rattle.procstore.specs.declared.action.Action.TheVariants.{Ask, Utimer, SendBot, Put}
 use Rattle.procstore.specs.declared.call.Call.{Call}
-use Rattle.procstore.specs.declared.kind.Kind.{Kind}
-use Rattle.procstore.specs.declared.kind.Kind.TheVariants.{Raw, Msg, Msgm, Notc, Pub, Pubm, Join, Part, Sign, Kick, Nick, Mode, Topc}
-use Rattle.procstore.specs.declared.kind.Kind.TheVariants.{Bot, Time, Cron, Timer}
+use Rattle.procstore.specs.declared.call_kind.CallKind.{CallKind}
+use Rattle.procstore.specs.declared.call_kind.CallKind.TheVariants.{Raw, Msg, Msgm, Notc, Pub, Pubm, Join, Part, Sign, Kick, Nick, Mode, Topc}
+use Rattle.procstore.specs.declared.call_kind.CallKind.TheVariants.{Bot, Time, Cron, Timer}
 use Rattle.eggprocs.specs.Args.{arg_at, last_of}
 use Rattle.eggprocs.specs.Lines.{privmsg}
 
 -- the kinds whose last argument is the text after a first word
-abbrev pub is_command : Kind → Bool
+abbrev pub is_command : CallKind → Bool
 is_command Msg = true
 is_command Pub = true
 is_command Raw = false
@@ -44,7 +44,7 @@ abbrev pub asked_by_tell : Call → List Action
 asked_by_tell call = if is_command call.kind then SendBot (record { to = 0; text = last_of call.args }) ∷ [] else []
 
 -- which argument says where to repeat a text: its channel, or the nick that said it privately
-abbrev pub place_of : Kind → Option ℕ
+abbrev pub place_of : CallKind → Option ℕ
 place_of Pub = Some 3
 place_of Pubm = Some 3
 place_of Msg = Some 0

@@ -11,7 +11,7 @@ use Rattle.chanstate.specs.Views.{members_in}
 use Rattle.procstore.specs.declared.action.Action.{Action}
 use Rattle.procstore.specs.declared.action.Action.TheVariants.{Ask, Timer, Utimer, KillTimer, SendBot, Put}
 use Rattle.procstore.specs.declared.call.Call.{Call}
-use Rattle.procstore.specs.declared.reply.Reply.{Reply}
+use Rattle.procstore.specs.declared.reply.ProcReply.{ProcReply}
 use Rattle.procstore.specs.Promises.{IsKept}
 use Rattle.procstore.specs.Seen.{Seen}
 use Rattle.eggprocs.specs.declared.rights.TheConstants.{AUTO_OP, AUTO_VOICE, MASTER, OWNER}
@@ -31,7 +31,7 @@ Lacks letter call seen =
 
 -- whatever the proc of this name answers, it requests nothing
 abbrev pub DoesNothing : List ℕ → Call → Seen → Type 0
-DoesNothing name call seen = (reply : Reply) → IsKept ours name call seen reply → reply.actions ≡ []
+DoesNothing name call seen = (reply : ProcReply) → IsKept ours name call seen reply → reply.actions ≡ []
 
 -- a proc does nothing for a caller who lacks this flag
 abbrev pub IsOnlyFor : ℕ → List ℕ → Type 0
@@ -58,7 +58,7 @@ is_ask (Put wish) = false
 -- whatever the proc of this name answers, it requests no change
 abbrev pub AsksNoChange : List ℕ → Call → Seen → Type 0
 AsksNoChange name call seen =
-    (reply : Reply) → IsKept ours name call seen reply → list_any is_ask reply.actions ≡ false
+    (reply : ProcReply) → IsKept ours name call seen reply → list_any is_ask reply.actions ≡ false
 
 -- an action that requests a change that makes an owner or changes one
 abbrev pub is_ask_for_owners : Seen → Action → Bool
@@ -73,7 +73,7 @@ is_ask_for_owners seen (Put wish) = false
 abbrev pub SparesOwners : List ℕ → Type 0
 SparesOwners name =
     (call : Call) (seen : Seen) → has_letter (global_by call seen) OWNER ≡ false
-    → (reply : Reply) → IsKept ours name call seen reply → list_any (is_ask_for_owners seen) reply.actions ≡ false
+    → (reply : ProcReply) → IsKept ours name call seen reply → list_any (is_ask_for_owners seen) reply.actions ≡ false
 
 -- a proc requests no change for a caller who has neither m nor n everywhere
 abbrev pub IsOnlyForMasters : List ℕ → Type 0
@@ -110,7 +110,7 @@ is_own call (Put wish) = true
 -- whatever the proc of this name answers, it requests no change except of the caller's info line
 abbrev pub ChangesOwnInfo : List ℕ → Type 0
 ChangesOwnInfo name =
-    (call : Call) (seen : Seen) (reply : Reply) → IsKept ours name call seen reply → list_all (is_own call) reply.actions ≡ true
+    (call : Call) (seen : Seen) (reply : ProcReply) → IsKept ours name call seen reply → list_all (is_own call) reply.actions ≡ true
 
 -- a proc requests no change for a caller whom the userfile does not know
 abbrev pub IsOnlyForKnown : List ℕ → Type 0
@@ -143,7 +143,7 @@ is_due call seen action = list_any (is_due_to call seen action) (members_in (cha
 abbrev pub GivesWhatIsDue : List ℕ → Type 0
 GivesWhatIsDue name =
     (call : Call) (seen : Seen) → is_own_join call seen ≡ false
-    → (reply : Reply) → IsKept ours name call seen reply → list_all (is_due call seen) reply.actions ≡ true
+    → (reply : ProcReply) → IsKept ours name call seen reply → list_all (is_due call seen) reply.actions ≡ true
 
 -- ---- where people are
 
@@ -152,4 +152,4 @@ GivesWhatIsDue name =
 abbrev pub KeepsChannelsApart : List ℕ → Type 0
 KeepsChannelsApart name =
     (call : Call) (one other : Seen) → one.sight.records ≡ other.sight.records → shared call one ≡ None → shared call other ≡ None
-    → (a b : Reply) → IsKept ours name call one a → IsKept ours name call other b → a.actions ≡ b.actions
+    → (a b : ProcReply) → IsKept ours name call one a → IsKept ours name call other b → a.actions ≡ b.actions

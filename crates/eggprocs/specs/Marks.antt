@@ -9,8 +9,8 @@ use Rattle.procstore.specs.declared.action.Action.{Action}
 use Rattle.procstore.specs.declared.call.Call.{Call}
 use Rattle.procstore.specs.declared.limits.TheConstants.{MAX_ACTIONS}
 use Rattle.procstore.specs.Seen.{Seen}
-use Rattle.eggprocs.specs.declared.rights.Standing.{Standing}
-use Rattle.eggprocs.specs.declared.rights.Standing.TheVariants.{Elsewhere, Stranger, Master}
+use Rattle.eggprocs.specs.declared.rights.Requester.{Requester}
+use Rattle.eggprocs.specs.declared.rights.Requester.TheVariants.{Elsewhere, Stranger, Master}
 use Rattle.eggprocs.specs.Args.{told_of, has_word, or_else}
 use Rattle.eggprocs.specs.People.{told, for_masters}
 
@@ -50,7 +50,7 @@ told_bans call [] = told call (codes "there is no such ban") ∷ []
 told_bans call (ban ∷ bans) = map (told_ban call) (ban ∷ bans)
 
 -- what `bans` requests: NOTICEs that list the bans to a master, as many as an answer has room for
-abbrev pub asked_by_bans : Standing → Call → Seen → List Action
+abbrev pub asked_by_bans : Requester → Call → Seen → List Action
 asked_by_bans Elsewhere call seen = []
 asked_by_bans Stranger call seen = told call for_masters ∷ []
 asked_by_bans Master call seen = told_bans call (take MAX_ACTIONS (drop (left_out (told_of call)) seen.sight.records.bans))

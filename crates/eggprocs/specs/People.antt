@@ -19,8 +19,8 @@ use Rattle.procstore.specs.declared.action.Action.TheVariants.{Ask}
 use Rattle.procstore.specs.declared.call.Call.{Call}
 use Rattle.procstore.specs.Seen.{Seen}
 use Rattle.eggprocs.specs.declared.rights.TheConstants.{OWNER}
-use Rattle.eggprocs.specs.declared.rights.Standing.{Standing}
-use Rattle.eggprocs.specs.declared.rights.Standing.TheVariants.{Elsewhere, Stranger, Master}
+use Rattle.eggprocs.specs.declared.rights.Requester.{Requester}
+use Rattle.eggprocs.specs.declared.rights.Requester.TheVariants.{Elsewhere, Stranger, Master}
 use Rattle.eggprocs.specs.Args.{nick_of, told_of, has_word}
 use Rattle.eggprocs.specs.Channel.{put}
 use Rattle.eggprocs.specs.Lines.{notice}
@@ -83,7 +83,7 @@ asked_by_master call seen usage (Some change) =
     else asked_unless (refusal seen.sight.records change) call change
 
 -- what a command to the bot requests
-abbrev pub asked_by_command : Standing → Call → Seen → List ℕ → Option Change → List Action
+abbrev pub asked_by_command : Requester → Call → Seen → List ℕ → Option Change → List Action
 asked_by_command Elsewhere call seen usage wish = []
 asked_by_command Stranger call seen usage wish = told call for_masters ∷ []
 asked_by_command Master call seen usage wish = asked_by_master call seen usage wish
@@ -135,7 +135,7 @@ described None = codes "there is no such user"
 described (Some user) =
     user.handle ++ codes " has the flags " ++ spelling user.global ++ codes " and the hostmasks" ++ listed user.masks ++ info_text user.info
 
-abbrev pub asked_by_whois : Standing → Call → Seen → List Action
+abbrev pub asked_by_whois : Requester → Call → Seen → List Action
 asked_by_whois Elsewhere call seen = []
 asked_by_whois Stranger call seen = told call for_masters ∷ []
 asked_by_whois Master call seen = told call (described (user_of (first_word (told_of call)) seen.sight.records.users)) ∷ []

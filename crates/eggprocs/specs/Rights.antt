@@ -6,18 +6,18 @@ use Rattle.userfile.specs.declared.flags.PersonFlags.{PersonFlags}
 use Rattle.userfile.specs.Persons.{flags_of}
 use Rattle.chanstate.specs.Views.{member_in, is_op}
 use Rattle.procstore.specs.declared.call.Call.{Call}
-use Rattle.procstore.specs.declared.kind.Kind.{Kind}
-use Rattle.procstore.specs.declared.kind.Kind.TheVariants.{Raw, Msg, Msgm, Notc, Pub, Pubm, Join, Part, Sign, Kick, Nick, Mode, Topc}
-use Rattle.procstore.specs.declared.kind.Kind.TheVariants.{Bot, Time, Cron, Timer}
+use Rattle.procstore.specs.declared.call_kind.CallKind.{CallKind}
+use Rattle.procstore.specs.declared.call_kind.CallKind.TheVariants.{Raw, Msg, Msgm, Notc, Pub, Pubm, Join, Part, Sign, Kick, Nick, Mode, Topc}
+use Rattle.procstore.specs.declared.call_kind.CallKind.TheVariants.{Bot, Time, Cron, Timer}
 use Rattle.procstore.specs.Seen.{Seen}
 use Rattle.eggprocs.specs.declared.rights.TheConstants.{OP, VOICE, MASTER, OWNER}
-use Rattle.eggprocs.specs.declared.rights.Standing.{Standing}
-use Rattle.eggprocs.specs.declared.rights.Standing.TheVariants.{Elsewhere, Stranger, Master}
+use Rattle.eggprocs.specs.declared.rights.Requester.{Requester}
+use Rattle.eggprocs.specs.declared.rights.Requester.TheVariants.{Elsewhere, Stranger, Master}
 use Rattle.eggprocs.specs.Args.{handle_of, channel_of}
 
 -- what a call is for: the first word of a text on a channel, a join, the first word of a text to the bot, a timer, or a
 -- mode
-abbrev pub is_pub : Kind → Bool
+abbrev pub is_pub : CallKind → Bool
 is_pub Pub = true
 is_pub Raw = false
 is_pub Msg = false
@@ -36,7 +36,7 @@ is_pub Time = false
 is_pub Cron = false
 is_pub Timer = false
 
-abbrev pub is_join : Kind → Bool
+abbrev pub is_join : CallKind → Bool
 is_join Join = true
 is_join Raw = false
 is_join Msg = false
@@ -55,7 +55,7 @@ is_join Time = false
 is_join Cron = false
 is_join Timer = false
 
-abbrev pub is_msg : Kind → Bool
+abbrev pub is_msg : CallKind → Bool
 is_msg Msg = true
 is_msg Raw = false
 is_msg Msgm = false
@@ -74,7 +74,7 @@ is_msg Time = false
 is_msg Cron = false
 is_msg Timer = false
 
-abbrev pub is_timer : Kind → Bool
+abbrev pub is_timer : CallKind → Bool
 is_timer Timer = true
 is_timer Raw = false
 is_timer Msg = false
@@ -93,7 +93,7 @@ is_timer Bot = false
 is_timer Time = false
 is_timer Cron = false
 
-abbrev pub is_mode : Kind → Bool
+abbrev pub is_mode : CallKind → Bool
 is_mode Mode = true
 is_mode Raw = false
 is_mode Msg = false
@@ -149,10 +149,10 @@ is_master call seen = has_letter (global_by call seen) MASTER || has_letter (glo
 
 -- the standing of the person who says something to the bot: a master or a stranger; Elsewhere if the call is for
 -- something else
-abbrev pub standing_if : Bool → Bool → Standing
+abbrev pub standing_if : Bool → Bool → Requester
 standing_if false master = Elsewhere
 standing_if true false = Stranger
 standing_if true true = Master
 
-abbrev pub standing_of : Call → Seen → Standing
+abbrev pub standing_of : Call → Seen → Requester
 standing_of call seen = standing_if (is_msg call.kind) (is_master call seen)

@@ -12,9 +12,9 @@ use crate::infos::{asked_by_greet, asked_by_info};
 use crate::marks::asked_by_bans;
 use crate::orders::{Order, asked_by_order};
 use crate::people::asked_by_whois;
+use crate::proc_name::ProcName;
 use crate::rights::{is_from_op, is_from_voice};
 use crate::whereabouts::asked_by_seen;
-use crate::which::Which;
 use bytetext::NoMemory;
 use procstore::{Actions, Call, View};
 use std::alloc::Global;
@@ -23,41 +23,41 @@ use std::alloc::Global;
 #[tactic(auto, unfolding(crate::specs::Procs::actions_by))]
 pub(crate) fn actions_by(
     alloc: Global,
-    which: Which,
+    which: ProcName,
     call: &Call,
     view: &View<'_>,
 ) -> Result<Actions, NoMemory>
     ensures { IfOk result (λ actions. actions ≡ actions_by which call.now view.now) }
 {
     match which {
-        Which::Quiet | Which::Stop => Ok(Actions::empty(alloc)),
-        Which::AddUser => asked_by_adduser(alloc, call),
-        Which::Tick => asked_by_tick(alloc),
-        Which::Tell => asked_by_tell(alloc, call),
-        Which::Echo => asked_by_echo(alloc, call),
-        Which::Op => asked_for_mode(alloc, is_from_op(call, view), b"+o", call),
-        Which::Deop => asked_for_mode(alloc, is_from_op(call, view), b"-o", call),
-        Which::Voice => asked_for_mode(alloc, is_from_voice(call, view), b"+v", call),
-        Which::Devoice => asked_for_mode(alloc, is_from_voice(call, view), b"-v", call),
-        Which::AutoOp => asked_by_autoop(alloc, call, view),
-        Which::Kick => asked_by_kick(alloc, is_from_op(call, view), call),
-        Which::Topic => asked_by_topic(alloc, is_from_op(call, view), call),
-        Which::Invite => asked_by_invite(alloc, is_from_op(call, view), call),
-        Which::Ban => asked_by_ban(alloc, is_from_op(call, view), call, view),
-        Which::Unban => asked_by_unban(alloc, is_from_op(call, view), call),
-        Which::Lift => asked_by_lift(alloc, call, view),
-        Which::PlusUser => asked_by_order(alloc, Order::PlusUser, call, view),
-        Which::MinusUser => asked_by_order(alloc, Order::MinusUser, call, view),
-        Which::PlusHost => asked_by_order(alloc, Order::PlusHost, call, view),
-        Which::MinusHost => asked_by_order(alloc, Order::MinusHost, call, view),
-        Which::Chattr => asked_by_order(alloc, Order::Chattr, call, view),
-        Which::Whois => asked_by_whois(alloc, call, view),
-        Which::Info => asked_by_info(alloc, call, view),
-        Which::Greet => asked_by_greet(alloc, call, view),
-        Which::Stick => asked_by_order(alloc, Order::Stick, call, view),
-        Which::Unstick => asked_by_order(alloc, Order::Unstick, call, view),
-        Which::Bans => asked_by_bans(alloc, call, view),
-        Which::Seen => asked_by_seen(alloc, call, view),
-        Which::OpAll => asked_by_opall(alloc, call, view),
+        ProcName::Quiet | ProcName::Stop => Ok(Actions::empty(alloc)),
+        ProcName::AddUser => asked_by_adduser(alloc, call),
+        ProcName::Tick => asked_by_tick(alloc),
+        ProcName::Tell => asked_by_tell(alloc, call),
+        ProcName::Echo => asked_by_echo(alloc, call),
+        ProcName::Op => asked_for_mode(alloc, is_from_op(call, view), b"+o", call),
+        ProcName::Deop => asked_for_mode(alloc, is_from_op(call, view), b"-o", call),
+        ProcName::Voice => asked_for_mode(alloc, is_from_voice(call, view), b"+v", call),
+        ProcName::Devoice => asked_for_mode(alloc, is_from_voice(call, view), b"-v", call),
+        ProcName::AutoOp => asked_by_autoop(alloc, call, view),
+        ProcName::Kick => asked_by_kick(alloc, is_from_op(call, view), call),
+        ProcName::Topic => asked_by_topic(alloc, is_from_op(call, view), call),
+        ProcName::Invite => asked_by_invite(alloc, is_from_op(call, view), call),
+        ProcName::Ban => asked_by_ban(alloc, is_from_op(call, view), call, view),
+        ProcName::Unban => asked_by_unban(alloc, is_from_op(call, view), call),
+        ProcName::Lift => asked_by_lift(alloc, call, view),
+        ProcName::PlusUser => asked_by_order(alloc, Order::PlusUser, call, view),
+        ProcName::MinusUser => asked_by_order(alloc, Order::MinusUser, call, view),
+        ProcName::PlusHost => asked_by_order(alloc, Order::PlusHost, call, view),
+        ProcName::MinusHost => asked_by_order(alloc, Order::MinusHost, call, view),
+        ProcName::Chattr => asked_by_order(alloc, Order::Chattr, call, view),
+        ProcName::Whois => asked_by_whois(alloc, call, view),
+        ProcName::Info => asked_by_info(alloc, call, view),
+        ProcName::Greet => asked_by_greet(alloc, call, view),
+        ProcName::Stick => asked_by_order(alloc, Order::Stick, call, view),
+        ProcName::Unstick => asked_by_order(alloc, Order::Unstick, call, view),
+        ProcName::Bans => asked_by_bans(alloc, call, view),
+        ProcName::Seen => asked_by_seen(alloc, call, view),
+        ProcName::OpAll => asked_by_opall(alloc, call, view),
     }
 }

@@ -6,7 +6,7 @@ use crate::args::{arg_at, last_of};
 use crate::lines::privmsg;
 use bytetext::{NoMemory, Text};
 use outqueue::Queue;
-use procstore::{Action, Actions, BotWish, Call, Kind, PutWish, TimerWish};
+use procstore::{Action, Actions, BotWish, Call, CallKind, PutWish, TimerWish};
 use std::alloc::Global;
 use userfile::Change;
 
@@ -61,31 +61,31 @@ pub(crate) fn asked_by_echo(alloc: Global, call: &Call) -> Result<Actions, NoMem
 }
 
 // Which argument says where to repeat a text: the channel, or the nick that said it privately.
-fn place_of(kind: Kind) -> Option<usize>
+fn place_of(kind: CallKind) -> Option<usize>
     ensures { result ≡ place_of kind }
 {
     match kind {
-        Kind::Pub | Kind::Pubm => Some(3),
-        Kind::Msg | Kind::Msgm => Some(0),
-        Kind::Raw
-        | Kind::Notc
-        | Kind::Join
-        | Kind::Part
-        | Kind::Sign
-        | Kind::Kick
-        | Kind::Nick
-        | Kind::Mode
-        | Kind::Topc
-        | Kind::Bot
-        | Kind::Time
-        | Kind::Cron
-        | Kind::Timer => None,
+        CallKind::Pub | CallKind::Pubm => Some(3),
+        CallKind::Msg | CallKind::Msgm => Some(0),
+        CallKind::Raw
+        | CallKind::Notc
+        | CallKind::Join
+        | CallKind::Part
+        | CallKind::Sign
+        | CallKind::Kick
+        | CallKind::Nick
+        | CallKind::Mode
+        | CallKind::Topc
+        | CallKind::Bot
+        | CallKind::Time
+        | CallKind::Cron
+        | CallKind::Timer => None,
     }
 }
 
 // Whether the last argument of this kind is the text after a first word.
-pub(crate) fn is_command(kind: Kind) -> bool
+pub(crate) fn is_command(kind: CallKind) -> bool
     ensures { result ≡ is_command kind }
 {
-    matches!(kind, Kind::Msg | Kind::Pub)
+    matches!(kind, CallKind::Msg | CallKind::Pub)
 }

@@ -1,22 +1,22 @@
 // The code that runs under the name of a proc.
 use crate::actions::actions_by;
-use crate::which::Which;
+use crate::proc_name::ProcName;
 use bytetext::NoMemory;
-use procstore::{Call, Reply, Run, View};
+use procstore::{Call, ProcReply, Run, View};
 use std::alloc::Global;
 
 /// The body of a proc. It allocates the lists of its answers on an allocator of its own.
 #[derive(Drop)]
 pub struct EggProc {
     alloc: Global,
-    which: Which,
+    which: ProcName,
 }
 
 impl EggProc {
     ghost use Rattle.std.specs.Prelude.{◌≡◌};
 
     // The body of this proc.
-    pub(crate) fn new(alloc: Global, which: Which) -> EggProc
+    pub(crate) fn new(alloc: Global, which: ProcName) -> EggProc
         ensures { result.which ≡ which }
     {
         EggProc { alloc, which }
@@ -30,9 +30,9 @@ impl Run for EggProc {
 
     ghost answers = { λ body call seen answer. answers_by body.which call seen answer };
 
-    fn run(&self, call: &Call, view: &View<'_>) -> Result<Reply, NoMemory> {
+    fn run(&self, call: &Call, view: &View<'_>) -> Result<ProcReply, NoMemory> {
         let actions = actions_by(self.alloc, self.which, call, view)?;
         let code = self.which.code();
-        Ok(Reply { code, actions })
+        Ok(ProcReply { code, actions })
     }
 }

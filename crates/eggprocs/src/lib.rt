@@ -112,11 +112,11 @@ mod marks;
 mod orders;
 mod pairs;
 mod people;
+mod proc_name;
 mod procs;
 mod promise;
 mod rights;
 mod whereabouts;
-mod which;
 
 pub use crate::bans::UTIMER_MINUTES;
 pub use crate::body::EggProc;
@@ -125,7 +125,7 @@ pub use crate::laws::{
     commands_want_an_operator, commands_want_flags, greetings_want_an_info, info_is_of_who_asks,
 };
 pub use crate::orders::Order;
+pub use crate::proc_name::{EVERY, PROC_COUNT, ProcName};
 pub use crate::procs::store;
 pub use crate::promise::Ours;
-pub use crate::rights::{AUTO_OP, AUTO_VOICE, MASTER, OP, OWNER, Standing, VOICE};
-pub use crate::which::{EVERY, PROC_COUNT, Which};
+pub use crate::rights::{AUTO_OP, AUTO_VOICE, MASTER, OP, OWNER, Requester, VOICE};

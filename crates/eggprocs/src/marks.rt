@@ -7,7 +7,7 @@ ghost use Rattle.eggprocs.specs.Rights.{standing_of};
 
 use crate::args::{after_word, first_word, has_word, or_else, told_of};
 use crate::people::{FOR_MASTERS, only_told, told};
-use crate::rights::{Standing, standing_of};
+use crate::rights::{Requester, standing_of};
 use bytetext::{NoMemory, Text};
 use procstore::{Action, Actions, Call, MAX_ACTIONS, View};
 use recordtext::bot_number;
@@ -50,9 +50,9 @@ pub(crate) fn asked_by_bans(
         actions ≡ asked_by_bans (standing_of call.now view.now) call.now view.now) }
 {
     match standing_of(call, view) {
-        Standing::Elsewhere => Ok(Actions::empty(alloc)),
-        Standing::Stranger => only_told(alloc, call, FOR_MASTERS),
-        Standing::Master => told_bans(alloc, call, view.userfile(), left_out(told_of(call))),
+        Requester::Elsewhere => Ok(Actions::empty(alloc)),
+        Requester::Stranger => only_told(alloc, call, FOR_MASTERS),
+        Requester::Master => told_bans(alloc, call, view.userfile(), left_out(told_of(call))),
     }
 }
 

@@ -11,7 +11,7 @@ ghost use Rattle.userfile.specs.Held.{user_of};
 use crate::args::{after_word, first_word, has_word, nick_of, told_of};
 use crate::lines::notice;
 use crate::pairs::two;
-use crate::rights::{OWNER, Standing, is_owner, standing_of};
+use crate::rights::{OWNER, Requester, is_owner, standing_of};
 use bytetext::{NoMemory, Text};
 use flagexpr::Flags;
 use outqueue::Queue;
@@ -54,9 +54,9 @@ pub(crate) fn asked_by_command(
         actions ≡ asked_by_command (standing_of call.now view.now) call.now view.now usage.now wish) }
 {
     match standing_of(call, view) {
-        Standing::Elsewhere => Ok(Actions::empty(alloc)),
-        Standing::Stranger => only_told(alloc, call, FOR_MASTERS),
-        Standing::Master => asked_by_master(alloc, call, view, usage, wish),
+        Requester::Elsewhere => Ok(Actions::empty(alloc)),
+        Requester::Stranger => only_told(alloc, call, FOR_MASTERS),
+        Requester::Master => asked_by_master(alloc, call, view, usage, wish),
     }
 }
 
@@ -228,9 +228,9 @@ pub(crate) fn asked_by_whois(
         actions ≡ asked_by_whois (standing_of call.now view.now) call.now view.now) }
 {
     match standing_of(call, view) {
-        Standing::Elsewhere => Ok(Actions::empty(alloc)),
-        Standing::Stranger => only_told(alloc, call, FOR_MASTERS),
-        Standing::Master => {
+        Requester::Elsewhere => Ok(Actions::empty(alloc)),
+        Requester::Stranger => only_told(alloc, call, FOR_MASTERS),
+        Requester::Master => {
             let words = whois(alloc, call, view)?;
             only_told(alloc, call, words.as_bytes())
         }

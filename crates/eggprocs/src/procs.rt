@@ -3,8 +3,8 @@ ghost use Rattle.std.specs.Prelude.{◌≡◌, ◌++◌, ◌∷◌, [], map, IfO
 ghost use Rattle.eggprocs.specs.Procs.{name_of, every};
 
 use crate::body::EggProc;
+use crate::proc_name::{EVERY, ProcName};
 use crate::promise::Ours;
-use crate::which::{EVERY, Which};
 use bytetext::{NoMemory, Text};
 use procstore::{Proc, ProcStore};
 use std::alloc::Global;
@@ -20,7 +20,7 @@ pub fn store(alloc: Global) -> Result<ProcStore<Ours, EggProc>, NoMemory>
 }
 
 // A store of these procs, in this order.
-fn store_of(alloc: Global, procs: &[Which]) -> Result<ProcStore<Ours, EggProc>, NoMemory>
+fn store_of(alloc: Global, procs: &[ProcName]) -> Result<ProcStore<Ours, EggProc>, NoMemory>
     ensures { IfOk result (λ store. store ≡ map name_of procs.now) }
 {
     let mut store = ProcStore::new(alloc);
@@ -31,7 +31,7 @@ fn store_of(alloc: Global, procs: &[Which]) -> Result<ProcStore<Ours, EggProc>, 
 }
 
 // Adds a proc. There are few procs and their names differ, so only memory can be lacking.
-fn add(alloc: Global, store: &mut ProcStore<Ours, EggProc>, which: Which) -> Result<(), NoMemory>
+fn add(alloc: Global, store: &mut ProcStore<Ours, EggProc>, which: ProcName) -> Result<(), NoMemory>
     ensures { OnOk result (store.new ≡ store.old ++ name_of which ∷ []) }
 {
     let name = Text::from_slice(alloc, which.name())?;

@@ -4,7 +4,7 @@ ghost use Rattle.eggprocs.specs.Rights.{is_pub, is_join, is_msg, is_timer, is_mo
 
 use crate::args::{channel_of, handle_of};
 use flagexpr::Flags;
-use procstore::{Call, Kind, View};
+use procstore::{Call, CallKind, View};
 use userfile::PersonFlags;
 
 /// The flag of users who get op when they join a channel.
@@ -27,7 +27,7 @@ pub const OWNER: u8 = b'n';
 
 /// The standing of the person who says something to the bot.
 #[derive(Clone, Copy, Debug)]
-pub enum Standing {
+pub enum Requester {
     /// Nobody says anything to the bot: the call is for something else.
     Elsewhere,
     /// Somebody without the flags `m` and `n`.
@@ -37,38 +37,38 @@ pub enum Standing {
 }
 
 // Whether a call is for the first word of a text on a channel.
-pub(crate) fn is_pub(kind: Kind) -> bool
+pub(crate) fn is_pub(kind: CallKind) -> bool
     ensures { result ≡ is_pub kind }
 {
-    matches!(kind, Kind::Pub)
+    matches!(kind, CallKind::Pub)
 }
 
 // Whether a call is for a join.
-pub(crate) fn is_join(kind: Kind) -> bool
+pub(crate) fn is_join(kind: CallKind) -> bool
     ensures { result ≡ is_join kind }
 {
-    matches!(kind, Kind::Join)
+    matches!(kind, CallKind::Join)
 }
 
 // Whether a call is for the first word of a text to the bot.
-pub(crate) fn is_msg(kind: Kind) -> bool
+pub(crate) fn is_msg(kind: CallKind) -> bool
     ensures { result ≡ is_msg kind }
 {
-    matches!(kind, Kind::Msg)
+    matches!(kind, CallKind::Msg)
 }
 
 // Whether a call is for a timer that is due.
-pub(crate) fn is_timer(kind: Kind) -> bool
+pub(crate) fn is_timer(kind: CallKind) -> bool
     ensures { result ≡ is_timer kind }
 {
-    matches!(kind, Kind::Timer)
+    matches!(kind, CallKind::Timer)
 }
 
 // Whether a call is for a mode.
-pub(crate) fn is_mode(kind: Kind) -> bool
+pub(crate) fn is_mode(kind: CallKind) -> bool
     ensures { result ≡ is_mode kind }
 {
-    matches!(kind, Kind::Mode)
+    matches!(kind, CallKind::Mode)
 }
 
 // The flags of the caller, with those on the call's channel.
@@ -138,20 +138,20 @@ fn is_master(call: &Call, view: &View<'_>) -> bool
 }
 
 // The standing of the person who says something to the bot.
-pub(crate) fn standing_of(call: &Call, view: &View<'_>) -> Standing
+pub(crate) fn standing_of(call: &Call, view: &View<'_>) -> Requester
     ensures { result ≡ standing_of call.now view.now }
 {
     standing_if(is_msg(call.kind), is_master(call, view))
 }
 
-fn standing_if(told: bool, master: bool) -> Standing
+fn standing_if(told: bool, master: bool) -> Requester
     ensures { result ≡ standing_if told master }
 {
     if !told {
-        Standing::Elsewhere
+        Requester::Elsewhere
     } else if master {
-        Standing::Master
+        Requester::Master
     } else {
-        Standing::Stranger
+        Requester::Stranger
     }
 }

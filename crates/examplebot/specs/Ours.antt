@@ -6,7 +6,7 @@ use Rattle.outqueue.specs.declared.queue.Queue.TheVariants.{Mode, Help}
 use Rattle.procstore.specs.declared.action.Action.{Action}
 use Rattle.procstore.specs.declared.call.Call.{Call}
 use Rattle.procstore.specs.declared.reply.Code.TheVariants.{Zero}
-use Rattle.procstore.specs.declared.reply.Reply.{Reply}
+use Rattle.procstore.specs.declared.reply.ProcReply.{ProcReply}
 use Rattle.procstore.specs.Promises.{Promised, promised}
 use Rattle.procstore.specs.Seen.{Seen}
 use Rattle.examplebot.specs.Asking.{nick_of, handle_of, channel_of, mask_of, has_o, is_op, second_after, put, put_after, put_later, ban}
@@ -51,7 +51,7 @@ actions_of name call seen =
     else []
 
 -- what that proc answers
-abbrev pub reply_of : List ℕ → Call → Seen → Reply
+abbrev pub reply_of : List ℕ → Call → Seen → ProcReply
 reply_of name call seen = record { code = Zero; actions = actions_of name call seen }
 
 -- the code is that one, and the actions are just these

@@ -1,7 +1,7 @@
 // The procs that run under the names, and what they promise.
 use crate::procs::{NAMES, actions_of};
 use bytetext::{NoMemory, Text};
-use procstore::{AddError, Call, Code, Proc, ProcStore, Promise, Reply, Run, View};
+use procstore::{AddError, Call, Code, Proc, ProcReply, ProcStore, Promise, Run, View};
 use std::alloc::Global;
 
 /// What the procs of this program promise, proc by proc, as `specs/Ours.antt` has it.
@@ -29,10 +29,10 @@ impl Run for OurProc {
 
     ghost answers = { λ proc call seen answer. IfOk answer (λ reply. reply ≡ reply_of proc.name call seen) };
 
-    fn run(&self, call: &Call, view: &View<'_>) -> Result<Reply, NoMemory> {
+    fn run(&self, call: &Call, view: &View<'_>) -> Result<ProcReply, NoMemory> {
         let code = Code::Zero;
         let actions = actions_of(self.alloc, self.name.as_bytes(), call, view)?;
-        Ok(Reply { code, actions })
+        Ok(ProcReply { code, actions })
     }
 }
 

@@ -2,7 +2,7 @@
 use crate::stop::{TalkError, TalkFault};
 use bytetext::{Failure, Seq};
 use itoa::Buffer;
-use miniircd::{Client, Ircd, IrcdError, Sent};
+use miniircd::{Client, Ircd, IrcdError, SentLine};
 use std::alloc::Global;
 
 /// A server, the clients that have connected to it, and what was printed so far.
@@ -118,7 +118,7 @@ impl Talk {
     }
 
     // Prints the lines that go out, each with the number of its client, or why there are none.
-    fn tell_sent(&mut self, sent: Result<Seq<Sent>, IrcdError>) -> Result<(), TalkError> {
+    fn tell_sent(&mut self, sent: Result<Seq<SentLine>, IrcdError>) -> Result<(), TalkError> {
         let lines = match sent {
             Ok(lines) => lines,
             Err(error) => return self.tell_refusal(error),

@@ -7,8 +7,8 @@ use Rattle.std.proofs.lemmas.List.{append-nil}
 use Rattle.ircline.specs.declared.message.Message.{Message}
 use Rattle.ircline.specs.declared.line.Line.{Line}
 use Rattle.ircline.specs.declared.line.Line.TheVariants as line
-use Rattle.ircline.specs.declared.fault.Fault.{Fault}
-use Rattle.ircline.specs.declared.fault.Fault.TheVariants as fault
+use Rattle.ircline.specs.declared.fault.LineFault.{LineFault}
+use Rattle.ircline.specs.declared.fault.LineFault.TheVariants as fault
 use Rattle.ircline.specs.Words.{holds, before}
 use Rattle.ircline.specs.Sources.{nick_of}
 use Rattle.ircline.specs.Classes.{octet, nospcrlf, filled, command, middle}
@@ -99,7 +99,7 @@ record Parts (text prefix word tail : List ℕ) : Type 0 where
   pub whole : text ≡ part ++ (word ++ tail)
   pub part_is : IsPrefixPart part prefix
 
-fault_not : (f : Fault) (m : Message) → line.Bad f ≡ line.Message m → ⊥
+fault_not : (f : LineFault) (m : Message) → line.Bad f ≡ line.Message m → ⊥
 fault_not f m e = absurd cc
 
 message_is : (a b : Message) → line.Message a ≡ line.Message b → a ≡ b
@@ -175,11 +175,11 @@ passed run m e =
     let good = not_last (command (before 32 words)) fault.BadCommand read m named.1 in
     record { short = ltb-false 510 (length run) long.0; nul = nul.0; named = named.0; good = good.0; message = good.1 }
   where
-    not_fault : (b : Bool) (f : Fault) (l : Line) (m : Message) → cond b (line.Bad f) l ≡ line.Message m → (b ≡ false) × (l ≡ line.Message m)
+    not_fault : (b : Bool) (f : LineFault) (l : Line) (m : Message) → cond b (line.Bad f) l ≡ line.Message m → (b ≡ false) × (l ≡ line.Message m)
     not_fault true f l m e = absurd (fault_not f m e)
     not_fault false f l m e = (refl, e)
 
-    not_last : (b : Bool) (f : Fault) (a m : Message) → cond b (line.Message a) (line.Bad f) ≡ line.Message m → (b ≡ true) × (a ≡ m)
+    not_last : (b : Bool) (f : LineFault) (a m : Message) → cond b (line.Message a) (line.Bad f) ≡ line.Message m → (b ≡ true) × (a ≡ m)
     not_last true f a m e = (refl, message_is a m e)
     not_last false f a m e = absurd (fault_not f m e)
 

@@ -6,8 +6,8 @@ use Rattle.std.proofs.lemmas.List.{nil_from_length}
 use Rattle.ircline.specs.declared.message.Message.{Message}
 use Rattle.ircline.specs.declared.line.Line.{Line}
 use Rattle.ircline.specs.declared.line.Line.TheVariants as line
-use Rattle.ircline.specs.declared.fault.Fault.{Fault}
-use Rattle.ircline.specs.declared.fault.Fault.TheVariants as fault
+use Rattle.ircline.specs.declared.fault.LineFault.{LineFault}
+use Rattle.ircline.specs.declared.fault.LineFault.TheVariants as fault
 use Rattle.ircline.specs.Words.{holds, before}
 use Rattle.ircline.specs.Sources.{nick_of}
 use Rattle.ircline.specs.Classes.{filled, command}
@@ -33,7 +33,7 @@ is_prefix : (b : Bool) (l : Line) → (l ≡ line.Bad fault.BadPrefix → ⊥) �
 is_prefix true l other e = refl
 is_prefix false l other e = absurd (other e)
 
-is_later : (b : Bool) (f : Fault) (l : Line) → (f ≡ fault.BadPrefix → ⊥) → cond b (line.Bad f) l ≡ line.Bad fault.BadPrefix
+is_later : (b : Bool) (f : LineFault) (l : Line) → (f ≡ fault.BadPrefix → ⊥) → cond b (line.Bad f) l ≡ line.Bad fault.BadPrefix
     → (b ≡ false) × (l ≡ line.Bad fault.BadPrefix)
 is_later true f l other e = let same : f ≡ fault.BadPrefix = cc in absurd (other same)
 is_later false f l other e = (refl, e)

@@ -6,7 +6,7 @@ use Rattle.std.proofs.lemmas.Bool.{cases_Bool, cases_lt, lt-ltb, cond-true}
 use Rattle.std.proofs.lemmas.List.{append-nil, map-append, take_all, take-take}
 use Rattle.ircline.specs.declared.line.Line.{Line}
 use Rattle.ircline.specs.declared.line.Line.TheVariants as line
-use Rattle.ircline.specs.declared.fault.Fault.TheVariants as fault
+use Rattle.ircline.specs.declared.fault.LineFault.TheVariants as fault
 use Rattle.ircline.specs.Words.{up_to, from_first}
 use Rattle.ircline.specs.Classes.{is_end}
 use Rattle.ircline.specs.Reading.{line_of}

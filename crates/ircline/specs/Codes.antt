@@ -1,9 +1,9 @@
 -- The short code of each fault.
 use Rattle.std.specs.Prelude.{ℕ, List, codes}
-use Rattle.ircline.specs.declared.fault.Fault.{Fault}
-use Rattle.ircline.specs.declared.fault.Fault.TheVariants.{TooLong, NulByte, BadPrefix, BadCommand}
+use Rattle.ircline.specs.declared.fault.LineFault.{LineFault}
+use Rattle.ircline.specs.declared.fault.LineFault.TheVariants.{TooLong, NulByte, BadPrefix, BadCommand}
 
-abbrev pub code_of : Fault → List ℕ
+abbrev pub code_of : LineFault → List ℕ
 code_of TooLong = codes "L1"
 code_of NulByte = codes "L4"
 code_of BadPrefix = codes "L2"

@@ -3,7 +3,7 @@ use Rattle.std.specs.Prelude.{ℕ, zero, suc, Bool, true, false, List, [], ◌�
 use Rattle.ircline.specs.declared.message.Message.{Message}
 use Rattle.ircline.specs.declared.line.Line.{Line}
 use Rattle.ircline.specs.declared.line.Line.TheVariants as line
-use Rattle.ircline.specs.declared.fault.Fault.TheVariants as fault
+use Rattle.ircline.specs.declared.fault.LineFault.TheVariants as fault
 use Rattle.ircline.specs.Words.{from_first, holds, before}
 use Rattle.ircline.specs.Sources.{nick_of}
 use Rattle.ircline.specs.Classes.{filled, command, upper}

@@ -7,7 +7,7 @@ use thiserror::Error;
 
 /// Why a line is not a message. The faults are tested in this order.
 #[derive(Clone, Copy, Debug, PartialEq, Eq, Error)]
-pub enum Fault {
+pub enum LineFault {
     /// The line has more than 510 bytes before its end (RFC 2812 section 2.3: 512 with CR and LF).
     #[error("the line is too long: send at most 510 bytes before its end")]
     TooLong,
@@ -22,16 +22,16 @@ pub enum Fault {
     BadCommand,
 }
 
-impl Fault {
+impl LineFault {
     /// Returns the short code of this fault: `L1`, `L4`, `L2` or `L3`, in the order in which the faults are tested.
     pub fn code(self) -> &'static str
         ensures { result.now ≡ code_of self }
     {
         match self {
-            Fault::TooLong => "L1",
-            Fault::NulByte => "L4",
-            Fault::BadPrefix => "L2",
-            Fault::BadCommand => "L3",
+            LineFault::TooLong => "L1",
+            LineFault::NulByte => "L4",
+            LineFault::BadPrefix => "L2",
+            LineFault::BadCommand => "L3",
         }
     }
 }

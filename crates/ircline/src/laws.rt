@@ -2,7 +2,7 @@
 ghost use Rattle.std.specs.Prelude.{◌≡◌, ◌↔◌, ◌<◌, ◌≤◌, ℕ, List, [], ◌∷◌, ◌++◌, length, true, false};
 ghost use Rattle.ircline.specs.declared.message.Message.{Message};
 ghost use Rattle.ircline.specs.declared.line.Line.TheVariants as line;
-ghost use Rattle.ircline.specs.declared.fault.Fault.TheVariants as fault;
+ghost use Rattle.ircline.specs.declared.fault.LineFault.TheVariants as fault;
 ghost use Rattle.ircline.specs.Words.{holds};
 ghost use Rattle.ircline.specs.Grammar.{IsMessage, IsNameless};
 ghost use Rattle.ircline.specs.Reading.{line_of};

@@ -1,7 +1,7 @@
 //! IRC lines: a stream of bytes to messages, and messages to lines (RFC 2812 sections 2.3 and 2.3.1).
 //!
 //! A [`LineReader`] takes the pieces of a stream, cut anywhere, and returns each line once, in order, when its end has
-//! arrived: a [`Message`], or the first [`Fault`] that keeps it from being one. [`read_line`] reads one line, [`print`]
+//! arrived: a [`Message`], or the first [`LineFault`] that keeps it from being one. [`read_line`] reads one line, [`print`]
 //! writes the canonical line of a message or reports that no line could carry it, and [`source`] splits a prefix.
 //!
 //! Beyond the RFC, CR alone and LF alone end a line, empty lines are skipped, there may be several spaces between words
@@ -34,7 +34,7 @@ mod reader;
 mod sources;
 mod words;
 
-pub use crate::fault::{Fault, NotPrintable, PrintError};
+pub use crate::fault::{LineFault, NotPrintable, PrintError};
 pub use crate::laws::{reading_is_the_grammar, runs_are_the_longest};
 pub use crate::line::Line;
 pub use crate::message::Message;

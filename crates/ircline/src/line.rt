@@ -1,5 +1,5 @@
 // What one line reads as.
-use crate::fault::Fault;
+use crate::fault::LineFault;
 use crate::message::Message;
 use bytetext::{NoMemory, TryCopy};
 use std::alloc::Global;
@@ -10,7 +10,7 @@ pub enum Line {
     /// A message.
     Message(Message),
     /// Not a message: the first fault of the line. The line is dropped.
-    Bad(Fault),
+    Bad(LineFault),
 }
 
 impl TryCopy for Line {

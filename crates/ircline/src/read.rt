@@ -6,7 +6,7 @@ ghost use Rattle.ircline.specs.Classes.{is_end, upper};
 ghost use Rattle.ircline.specs.Reading.{flush, tail_of, prefix_at, after_prefix, is_nameless, last_param, is_last, params_of, line_at, line_of, TakesMemory};
 
 use crate::classes::is_command;
-use crate::fault::Fault;
+use crate::fault::LineFault;
 use crate::line::Line;
 use crate::message::Message;
 use crate::prefix::nick;
@@ -22,7 +22,7 @@ pub const LIMIT: usize = 510;
 const MIDDLES: usize = 14;
 
 /// Reads one line: the `bytes` before the first CR or LF, or all of them if they hold neither. An empty line is
-/// [`Fault::BadCommand`].
+/// [`LineFault::BadCommand`].
 ///
 /// # Errors
 /// `NoMemory` if the message cannot be allocated.
@@ -48,10 +48,10 @@ pub fn read_run(alloc: Global, run: &[u8]) -> Result<Line, NoMemory>
     ensures memory { OnErr result (TakesMemory (line_of run.now)) }
 {
     if run.len() > LIMIT {
-        return Ok(Line::Bad(Fault::TooLong));
+        return Ok(Line::Bad(LineFault::TooLong));
     }
     if run.contains(&0) {
-        return Ok(Line::Bad(Fault::NulByte));
+        return Ok(Line::Bad(LineFault::NulByte));
     }
     read_words(alloc, without_spaces(run))
 }
@@ -62,11 +62,11 @@ fn read_words(alloc: Global, text: &[u8]) -> Result<Line, NoMemory>
     ensures memory { OnErr result (TakesMemory (line_at text.now)) }
 {
     let Some((prefix, words)) = prefix_of(text) else {
-        return Ok(Line::Bad(Fault::BadPrefix));
+        return Ok(Line::Bad(LineFault::BadPrefix));
     };
     let (command, tail) = parted(words, words.find_byte(b' '));
     if !is_command(command) {
-        return Ok(Line::Bad(Fault::BadCommand));
+        return Ok(Line::Bad(LineFault::BadCommand));
     }
     Ok(Line::Message(Message {
         prefix: Text::from_slice(alloc, prefix)?,

@@ -6,7 +6,7 @@ ghost use Rattle.botjournal.specs.Journal.{IsSound};
 ghost use Rattle.journalcases.specs.Place.{IsReady};
 
 use crate::stop::{CaseError, CaseFault};
-use botjournal::Journal;
+use botjournal::BotJournal;
 use bytejournal::Disks;
 use bytetext::Failure;
 use disks::{Disk, MemDisk};
@@ -17,7 +17,7 @@ pub enum Place {
     /// On two disks that no journal uses.
     OnDisks(Disks<MemDisk>),
     /// In use.
-    InUse(Journal<MemDisk>),
+    InUse(BotJournal<MemDisk>),
 }
 
 /// Takes the disks from `place`. If a journal uses them, they are as a crash leaves them.
@@ -44,7 +44,7 @@ pub fn crashed(disks: Disks<MemDisk>) -> Disks<MemDisk>
 }
 
 /// Takes the open journal from `place`. Returns `NoJournal` if none is open.
-pub fn journal_of(place: Place) -> Result<Journal<MemDisk>, CaseError>
+pub fn journal_of(place: Place) -> Result<BotJournal<MemDisk>, CaseError>
     requires { IsReady place }
     ensures { IfOk result (λ journal. IsSound state_of journal) }
 {

@@ -13,7 +13,7 @@ use crate::devices::put_hex;
 use crate::place::{Place, crashed};
 use crate::stop::CaseError;
 use crate::words::{base_of, entry_of};
-use botjournal::{Base, Entry, Journal, LAYOUT, Opened, write_base, write_entry};
+use botjournal::{Base, BotJournal, Entry, LAYOUT, OpenedJournal, write_base, write_entry};
 use bytejournal::{Disks, JournalError, Returned};
 use bytetext::NoMemory;
 use disks::MemDisk;
@@ -31,7 +31,7 @@ pub fn create(
     ensures { IfOk result IsReady }
 {
     let base = base_of(alloc, base)?;
-    match Journal::create(alloc, disks.first, disks.second, &base) {
+    match BotJournal::create(alloc, disks.first, disks.second, &base) {
         Ok(journal) => {
             tell(Ok(()), out)?;
             Ok(Place::InUse(journal))
@@ -46,7 +46,7 @@ pub fn open(alloc: Global, disks: Disks<MemDisk>, out: &mut Vec<u8>) -> Result<P
     requires second { IsSettled (state_of disks.second) }
     ensures { IfOk result IsReady }
 {
-    match Journal::open(alloc, disks.first, disks.second) {
+    match BotJournal::open(alloc, disks.first, disks.second) {
         Ok(opened) => found(alloc, opened, out),
         Err(returned) => handed_back(returned, out),
     }
@@ -55,7 +55,7 @@ pub fn open(alloc: Global, disks: Disks<MemDisk>, out: &mut Vec<u8>) -> Result<P
 /// Plays `restart` of `journal`.
 pub fn restart(
     alloc: Global,
-    journal: Journal<MemDisk>,
+    journal: BotJournal<MemDisk>,
     out: &mut Vec<u8>,
 ) -> Result<Place, CaseError>
     ensures { IfOk result IsReady }
@@ -69,7 +69,7 @@ pub fn restart(
 /// Plays `append ENTRY` on `journal`, where ENTRY is `entry`.
 pub fn append(
     alloc: Global,
-    journal: Journal<MemDisk>,
+    journal: BotJournal<MemDisk>,
     entry: &[u8],
     out: &mut Vec<u8>,
 ) -> Result<Place, CaseError>
@@ -90,7 +90,7 @@ pub fn append(
 /// Plays `rebase BASE` on `journal`, where BASE is `base`.
 pub fn rebase(
     alloc: Global,
-    journal: Journal<MemDisk>,
+    journal: BotJournal<MemDisk>,
     base: &[u8],
     out: &mut Vec<u8>,
 ) -> Result<Place, CaseError>
@@ -105,7 +105,7 @@ pub fn rebase(
 }
 
 /// Plays `spent`, which asks `journal`.
-pub fn spent(journal: Journal<MemDisk>, out: &mut Vec<u8>) -> Result<Place, CaseError>
+pub fn spent(journal: BotJournal<MemDisk>, out: &mut Vec<u8>) -> Result<Place, CaseError>
     requires { IsSound state_of journal }
     ensures { IfOk result IsReady }
 {
@@ -121,7 +121,7 @@ pub fn spent(journal: Journal<MemDisk>, out: &mut Vec<u8>) -> Result<Place, Case
 /// Plays `layout`, which asks `journal`.
 pub fn layout(
     alloc: Global,
-    journal: Journal<MemDisk>,
+    journal: BotJournal<MemDisk>,
     out: &mut Vec<u8>,
 ) -> Result<Place, CaseError>
     requires { IsSound state_of journal }
@@ -154,7 +154,11 @@ fn handed_back(returned: Returned<MemDisk>, out: &mut Vec<u8>) -> Result<Place, 
 }
 
 // Prints what an opened journal holds.
-fn found(alloc: Global, opened: Opened<MemDisk>, out: &mut Vec<u8>) -> Result<Place, CaseError>
+fn found(
+    alloc: Global,
+    opened: OpenedJournal<MemDisk>,
+    out: &mut Vec<u8>,
+) -> Result<Place, CaseError>
     requires good { IsGoodOpened opened }
     requires sound { opened.whole ≡ true → IsSound state_of opened.journal }
     ensures { IfOk result IsReady }

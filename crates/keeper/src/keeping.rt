@@ -5,7 +5,7 @@ ghost use Rattle.botcore.specs.Steps.{IsGoodEvent};
 
 use crate::stop::Stop;
 use crate::words::Asked;
-use botcore::{Bot, Config, End, Event};
+use botcore::{Bot, BotEvent, Config, End};
 use bottimers::Zone;
 use bytejournal::was_never_made;
 use bytetext::{NoMemory, Text, Texts};
@@ -91,13 +91,13 @@ fn lone_hub(alloc: Global) -> Result<Config, NoMemory> {
 fn accept_one(alloc: Global, hub: &mut Bot<FileDisk>, store: &Nobodies) -> Result<(), Stop> {
     let before = hub.version();
     let change = next_change(alloc, hub.userfile())?;
-    tell(alloc, hub, store, Event::Ask(change))?;
-    tell(alloc, hub, store, Event::Pump)?;
+    tell(alloc, hub, store, BotEvent::Ask(change))?;
+    tell(alloc, hub, store, BotEvent::Pump)?;
     if hub.version() == before {
         return Err(Stop::OtherUsers);
     }
     if hub.version() % A_BASE == 0 {
-        tell(alloc, hub, store, Event::Compact)?;
+        tell(alloc, hub, store, BotEvent::Compact)?;
     }
     Ok(())
 }
@@ -113,7 +113,12 @@ fn next_change(alloc: Global, userfile: &Userfile) -> Result<Change, NoMemory> {
 }
 
 // Makes one step of the hub.
-fn tell(alloc: Global, hub: &mut Bot<FileDisk>, store: &Nobodies, event: Event) -> Result<(), Stop>
+fn tell(
+    alloc: Global,
+    hub: &mut Bot<FileDisk>,
+    store: &Nobodies,
+    event: BotEvent,
+) -> Result<(), Stop>
     requires { IsGoodEvent event }
 {
     match hub.step(alloc, store, event).end {

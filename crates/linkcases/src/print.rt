@@ -1,7 +1,7 @@
 // What the steps print.
 use bytetext::NoMemory;
 use itoa::Buffer;
-use sharelink::{Note, Packet};
+use sharelink::{LinkNote, Packet};
 use std::alloc::Global;
 use userfile::{Ban, User, Userfile};
 
@@ -38,32 +38,32 @@ pub fn put_code(out: &mut Vec<u8>, bot: u16, word: &[u8], code: &str) -> Result<
 }
 
 /// Appends what came of a call, as `note` has it. The bot's number stands before it.
-pub fn put_note(out: &mut Vec<u8>, note: &Note) -> Result<(), NoMemory> {
+pub fn put_note(out: &mut Vec<u8>, note: &LinkNote) -> Result<(), NoMemory> {
     match note {
-        Note::Queued => put_word(out, b"Queued"),
-        Note::Idle => put_word(out, b"Idle"),
-        Note::Sent(request) => put_counted(out, b"Sent", u64::from(*request)),
-        Note::Accepted(number) => put_counted(out, b"Accepted", u64::from(*number)),
-        Note::Refused(fault) => {
+        LinkNote::Queued => put_word(out, b"Queued"),
+        LinkNote::Idle => put_word(out, b"Idle"),
+        LinkNote::Sent(request) => put_counted(out, b"Sent", u64::from(*request)),
+        LinkNote::Accepted(number) => put_counted(out, b"Accepted", u64::from(*number)),
+        LinkNote::Refused(fault) => {
             put_word(out, b"Refused")?;
             put_word(out, fault.code().as_bytes())
         }
-        Note::Served(count) => put_counted(out, b"Served", *count as u64),
-        Note::Old => put_word(out, b"Old"),
-        Note::Repeat => put_word(out, b"Repeat"),
-        Note::Gap => put_word(out, b"Gap"),
-        Note::Early => put_word(out, b"Early"),
-        Note::Applied(number) => put_counted(out, b"Applied", u64::from(*number)),
-        Note::Kept(part) => put_counted(out, b"Kept", u64::from(*part)),
-        Note::Installed(version) => put_counted(out, b"Installed", u64::from(*version)),
-        Note::Compacted => put_word(out, b"Compacted"),
-        Note::Relayed => put_word(out, b"Relayed"),
-        Note::Text { from, text } => {
+        LinkNote::Served(count) => put_counted(out, b"Served", *count as u64),
+        LinkNote::Old => put_word(out, b"Old"),
+        LinkNote::Repeat => put_word(out, b"Repeat"),
+        LinkNote::Gap => put_word(out, b"Gap"),
+        LinkNote::Early => put_word(out, b"Early"),
+        LinkNote::Applied(number) => put_counted(out, b"Applied", u64::from(*number)),
+        LinkNote::Kept(part) => put_counted(out, b"Kept", u64::from(*part)),
+        LinkNote::Installed(version) => put_counted(out, b"Installed", u64::from(*version)),
+        LinkNote::Compacted => put_word(out, b"Compacted"),
+        LinkNote::Relayed => put_word(out, b"Relayed"),
+        LinkNote::Text { from, text } => {
             put_counted(out, b"Text", u64::from(*from))?;
             put_word(out, text.as_bytes())
         }
-        Note::Stray => put_word(out, b"Stray"),
-        Note::Restarted(version) => put_counted(out, b"Restarted", u64::from(*version)),
+        LinkNote::Stray => put_word(out, b"Stray"),
+        LinkNote::Restarted(version) => put_counted(out, b"Restarted", u64::from(*version)),
     }
 }
 

@@ -4,47 +4,47 @@ use Rattle.std.specs.Str.{bytes_eq}
 use Rattle.bytetext.specs.declared.moment.TheConstants.{MOMENTS_END}
 use Rattle.script.specs.Words.{is_empty, number_below, rest_of}
 use Rattle.live.specs.declared.TheConstants.{MAX_TURNS}
-use Rattle.live.specs.declared.command.Command.{Command}
-use Rattle.live.specs.declared.command.Command.TheVariants.{Until, Turns, Guest, Say, Heard, Clock}
+use Rattle.live.specs.declared.live_command.LiveCommand.{LiveCommand}
+use Rattle.live.specs.declared.live_command.LiveCommand.TheVariants.{Until, Turns, Guest, Say, Heard, Clock}
 
 -- a version is below 2^32
-abbrev pub until : ℕ → Option Command
+abbrev pub until : ℕ → Option LiveCommand
 until version = if nat_le version 4294967295 then Some (Until version) else None
 
-abbrev pub turns : ℕ → Option Command
+abbrev pub turns : ℕ → Option LiveCommand
 turns count = if nat_le count MAX_TURNS then Some (Turns count) else None
 
 -- a clock shows a moment
-abbrev pub clock : ℕ → Option Command
+abbrev pub clock : ℕ → Option LiveCommand
 clock seconds = if nat_lt seconds MOMENTS_END then Some (Clock seconds) else None
 
-abbrev pub by_number : List ℕ → ℕ → Option Command
+abbrev pub by_number : List ℕ → ℕ → Option LiveCommand
 by_number verb count =
     if bytes_eq verb (codes "until") then until count
     else if bytes_eq verb (codes "turns") then turns count
     else if bytes_eq verb (codes "clock") then clock count
     else None
 
-abbrev pub heard : List ℕ → Option Command
+abbrev pub heard : List ℕ → Option LiveCommand
 heard nick = if is_empty nick then None else Some (Heard nick)
 
 -- until V, turns N, clock N, heard NICK
-abbrev pub by_one_word : List ℕ → List ℕ → Option Command
+abbrev pub by_one_word : List ℕ → List ℕ → Option LiveCommand
 by_one_word verb a =
     if bytes_eq verb (codes "heard") then heard a else option_and_then (by_number verb) (number_below (2 ^ 64) a)
 
 -- guest NICK CHANNEL
-abbrev pub by_two_words : List ℕ → List ℕ → List ℕ → Option Command
+abbrev pub by_two_words : List ℕ → List ℕ → List ℕ → Option LiveCommand
 by_two_words verb nick channel =
     if not (bytes_eq verb (codes "guest")) || is_empty nick || is_empty channel then None else Some (Guest nick channel)
 
 -- say NICK TARGET TEXT..
-abbrev pub by_more_words : List ℕ → List ℕ → List ℕ → List (List ℕ) → Option Command
+abbrev pub by_more_words : List ℕ → List ℕ → List ℕ → List (List ℕ) → Option LiveCommand
 by_more_words verb nick target words =
     if not (bytes_eq verb (codes "say")) || is_empty nick || is_empty target then None
     else option_map (λ text. Say (record { nick = nick; target = target; text = text })) (rest_of words)
 
-abbrev pub own_command : List (List ℕ) → Option Command
+abbrev pub own_command : List (List ℕ) → Option LiveCommand
 own_command [] = None
 own_command (verb ∷ []) = None
 own_command (verb ∷ a ∷ []) = by_one_word verb a

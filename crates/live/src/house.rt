@@ -5,7 +5,7 @@ use crate::guest::{Guest, client_of, place_of};
 use crate::peer::Peer;
 use crate::waiting::Waiting;
 use bytetext::{Failure, NoMemory, Seq, Text};
-use miniircd::{Client, Due, Fault, Ircd, IrcdError, MAX_CLIENTS, Sent};
+use miniircd::{Client, Due, Ircd, IrcdError, MAX_CLIENTS, SentLine, ServerFault};
 use mio::net::TcpListener;
 use std::alloc::Global;
 use std::io;
@@ -236,11 +236,13 @@ impl House {
     fn deliver(
         &mut self,
         alloc: Global,
-        sent: Result<Seq<Sent>, IrcdError>,
+        sent: Result<Seq<SentLine>, IrcdError>,
     ) -> Result<bool, NoMemory> {
         let lines = match sent {
             Ok(lines) => lines,
-            Err(Failure::Refused(Fault::Full | Fault::NoSuchClient)) => return Ok(false),
+            Err(Failure::Refused(ServerFault::Full | ServerFault::NoSuchClient)) => return Ok(
+                false,
+            ),
             Err(Failure::NoMemory) => return Err(NoMemory),
         };
         for sent in lines.as_slice() {

@@ -3,7 +3,7 @@
 //! A [`Peer`] is a connection with the bytes that were read and the bytes that are still to be written. [`House`] is
 //! the server of [`miniircd`] on a port, with its connections and with guests that are held in memory. A [`FramePeer`]
 //! is a connection that carries packets as frames ([`peers`]). A [`LinkHouse`] is the hub's side of the link, with
-//! its listener, and an [`Uplink`] is a leaf's side.
+//! its listener, and an [`HubSocket`] is a leaf's side.
 //!
 //! A program drives each of them in turns: accept new connections, read what has arrived, process it, and send what
 //! waits. Only [`House::wait`] waits for sockets. A program calls it between two turns, and it waits for all sockets of
@@ -50,14 +50,16 @@
 #![tactic(auto)]
 
 mod addresses;
+mod bot_sockets;
 mod caller;
-mod command;
 mod error;
 mod fault;
 mod frames;
 mod guest;
 mod house;
+mod hub_socket;
 mod link;
+mod live_command;
 mod moment;
 mod network;
 mod own_words;
@@ -66,26 +68,24 @@ mod reading;
 mod reason;
 mod running;
 mod saying;
-mod seat;
 mod socket_fault;
 mod turn;
-mod uplink;
 mod waiting;
 
 pub use crate::addresses::local;
-pub use crate::command::{Command, Commands, Speech};
 pub use crate::error::LiveError;
 pub use crate::fault::{LiveFault, LiveScriptError};
 pub use crate::frames::FramePeer;
 pub use crate::house::House;
+pub use crate::hub_socket::HubSocket;
 pub use crate::link::LinkHouse;
+pub use crate::live_command::{Commands, LiveCommand, Speech};
 pub use crate::moment::Moment;
 pub use crate::peer::Peer;
 pub use crate::reading::LiveScript;
 pub use crate::reason::{LiveReason, LiveVerb};
 pub use crate::running::live;
 pub use crate::socket_fault::SocketFault;
-pub use crate::uplink::Uplink;
 pub use crate::waiting::Waiting;
 
 /// The maximum number of leaves of a live script.

@@ -1,12 +1,12 @@
 // The bots and all sockets.
 use crate::addresses::local;
+use crate::bot_sockets::BotSockets;
 use crate::error::LiveError;
 use crate::house::House;
+use crate::hub_socket::HubSocket;
 use crate::link::LinkHouse;
 use crate::moment::Moment;
 use crate::peer::Peer;
-use crate::seat::Seat;
-use crate::uplink::Uplink;
 use botcore::{Bot, Report};
 use bytetext::NoMemory;
 use replay::SteadyDisk;
@@ -27,7 +27,7 @@ pub struct Network {
     pub house: House,
     pub link: LinkHouse,
     pub bots: Vec<Bot<SteadyDisk>>,
-    pub seats: Vec<Seat>,
+    pub seats: Vec<BotSockets>,
     /// What each bot's clock shows.
     pub now: Moment,
     // How many turns remain before the next one that pumps.
@@ -98,7 +98,7 @@ impl Network {
     fn add_seat<R: Net + AllocGlobal>(&mut self, rt: &R) -> Result<(), LiveError> {
         let uplink = self.next_uplink(rt)?;
         let irc = Peer::connect(rt, self.house.waiting(), self.server)?;
-        let seat = Seat::new(rt.alloc(), irc, uplink);
+        let seat = BotSockets::new(rt.alloc(), irc, uplink);
         if self.seats.push(seat).is_err() {
             return Err(LiveError::NoMemory);
         }
@@ -106,15 +106,15 @@ impl Network {
     }
 
     // The next bot's connection to the hub; `None` if that bot is the hub.
-    fn next_uplink<R: Net + AllocGlobal>(&self, rt: &R) -> io::Result<Option<Uplink>> {
+    fn next_uplink<R: Net + AllocGlobal>(&self, rt: &R) -> io::Result<Option<HubSocket>> {
         if self.seats.is_empty() {
             return Ok(None);
         }
         Ok(Some(self.uplink(rt)?))
     }
 
-    fn uplink<R: Net + AllocGlobal>(&self, rt: &R) -> io::Result<Uplink> {
-        Uplink::connect(rt, self.house.waiting(), self.hub)
+    fn uplink<R: Net + AllocGlobal>(&self, rt: &R) -> io::Result<HubSocket> {
+        HubSocket::connect(rt, self.house.waiting(), self.hub)
     }
 
     /// Gives the bot at `place` a new connection to the server, of which it hears in its next turn. If no bot is at
@@ -253,7 +253,7 @@ impl Network {
             && self.seats.iter().all(|seat| self.is_even(seat))
     }
 
-    fn is_even(&self, seat: &Seat) -> bool {
+    fn is_even(&self, seat: &BotSockets) -> bool {
         self.house.is_even_with(&seat.irc)
             && match &seat.uplink {
                 Some(uplink) => self.link.is_even_with(&uplink.wire.peer),

@@ -3,7 +3,7 @@ ghost use Rattle.std.specs.Prelude.{◌≡◌, ◌∷◌, map, IfOk};
 ghost use Rattle.live.specs.Words.{by_more_words, by_number, by_one_word, by_two_words, clock, heard, own_command, turns, until};
 
 use crate::MAX_TURNS;
-use crate::command::{Command, Speech};
+use crate::live_command::{LiveCommand, Speech};
 use crate::moment::Moment;
 use bytetext::{NoMemory, Text};
 use script::{number, rest_of};
@@ -13,7 +13,7 @@ use std::alloc::Global;
 ///
 /// # Errors
 /// `NoMemory` if memory cannot be allocated.
-pub fn own_command(alloc: Global, words: &[&[u8]]) -> Result<Option<Command>, NoMemory>
+pub fn own_command(alloc: Global, words: &[&[u8]]) -> Result<Option<LiveCommand>, NoMemory>
     ensures { IfOk result (λ command. command ≡ own_command (map (λ word. word.now) words.now)) }
 {
     match words {
@@ -25,7 +25,7 @@ pub fn own_command(alloc: Global, words: &[&[u8]]) -> Result<Option<Command>, No
 }
 
 // until V, turns N, clock N, heard NICK
-fn by_one_word(alloc: Global, verb: &[u8], a: &[u8]) -> Result<Option<Command>, NoMemory>
+fn by_one_word(alloc: Global, verb: &[u8], a: &[u8]) -> Result<Option<LiveCommand>, NoMemory>
     ensures { IfOk result (λ command. command ≡ by_one_word verb.now a.now) }
 {
     if verb == b"heard".as_slice() {
@@ -37,16 +37,16 @@ fn by_one_word(alloc: Global, verb: &[u8], a: &[u8]) -> Result<Option<Command>, 
     }
 }
 
-fn heard(alloc: Global, nick: &[u8]) -> Result<Option<Command>, NoMemory>
+fn heard(alloc: Global, nick: &[u8]) -> Result<Option<LiveCommand>, NoMemory>
     ensures { IfOk result (λ command. command ≡ heard nick.now) }
 {
     if nick.is_empty() {
         return Ok(None);
     }
-    Ok(Some(Command::Heard(Text::from_slice(alloc, nick)?)))
+    Ok(Some(LiveCommand::Heard(Text::from_slice(alloc, nick)?)))
 }
 
-fn by_number(verb: &[u8], count: u64) -> Option<Command>
+fn by_number(verb: &[u8], count: u64) -> Option<LiveCommand>
     ensures { result ≡ by_number verb.now count }
 {
     if verb == b"until".as_slice() {
@@ -60,31 +60,31 @@ fn by_number(verb: &[u8], count: u64) -> Option<Command>
     }
 }
 
-fn until(version: u64) -> Option<Command>
+fn until(version: u64) -> Option<LiveCommand>
     ensures { result ≡ until version }
 {
     if version <= u64::from(u32::MAX) {
-        Some(Command::Until(version as u32))
+        Some(LiveCommand::Until(version as u32))
     } else {
         None
     }
 }
 
-fn turns(count: u64) -> Option<Command>
+fn turns(count: u64) -> Option<LiveCommand>
     ensures { result ≡ turns count }
 {
     if count <= u64::from(MAX_TURNS) {
-        Some(Command::Turns(count as u32))
+        Some(LiveCommand::Turns(count as u32))
     } else {
         None
     }
 }
 
-fn clock(seconds: u64) -> Option<Command>
+fn clock(seconds: u64) -> Option<LiveCommand>
     ensures { result ≡ clock seconds }
 {
     match Moment::new(seconds) {
-        Some(moment) => Some(Command::Clock(moment)),
+        Some(moment) => Some(LiveCommand::Clock(moment)),
         None => None,
     }
 }
@@ -95,7 +95,7 @@ fn by_two_words(
     verb: &[u8],
     nick: &[u8],
     channel: &[u8],
-) -> Result<Option<Command>, NoMemory>
+) -> Result<Option<LiveCommand>, NoMemory>
     ensures { IfOk result (λ command. command ≡ by_two_words verb.now nick.now channel.now) }
 {
     if verb != b"guest".as_slice() || nick.is_empty() || channel.is_empty() {
@@ -103,7 +103,7 @@ fn by_two_words(
     }
     let nick = Text::from_slice(alloc, nick)?;
     let channel = Text::from_slice(alloc, channel)?;
-    Ok(Some(Command::Guest { nick, channel }))
+    Ok(Some(LiveCommand::Guest { nick, channel }))
 }
 
 // say NICK TARGET TEXT..
@@ -114,7 +114,7 @@ fn by_more_words(
     target: &[u8],
     first: &[u8],
     rest: &[&[u8]],
-) -> Result<Option<Command>, NoMemory>
+) -> Result<Option<LiveCommand>, NoMemory>
     ensures { IfOk result (λ command. command ≡ by_more_words verb.now nick.now target.now
         (first.now ∷ map (λ word. word.now) rest.now)) }
 {
@@ -126,5 +126,5 @@ fn by_more_words(
     };
     let nick = Text::from_slice(alloc, nick)?;
     let target = Text::from_slice(alloc, target)?;
-    Ok(Some(Command::Say(Speech { nick, target, text })))
+    Ok(Some(LiveCommand::Say(Speech { nick, target, text })))
 }

@@ -2,10 +2,10 @@
 ghost use Rattle.live.specs.Grammar.{IsGoodCommand, IsGoodSaying};
 
 use crate::MAX_LEAVES;
-use crate::command::{Command, Commands};
 use crate::fault::{LiveFault, LiveScriptError};
+use crate::live_command::{Commands, LiveCommand};
 use crate::reason::{LiveReason, reason_of};
-use crate::saying::{Saying, saying_of};
+use crate::saying::{LiveSaying, saying_of};
 use bottimers::Zone;
 use bytetext::{Failure, NoMemory};
 use script::{MAX_SCRIPT, Reason, pieces_of};
@@ -112,15 +112,19 @@ fn fault_at(alloc: Global, line: u64, is_begun: bool, bytes: &[u8]) -> LiveScrip
 }
 
 // Adds what the next line says. Returns false if that breaks a rule after the lines so far.
-fn go_on(alloc: Global, script: &mut Option<LiveScript>, saying: Saying) -> Result<bool, NoMemory>
+fn go_on(
+    alloc: Global,
+    script: &mut Option<LiveScript>,
+    saying: LiveSaying,
+) -> Result<bool, NoMemory>
     requires good { IsGoodSaying saying }
 {
     match saying {
-        Saying::Nothing => Ok(true),
-        Saying::Leaves(leaves) => Ok(set_leaves(alloc, script, leaves)),
-        Saying::Zone(zone) => Ok(set_zone(script, zone)),
-        Saying::Told(command) => add_command(script, command),
-        Saying::Wrong => Ok(false),
+        LiveSaying::Nothing => Ok(true),
+        LiveSaying::Leaves(leaves) => Ok(set_leaves(alloc, script, leaves)),
+        LiveSaying::Zone(zone) => Ok(set_zone(script, zone)),
+        LiveSaying::Told(command) => add_command(script, command),
+        LiveSaying::Wrong => Ok(false),
     }
 }
 
@@ -153,7 +157,7 @@ fn set_zone(script: &mut Option<LiveScript>, zone: Zone) -> bool {
 }
 
 // Adds a command. Returns false before the number of leaves.
-fn add_command(script: &mut Option<LiveScript>, command: Command) -> Result<bool, NoMemory>
+fn add_command(script: &mut Option<LiveScript>, command: LiveCommand) -> Result<bool, NoMemory>
     requires good { IsGoodCommand command }
 {
     match script {

@@ -1,6 +1,6 @@
 // Why a line of a live script breaks a rule.
 use crate::MAX_LEAVES;
-use crate::saying::{Saying, saying_of};
+use crate::saying::{LiveSaying, saying_of};
 use bytetext::NoMemory;
 use script::{Reason, Verb, line_reason, pieces_of, spacing_reason};
 use std::alloc::Global;
@@ -113,15 +113,15 @@ fn verb_named(spelling: &[u8]) -> Option<LiveVerb> {
 /// `NoMemory` if memory cannot be allocated.
 pub fn reason_of(alloc: Global, is_begun: bool, line: &[u8]) -> Result<LiveReason, NoMemory> {
     match saying_of(alloc, line)? {
-        Saying::Wrong => wrong_reason(alloc, line),
-        Saying::Leaves(leaves) => {
+        LiveSaying::Wrong => wrong_reason(alloc, line),
+        LiveSaying::Leaves(leaves) => {
             if leaves > MAX_LEAVES {
                 Ok(LiveReason::Leaves)
             } else {
                 Ok(LiveReason::Script(Reason::LeavesAgain))
             }
         }
-        Saying::Nothing | Saying::Zone(_) | Saying::Told(_) => {
+        LiveSaying::Nothing | LiveSaying::Zone(_) | LiveSaying::Told(_) => {
             if is_begun {
                 Ok(LiveReason::Script(Reason::ZoneLate))
             } else {

@@ -6,8 +6,8 @@ ghost use Rattle.live.specs.Grammar.{IsGoodCommand};
 ghost use Rattle.live.specs.Heard.{heard_line, heard_text};
 
 use crate::MAX_TURNS;
-use crate::command::{Command, Commands, Speech};
 use crate::error::LiveError;
+use crate::live_command::{Commands, LiveCommand, Speech};
 use crate::network::Network;
 use crate::reading::LiveScript;
 use crate::turn::{make_turns, tell};
@@ -115,21 +115,21 @@ fn done<R: Net + AllocGlobal, P: Promise, B: Run>(
     rt: &R,
     net: &mut Network,
     store: &ProcStore<P, B>,
-    command: Command,
+    command: LiveCommand,
 ) -> Result<Vec<u8>, LiveError>
     requires good { IsGoodCommand command }
 {
     let alloc = rt.alloc();
     match command {
-        Command::Tell { bot, event } => tell(alloc, net, store, bot as usize, event)?,
-        Command::Connect(bot) => net.connect(rt, bot as usize)?,
-        Command::Show(bot) => return Ok(shown(alloc, net, bot)?),
-        Command::Until(version) => run_until(rt, net, store, version)?,
-        Command::Turns(count) => make_turns(rt, net, store, count, None)?,
-        Command::Guest { nick, channel } => net.house.invite(alloc, &nick, &channel)?,
-        Command::Say(speech) => say(alloc, net, &speech)?,
-        Command::Heard(nick) => return Ok(heard(alloc, net, &nick)?),
-        Command::Clock(now) => net.now = now,
+        LiveCommand::Tell { bot, event } => tell(alloc, net, store, bot as usize, event)?,
+        LiveCommand::Connect(bot) => net.connect(rt, bot as usize)?,
+        LiveCommand::Show(bot) => return Ok(shown(alloc, net, bot)?),
+        LiveCommand::Until(version) => run_until(rt, net, store, version)?,
+        LiveCommand::Turns(count) => make_turns(rt, net, store, count, None)?,
+        LiveCommand::Guest { nick, channel } => net.house.invite(alloc, &nick, &channel)?,
+        LiveCommand::Say(speech) => say(alloc, net, &speech)?,
+        LiveCommand::Heard(nick) => return Ok(heard(alloc, net, &nick)?),
+        LiveCommand::Clock(now) => net.now = now,
     }
     Ok(Vec::new(alloc))
 }

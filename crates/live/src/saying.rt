@@ -2,9 +2,9 @@
 ghost use Rattle.std.specs.Prelude.{◌≡◌, IfOk};
 ghost use Rattle.live.specs.Grammar.{IsGoodSaying, last_step, saying_of, shared_command, shared_event, shared_saying, shared_step};
 
-use crate::command::Command;
+use crate::live_command::LiveCommand;
 use crate::own_words::own_command;
-use botcore::Event;
+use botcore::BotEvent;
 use bottimers::Zone;
 use botworld::Step;
 use bytetext::NoMemory;
@@ -13,7 +13,7 @@ use std::alloc::Global;
 
 /// What a line says by itself, whatever lines come before it.
 #[derive(Drop)]
-pub enum Saying {
+pub enum LiveSaying {
     /// Nothing: the line is empty or begins with `#`.
     Nothing,
     /// The number of leaves, at most 1,000.
@@ -21,7 +21,7 @@ pub enum Saying {
     /// The zone of all bots.
     Zone(Zone),
     /// A command.
-    Told(Command),
+    Told(LiveCommand),
     /// The line breaks a rule.
     Wrong,
 }
@@ -30,47 +30,47 @@ pub enum Saying {
 ///
 /// # Errors
 /// `NoMemory` if memory cannot be allocated.
-pub fn saying_of(alloc: Global, line: &[u8]) -> Result<Saying, NoMemory>
+pub fn saying_of(alloc: Global, line: &[u8]) -> Result<LiveSaying, NoMemory>
     ensures says { IfOk result (λ saying. saying ≡ saying_of line.now) }
     ensures good { IfOk result IsGoodSaying }
 {
     let words = pieces_of(alloc, line, b' ')?;
     if let Some(command) = own_command(alloc, words.as_slice())? {
-        return Ok(Saying::Told(command));
+        return Ok(LiveSaying::Told(command));
     }
     Ok(shared_saying(script::saying_of(alloc, line)?))
 }
 
 // What a line says that may also stand in a replay's script.
-fn shared_saying(saying: ReplaySaying) -> Saying
+fn shared_saying(saying: ReplaySaying) -> LiveSaying
     ensures { result ≡ shared_saying saying }
 {
     match saying {
-        ReplaySaying::Nothing => Saying::Nothing,
-        ReplaySaying::Leaves(leaves) => Saying::Leaves(leaves),
-        ReplaySaying::Zone(zone) => Saying::Zone(zone),
+        ReplaySaying::Nothing => LiveSaying::Nothing,
+        ReplaySaying::Leaves(leaves) => LiveSaying::Leaves(leaves),
+        ReplaySaying::Zone(zone) => LiveSaying::Zone(zone),
         ReplaySaying::Told(command) => shared_command(command),
-        ReplaySaying::Wrong => Saying::Wrong,
+        ReplaySaying::Wrong => LiveSaying::Wrong,
     }
 }
 
-fn shared_command(command: ReplayCommand) -> Saying
+fn shared_command(command: ReplayCommand) -> LiveSaying
     ensures { result ≡ shared_command command }
 {
     match command {
-        ReplayCommand::Show(bot) => Saying::Told(Command::Show(bot)),
+        ReplayCommand::Show(bot) => LiveSaying::Told(LiveCommand::Show(bot)),
         ReplayCommand::Steps(steps) => shared_step(steps),
     }
 }
 
 // The command of these steps. In a live script, lines and deliveries are up to the network, so their steps are no
 // command.
-fn shared_step(steps: Steps) -> Saying
+fn shared_step(steps: Steps) -> LiveSaying
     ensures { result ≡ shared_step (last_step steps) }
 {
     match last_of(steps) {
         Some(Step::At { bot, event }) => shared_event(bot, event),
-        Some(Step::Deliver { .. }) | None => Saying::Wrong,
+        Some(Step::Deliver { .. }) | None => LiveSaying::Wrong,
     }
 }
 
@@ -81,17 +81,17 @@ fn last_of(steps: Steps) -> Option<Step>
     steps.into_vec().pop()
 }
 
-fn shared_event(bot: u16, event: Event) -> Saying
+fn shared_event(bot: u16, event: BotEvent) -> LiveSaying
     ensures { result ≡ shared_event bot event }
 {
     match event {
-        Event::Connect => Saying::Told(Command::Connect(bot)),
-        Event::Ask(_)
-        | Event::Pump
-        | Event::Bind(_)
-        | Event::Unbind(_)
-        | Event::Compact
-        | Event::Restart => Saying::Told(Command::Tell { bot, event }),
-        Event::Line(_) | Event::Receive(_) | Event::Clock(_) => Saying::Wrong,
+        BotEvent::Connect => LiveSaying::Told(LiveCommand::Connect(bot)),
+        BotEvent::Ask(_)
+        | BotEvent::Pump
+        | BotEvent::Bind(_)
+        | BotEvent::Unbind(_)
+        | BotEvent::Compact
+        | BotEvent::Restart => LiveSaying::Told(LiveCommand::Tell { bot, event }),
+        BotEvent::Line(_) | BotEvent::Receive(_) | BotEvent::Clock(_) => LiveSaying::Wrong,
     }
 }

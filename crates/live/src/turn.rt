@@ -6,11 +6,11 @@ ghost use Rattle.botcore.specs.Steps.{IsGoodEvent};
 ghost use Rattle.turns.specs.Turns.{AllGood};
 ghost use Rattle.live.specs.BotTurns.{TakesTurn};
 
+use crate::bot_sockets::BotSockets;
 use crate::error::LiveError;
 use crate::moment::Moment;
 use crate::network::Network;
-use crate::seat::Seat;
-use botcore::{Bot, End, Event};
+use botcore::{Bot, BotEvent, End};
 use bytetext::NoMemory;
 use procstore::{ProcStore, Promise, Run};
 use replay::SteadyDisk;
@@ -115,7 +115,7 @@ fn bot_turn<P: Promise, B: Run>(
     alloc: Global,
     bot: &mut Bot<SteadyDisk>,
     store: &ProcStore<P, B>,
-    seat: &mut Seat,
+    seat: &mut BotSockets,
     packets: Vec<Packet>,
     now: &Moment,
     pump: bool,
@@ -139,7 +139,7 @@ pub fn tell<P: Promise, B: Run>(
     net: &mut Network,
     store: &ProcStore<P, B>,
     place: usize,
-    event: Event,
+    event: BotEvent,
 ) -> Result<(), NoMemory>
     requires good { IsGoodEvent event }
 {

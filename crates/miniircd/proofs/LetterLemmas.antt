@@ -7,9 +7,9 @@ use Rattle.std.proofs.lemmas.List.Folds.{list_all-append}
 use Rattle.ircline.specs.Classes.{filled, octet, trailing}
 use Rattle.ircline.specs.Reading.{flush, line_at}
 use Rattle.ircline.proofs.GrammarLemmas.{nospcrlf_octets}
-use Rattle.miniircd.specs.declared.person.Person.{Person}
-use Rattle.miniircd.specs.declared.member.Member.{Member}
-use Rattle.miniircd.specs.declared.client.Sent.{Sent}
+use Rattle.miniircd.specs.declared.client_identity.ClientIdentity.{ClientIdentity}
+use Rattle.miniircd.specs.declared.member.ServerMember.{ServerMember}
+use Rattle.miniircd.specs.declared.client.SentLine.{SentLine}
 use Rattle.miniircd.specs.Mail.{Letter, sealed, serves, delivery, deliveries, is_message, is_readable, is_line, sent}
 use Rattle.miniircd.specs.Lines.{Relays, relay, repeated, numbered, letter, told, spread}
 use Rattle.miniircd.specs.Whole.{is_held, are_clients}
@@ -19,7 +19,7 @@ use Rattle.miniircd.proofs.ListLemmas.{list_all-taken}
 
 -- ---- letters that go out as they are
 
-abbrev pub arrives : List (Option Person) → Letter → Bool
+abbrev pub arrives : List (Option ClientIdentity) → Letter → Bool
 arrives clients letter = is_held clients letter.to && (is_line letter.text && is_readable letter.text)
 
 filter_all : (p : ℕ → Bool) (xs : List ℕ) → list_all p xs ≡ true → filter p xs ≡ xs
@@ -35,7 +35,7 @@ sealed_line text is =
     let more = and_parts (nat_le (length text) 510) (list_all octet text) parts.1 in
     ap (take 510) (filter_all octet text more.1) ∙ take_all 510 text (leb-true (length text) 510 more.0)
 
-delivered_one : (clients : List (Option Person)) (one : Letter) → arrives clients one ≡ true → delivery clients None one ≡ sent one ∷ []
+delivered_one : (clients : List (Option ClientIdentity)) (one : Letter) → arrives clients one ≡ true → delivery clients None one ≡ sent one ∷ []
 delivered_one clients one is =
     let parts = and_parts (is_held clients one.to) (is_line one.text && is_readable one.text) is in
     let line = (and_parts (is_line one.text) (is_readable one.text) parts.1).0 in
@@ -46,7 +46,7 @@ delivered_one clients one is =
     let out : List ℕ → List Sent = λ line. record { to = record { 0 = one.to }; line = line } ∷ [] in
     cond-true (filled (sealed one.text) && serves clients None one.to) (out (sealed one.text)) [] goes ∙ ap out seal
 
-pub delivered : (clients : List (Option Person)) (letters : List Letter) → list_all (arrives clients) letters ≡ true
+pub delivered : (clients : List (Option ClientIdentity)) (letters : List Letter) → list_all (arrives clients) letters ≡ true
     → deliveries clients None letters ≡ map sent letters
 delivered clients [] all = refl
 delivered clients (one ∷ letters) all =
@@ -57,15 +57,15 @@ delivered clients (one ∷ letters) all =
 -- ---- replies
 
 -- a client that is held and has given a nick
-pub record Speaks (clients : List (Option Person)) (client : ℕ) (p : Person) : Type 0 where
+pub record Speaks (clients : List (Option ClientIdentity)) (client : ℕ) (p : ClientIdentity) : Type 0 where
   pub held : is_held clients client ≡ true
   pub named : filled p.nick ≡ true
   pub texts : Texts p
 
-abbrev pub all_arrive : List (Option Person) → List Letter → Type 0
+abbrev pub all_arrive : List (Option ClientIdentity) → List Letter → Type 0
 all_arrive clients letters = list_all (arrives clients) letters ≡ true
 
-pub told_arrives : (clients : List (Option Person)) (client : ℕ) (p : Person) (code words last : List ℕ) → Speaks clients client p
+pub told_arrives : (clients : List (Option ClientIdentity)) (client : ℕ) (p : ClientIdentity) (code words last : List ℕ) → Speaks clients client p
     → list_all octet code ≡ true → length code ≤ 3 → list_all octet words ≡ true → length words ≤ 400 → trailing last ≡ true
     → is_message (line_at (flush (numbered p.nick code words last))) ≡ true
     → arrives clients (told client p code words last) ≡ true
@@ -79,21 +79,21 @@ repeated_octets word is = list_all-taken octet 100 word is
 pub repeated_short : (word : List ℕ) → length (repeated word) ≤ 101
 repeated_short word = omega (arith, length-take 100 word)
 
-pub reply_arrives : (clients : List (Option Person)) (client : ℕ) (p : Person) (code word last : List ℕ) → Speaks clients client p
+pub reply_arrives : (clients : List (Option ClientIdentity)) (client : ℕ) (p : ClientIdentity) (code word last : List ℕ) → Speaks clients client p
     → list_all octet code ≡ true → length code ≤ 3 → trailing word ≡ true → trailing last ≡ true
     → is_message (line_at (flush (numbered p.nick code (repeated word) last))) ≡ true
     → arrives clients (told client p code (repeated word) last) ≡ true
 reply_arrives clients client p code word last by k short w l reads =
     told_arrives clients client p code (repeated word) last by k short (repeated_octets word w) (omega (arith, repeated_short word)) l reads
 
-pub alone : (clients : List (Option Person)) (one : Letter) → arrives clients one ≡ true → all_arrive clients (one ∷ [])
+pub alone : (clients : List (Option ClientIdentity)) (one : Letter) → arrives clients one ≡ true → all_arrive clients (one ∷ [])
 alone clients one is = and_from (arrives clients one) true is refl
 
-pub together : (clients : List (Option Person)) (a b : List Letter) → all_arrive clients a → all_arrive clients b
+pub together : (clients : List (Option ClientIdentity)) (a b : List Letter) → all_arrive clients a → all_arrive clients b
     → all_arrive clients (a ++ b)
 together clients a b x y = list_all-append (arrives clients) a b ∙ and_from _ _ x y
 
-pub spread_arrives : (clients : List (Option Person)) (text : List ℕ) (members : List Member) → (is_line text && is_readable text) ≡ true
+pub spread_arrives : (clients : List (Option ClientIdentity)) (text : List ℕ) (members : List ServerMember) → (is_line text && is_readable text) ≡ true
     → are_clients (is_held clients) members ≡ true → all_arrive clients (spread text members)
 spread_arrives clients text [] is all = refl
 spread_arrives clients text (m ∷ members) is all =

@@ -5,8 +5,8 @@ use Rattle.std.proofs.lemmas.Bool.{and_from, and_parts, le-leb}
 use Rattle.std.proofs.lemmas.List.{length-take, append-nil}
 use Rattle.std.proofs.lemmas.List.Folds.{list_all-append}
 use Rattle.ircline.specs.Classes.{filled, octet}
-use Rattle.miniircd.specs.declared.person.Person.{Person}
-use Rattle.miniircd.specs.declared.client.Sent.{Sent}
+use Rattle.miniircd.specs.declared.client_identity.ClientIdentity.{ClientIdentity}
+use Rattle.miniircd.specs.declared.client.SentLine.{SentLine}
 use Rattle.miniircd.specs.Mail.{Mail, Letter, sealed, serves, delivery, deliveries, posted, is_sound, are_sound}
 use Rattle.miniircd.proofs.ListLemmas.{list_all-taken}
 
@@ -28,7 +28,7 @@ sealed-short text = le-leb _ _ (omega (arith, length-take 510 (filter octet text
 sealed-octets : (text : List ℕ) → list_all octet (sealed text) ≡ true
 sealed-octets text = list_all-taken octet 510 (filter octet text) (list_all-filter octet text)
 
-pub are_sound-more : (clients : List (Option Person)) (leaver : Option ℕ) (lines : List Sent) (to : ℕ) (text line : List ℕ)
+pub are_sound-more : (clients : List (Option ClientIdentity)) (leaver : Option ℕ) (lines : List SentLine) (to : ℕ) (text line : List ℕ)
     → are_sound clients leaver lines ≡ true → line ≡ sealed text → (filled line && serves clients leaver to) ≡ true
     → are_sound clients leaver (lines ++ record { to = record { 0 = to }; line = line } ∷ []) ≡ true
 are_sound-more clients leaver lines to text line sound is goes =
@@ -41,7 +41,7 @@ are_sound-more clients leaver lines to text line sound is goes =
 
 -- ---- letters, one after another
 
-deliveries-append : (clients : List (Option Person)) (leaver : Option ℕ) (a b : List Letter)
+deliveries-append : (clients : List (Option ClientIdentity)) (leaver : Option ℕ) (a b : List Letter)
     → deliveries clients leaver (a ++ b) ≡ deliveries clients leaver a ++ deliveries clients leaver b
 deliveries-append clients leaver [] b = refl
 deliveries-append clients leaver (letter ∷ a) b =

@@ -9,7 +9,7 @@ use Rattle.ircline.specs.Sources.{nick_of}
 use Rattle.ircline.specs.Words.{holds, before}
 use Rattle.ircline.proofs.GrammarLemmas.{nospcrlf_octets}
 use Rattle.ircline.proofs.TextLemmas.{all-weaker, apart, joined_at}
-use Rattle.miniircd.specs.declared.person.Person.{Person}
+use Rattle.miniircd.specs.declared.client_identity.ClientIdentity.{ClientIdentity}
 use Rattle.miniircd.specs.Lines.{source_of}
 use Rattle.miniircd.specs.Commands.{is_nick_byte, is_nick}
 use Rattle.miniircd.specs.Whole.{is_sound_person}
@@ -27,7 +27,7 @@ nick_byte-word b is =
     rw (nul, cr, lf, space) refl
 
 -- what the texts of a client are
-pub record Texts (p : Person) : Type 0 where
+pub record Texts (p : ClientIdentity) : Type 0 where
   pub nick : list_all nospcrlf p.nick ≡ true
   pub nick_short : length p.nick ≤ 30
   pub nick_plain : list_all (λ b. not (b == 33)) p.nick ≡ true
@@ -50,23 +50,23 @@ nick_texts nick is =
           )
     ]
 
-pub texts : (p : Person) → is_sound_person p ≡ true → Texts p
+pub texts : (p : ClientIdentity) → is_sound_person p ≡ true → Texts p
 texts p is =
     let parts = and_parts (not (filled p.nick) || is_nick p.nick) (nat_le (length p.user) 30 && list_all nospcrlf p.user) is in
     let user = and_parts (nat_le (length p.user) 30) (list_all nospcrlf p.user) parts.1 in
     let nick = nick_texts p.nick parts.0 in
     record { nick = nick.0; nick_short = nick.1; nick_plain = nick.2; user = user.1; user_short = leb-true (length p.user) 30 user.0 }
 
-pub source_octets : (p : Person) → Texts p → list_all octet (source_of p) ≡ true
+pub source_octets : (p : ClientIdentity) → Texts p → list_all octet (source_of p) ≡ true
 source_octets p t =
     let n = nospcrlf_octets p.nick t.nick in
     let u = nospcrlf_octets p.user t.user in
     simp (list_all-append, n, u)
 
-length-source : (p : Person) → length (source_of p) ≡ length p.nick + (length p.user + 7)
+length-source : (p : ClientIdentity) → length (source_of p) ≡ length p.nick + (length p.user + 7)
 length-source p = simp length-append (omega arith)
 
-pub source_short : (p : Person) → Texts p → length (source_of p) ≤ 67
+pub source_short : (p : ClientIdentity) → Texts p → length (source_of p) ≤ 67
 source_short p t =
     let whole = length-source p in
     let nick = t.nick_short in
@@ -74,7 +74,7 @@ source_short p t =
     omega arith
 
 -- the source of one who has given a nick names it
-pub source_names : (p : Person) → Texts p → filled p.nick ≡ true → names (source_of p) ≡ true
+pub source_names : (p : ClientIdentity) → Texts p → filled p.nick ≡ true → names (source_of p) ≡ true
 source_names p t there =
     let n = t.nick in
     let u = t.user in
@@ -88,5 +88,5 @@ source_names p t there =
     ∙ (joined_at (λ b. b == 33) p.nick back t.nick_plain refl).0 in
     and_from _ _ words (ap filled (ap nick_of split ∙ nick) ∙ there)
 
-pub source_filled : (p : Person) → filled (source_of p) ≡ true
+pub source_filled : (p : ClientIdentity) → filled (source_of p) ≡ true
 source_filled p = lt-ltb 0 (length (source_of p)) (omega (arith, length-source p))

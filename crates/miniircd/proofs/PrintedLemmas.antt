@@ -11,7 +11,7 @@ use Rattle.ircline.specs.Words.{holds}
 use Rattle.ircline.specs.Reading.{flush, line_at}
 use Rattle.ircline.specs.Printing.{wants_colon, last_text, canonical, ReadsBack}
 use Rattle.ircline.specs.declared.line.Line.TheVariants as line
-use Rattle.ircline.specs.declared.fault.Fault.TheVariants as fault
+use Rattle.ircline.specs.declared.fault.LineFault.TheVariants as fault
 use Rattle.ircline.proofs.TextLemmas.{all-append, octet-nul, none-all}
 use Rattle.ircline.proofs.PrintingLemmas.{carried_reads}
 use Rattle.miniircd.specs.Rooms.{room}

@@ -13,12 +13,12 @@ use Rattle.ircline.specs.declared.line.Line.TheVariants as line
 use Rattle.ircline.specs.declared.message.Message.{Message}
 use Rattle.ircline.proofs.TextLemmas.{all-append, all-weaker, apart}
 use Rattle.ircline.proofs.GrammarLemmas.{nospcrlf_octets}
-use Rattle.miniircd.specs.declared.person.Person.{Person}
-use Rattle.miniircd.specs.declared.member.Member.{Member}
-use Rattle.miniircd.specs.declared.member.Channel.{Channel}
-use Rattle.miniircd.specs.declared.client.Sent.{Sent}
-use Rattle.miniircd.specs.declared.command.Command.{Command}
-use Rattle.miniircd.specs.declared.command.Command.TheVariants as command
+use Rattle.miniircd.specs.declared.client_identity.ClientIdentity.{ClientIdentity}
+use Rattle.miniircd.specs.declared.member.ServerMember.{ServerMember}
+use Rattle.miniircd.specs.declared.member.ServerChannel.{ServerChannel}
+use Rattle.miniircd.specs.declared.client.SentLine.{SentLine}
+use Rattle.miniircd.specs.declared.client_command.ClientCommand.{ClientCommand}
+use Rattle.miniircd.specs.declared.client_command.ClientCommand.TheVariants as command
 use Rattle.miniircd.specs.People.{held_at, word_at, is_registered}
 use Rattle.miniircd.specs.declared.entrance.Entrance.{Entrance}
 use Rattle.miniircd.specs.declared.entrance.Entrance.TheVariants as entrance
@@ -38,16 +38,16 @@ use Rattle.miniircd.proofs.ListLemmas.{list_all-taken, list_all-dropped}
 
 -- ---- names
 
-marks_octets : (m : Member) → list_all octet (marks m) ≡ true
+marks_octets : (m : ServerMember) → list_all octet (marks m) ≡ true
 marks_octets m =
     cond_both m.op (codes "@") (cond m.voice (codes "+") []) (λ l. list_all octet l ≡ true) (λ b. refl)
     (λ b. cond_both m.voice (codes "+") [] (λ l. list_all octet l ≡ true) (λ k. refl) (λ k. refl))
 
-name_texts : (slot : Option Person) (m : Member) → is_sound_slot slot ≡ true → list_all trailing (name_of slot m) ≡ true
+name_texts : (slot : Option ClientIdentity) (m : ServerMember) → is_sound_slot slot ≡ true → list_all trailing (name_of slot m) ≡ true
 name_texts None m is = refl
 name_texts (Some p) m is = and_from _ true (all-append octet (marks m) p.nick (marks_octets m) (nospcrlf_octets p.nick (texts p is).nick)) refl
 
-names_texts : (clients : List (Option Person)) (members : List Member) → ((k : ℕ) → is_sound_slot (held_at clients k) ≡ true)
+names_texts : (clients : List (Option ClientIdentity)) (members : List ServerMember) → ((k : ℕ) → is_sound_slot (held_at clients k) ≡ true)
     → list_all trailing (names_of clients members) ≡ true
 names_texts clients [] all = refl
 names_texts clients (m ∷ members) all =
@@ -66,14 +66,14 @@ row_octets names i all =
     list_all-dropped octet 1 (flat_map (λ name. 32 ∷ name) some)
     (spaced_octets some (list_all-taken trailing 10 (drop (10 * i) names) (list_all-dropped trailing (10 * i) names all)))
 
-listed_arrives : (clients : List (Option Person)) (client : ℕ) (p : Person) (name : List ℕ) (names : List (List ℕ)) (i : ℕ)
+listed_arrives : (clients : List (Option ClientIdentity)) (client : ℕ) (p : ClientIdentity) (name : List ℕ) (names : List (List ℕ)) (i : ℕ)
     → Speaks clients client p → trailing name ≡ true → list_all trailing names ≡ true
     → arrives clients (listed client p name names i) ≡ true
 listed_arrives clients client p name names i by is all =
     told_arrives clients client p (codes "353") (codes " =" ++ repeated name) (row names i) by refl (omega arith)
     (repeated_octets name is) (omega (arith, repeated_short name)) (row_octets names i all) refl
 
-listed_before_arrive : (clients : List (Option Person)) (client : ℕ) (p : Person) (name : List ℕ) (names : List (List ℕ)) (i : ℕ)
+listed_before_arrive : (clients : List (Option ClientIdentity)) (client : ℕ) (p : ClientIdentity) (name : List ℕ) (names : List (List ℕ)) (i : ℕ)
     → Speaks clients client p → trailing name ≡ true → list_all trailing names ≡ true
     → all_arrive clients (listed_before client p name names i)
 unfolding listed_before
@@ -83,7 +83,7 @@ listed_before_arrive clients client p name names (suc i) by is all =
     (listed_before_arrive clients client p name names i by is all)
     (alone clients (listed client p name names i) (listed_arrives clients client p name names i by is all))
 
-listing_arrives : (clients : List (Option Person)) (client : ℕ) (p : Person) (name : List ℕ) (names : List (List ℕ))
+listing_arrives : (clients : List (Option ClientIdentity)) (client : ℕ) (p : ClientIdentity) (name : List ℕ) (names : List (List ℕ))
     → Speaks clients client p → trailing name ≡ true → list_all trailing names ≡ true → all_arrive clients (listing client p name names)
 listing_arrives clients client p name names by is all =
     let lines = (length names + 10 - 1) / 10 in
@@ -93,14 +93,14 @@ listing_arrives clients client p name names by is all =
 
 -- ---- JOIN
 
-titling_arrives : (clients : List (Option Person)) (client : ℕ) (p : Person) (name topic : List ℕ)
+titling_arrives : (clients : List (Option ClientIdentity)) (client : ℕ) (p : ClientIdentity) (name topic : List ℕ)
     → Speaks clients client p → trailing name ≡ true → trailing topic ≡ true → all_arrive clients (titling client p name topic)
 titling_arrives clients client p name topic by is more =
     let one = told client p (codes "332") (repeated name) topic in
     cond_both (filled topic) (one ∷ []) [] (λ l. all_arrive clients l)
     (λ b. alone clients one (reply_arrives clients client p (codes "332") name topic by refl (omega arith) is more refl)) (λ b. refl)
 
-join_goes : (p : Person) (name : List ℕ) → Texts p → filled p.nick ≡ true → trailing name ≡ true
+join_goes : (p : ClientIdentity) (name : List ℕ) → Texts p → filled p.nick ≡ true → trailing name ≡ true
     → (is_line (relayed (source_of p) (codes "JOIN") [] name) && is_readable (relayed (source_of p) (codes "JOIN") [] name)) ≡ true
 join_goes p name t named is =
     let size = length-head (source_of p) (codes "JOIN") [] in
@@ -116,7 +116,7 @@ join_goes p name t named is =
     } in
     relay_goes (source_of p) (codes "JOIN") name [] parts (source_octets p t) refl refl
 
-arrival_arrives : (client : ℕ) (p : Person) (name : List ℕ) (clients : List (Option Person)) (channel : Option Channel)
+arrival_arrives : (client : ℕ) (p : ClientIdentity) (name : List ℕ) (clients : List (Option ClientIdentity)) (channel : Option ServerChannel)
     → ((k : ℕ) → is_sound_slot (held_at clients k) ≡ true) → Speaks clients client p → trailing name ≡ true
     → is_sound_room (is_held clients) channel ≡ true → all_arrive clients (arrival client p name clients channel)
 arrival_arrives client p name clients None people by is sound = refl
@@ -130,7 +130,7 @@ arrival_arrives client p name clients (Some channel) people by is sound =
     (titling_arrives clients client p name channel.topic by is parts.1))
     (listing_arrives clients client p name names by is (names_texts clients channel.members people))
 
-by_entrance : (by : Entrance) (client : ℕ) (p : Person) (clients : List (Option Person)) (name : List ℕ) (after : List Channel)
+by_entrance : (by : Entrance) (client : ℕ) (p : ClientIdentity) (clients : List (Option ClientIdentity)) (name : List ℕ) (after : List ServerChannel)
     → ((k : ℕ) → is_sound_slot (held_at clients k) ≡ true) → Speaks clients client p → trailing name ≡ true
     → are_sound_channels (is_held clients) after ≡ true → all_arrive clients (join_letters_by by client p clients name after)
 by_entrance entrance.Nameless client p clients name after people by is all =
@@ -146,14 +146,14 @@ by_entrance entrance.Banned client p clients name after people by is all =
 by_entrance entrance.Open client p clients name after people by is all =
     arrival_arrives client p name clients (room name after) people by is (room_sound (is_held clients) name after all)
 
-join_arrives : (client : ℕ) (p : Person) (clients : List (Option Person)) (name : List ℕ) (channels : List Channel)
+join_arrives : (client : ℕ) (p : ClientIdentity) (clients : List (Option ClientIdentity)) (name : List ℕ) (channels : List ServerChannel)
     → IsWhole clients channels → Speaks clients client p → trailing name ≡ true
     → all_arrive clients (join_letters client p clients name channels)
 join_arrives client p clients name channels whole by is =
     by_entrance (entrance_of client (source_of p) name channels) client p clients name (joined client (source_of p) name channels)
     whole.people by is (joined_keeps (is_held clients) client (source_of p) name channels by.held whole.rooms)
 
-join_each_arrives : (client : ℕ) (p : Person) (clients : List (Option Person)) (names : List (List ℕ)) (channels : List Channel)
+join_each_arrives : (client : ℕ) (p : ClientIdentity) (clients : List (Option ClientIdentity)) (names : List (List ℕ)) (channels : List ServerChannel)
     → IsWhole clients channels → Speaks clients client p → list_all trailing names ≡ true
     → all_arrive clients (join_letters_each client p clients names channels)
 join_each_arrives client p clients [] channels whole by all = refl
@@ -186,7 +186,7 @@ split_texts test (b ∷ bs) is =
 
 -- ---- PING, and too few parameters
 
-pong_arrives : (clients : List (Option Person)) (client : ℕ) (text : List ℕ) → is_held clients client ≡ true → trailing text ≡ true
+pong_arrives : (clients : List (Option ClientIdentity)) (client : ℕ) (text : List ℕ) → is_held clients client ≡ true → trailing text ≡ true
     → arrives clients (pong client text) ≡ true
 pong_arrives clients client text held is =
     let parts : Relays (codes "irc.test") (codes "PONG") text (codes "irc.test" ∷ []) = record {
@@ -216,17 +216,17 @@ command_text c is =
 -- ---- a message
 
 -- the letters, if they are stated, arrive
-abbrev go_out : List (Option Person) → Option (List Letter) → Type 0
+abbrev go_out : List (Option ClientIdentity) → Option (List Letter) → Type 0
 go_out clients None = Unit {0}
 go_out clients (Some letters) = all_arrive clients letters
 
-few_arrives : (clients : List (Option Person)) (client : ℕ) (p : Person) (word : List ℕ) → Speaks clients client p → trailing word ≡ true
+few_arrives : (clients : List (Option ClientIdentity)) (client : ℕ) (p : ClientIdentity) (word : List ℕ) → Speaks clients client p → trailing word ≡ true
     → all_arrive clients (too_few client p word ∷ [])
 few_arrives clients client p word by is =
     alone clients (too_few client p word) (reply_arrives clients client p (codes "461") word
     (codes "Need more parameters") by refl (omega arith) is refl refl)
 
-of_few_arrives : (clients : List (Option Person)) (c : Command) (client : ℕ) (p : Person) (word : List ℕ) → Speaks clients client p
+of_few_arrives : (clients : List (Option ClientIdentity)) (c : ClientCommand) (client : ℕ) (p : ClientIdentity) (word : List ℕ) → Speaks clients client p
     → trailing word ≡ true → go_out clients (exact_of_few c client p word)
 of_few_arrives clients command.Notice client p word by is = refl
 of_few_arrives clients command.Ping client p word by is = few_arrives clients client p word by is
@@ -244,7 +244,7 @@ of_few_arrives clients command.Quit client p word by is = tt
 of_few_arrives clients (command.Ask asked) client p word by is = tt
 of_few_arrives clients command.Unknown client p word by is = tt
 
-by_arrives : (c : Command) (client : ℕ) (p : Person) (clients : List (Option Person)) (channels : List Channel) (ps : List (List ℕ))
+by_arrives : (c : ClientCommand) (client : ℕ) (p : ClientIdentity) (clients : List (Option ClientIdentity)) (channels : List ServerChannel) (ps : List (List ℕ))
     → IsWhole clients channels → Speaks clients client p → carries_params ps ≡ true → needed c ≤ length ps
     → go_out clients (exact_by c client p clients channels ps)
 by_arrives command.Ping client p clients channels ps whole by carried enough =
@@ -270,11 +270,11 @@ by_arrives command.Quit client p clients channels ps whole by carried enough = t
 by_arrives (command.Ask asked) client p clients channels ps whole by carried enough = tt
 by_arrives command.Unknown client p clients channels ps whole by carried enough = tt
 
-the_speaker : (clients : List (Option Person)) (client : ℕ) (p : Person) → is_held clients client ≡ true → Texts p → filled p.nick ≡ true
+the_speaker : (clients : List (Option ClientIdentity)) (client : ℕ) (p : ClientIdentity) → is_held clients client ≡ true → Texts p → filled p.nick ≡ true
     → Speaks clients client p
 the_speaker clients client p held t named = record { held = held; named = named; texts = t }
 
-exact_arrives : (client : ℕ) (p : Person) (clients : List (Option Person)) (channels : List Channel) (m : Message)
+exact_arrives : (client : ℕ) (p : ClientIdentity) (clients : List (Option ClientIdentity)) (channels : List ServerChannel) (m : Message)
     → IsWhole clients channels → is_held clients client ≡ true → Texts p → kept_command m.command ≡ true → carries_params m.params ≡ true
     → go_out clients (exact_letters client p clients channels m)
 exact_arrives client p clients channels m whole held t word carried =
@@ -290,7 +290,7 @@ exact_arrives client p clients channels m whole held t word carried =
 
 -- ---- a line
 
-line_arrives : (client : ℕ) (p : Person) (text : List ℕ) (read : Line) (s : Server) → IsWhole s.clients s.channels
+line_arrives : (client : ℕ) (p : ClientIdentity) (text : List ℕ) (read : Line) (s : Server) → IsWhole s.clients s.channels
     → is_held s.clients client ≡ true → Texts p
     → line_of (up_to is_end text) ≡ read → go_out s.clients (letters_of client p read s)
 line_arrives client p text (line.Message m) s whole held t reads =
@@ -300,7 +300,7 @@ line_arrives client p text (line.Message m) s whole held t reads =
     (λ b. exact_arrives client p s.clients s.channels m whole held t parts.0 parts.3)
 line_arrives client p text (line.Bad fault) s whole held t reads = refl
 
-all_readable : (clients : List (Option Person)) (letters : List Letter) → all_arrive clients letters
+all_readable : (clients : List (Option ClientIdentity)) (letters : List Letter) → all_arrive clients letters
     → list_all (λ s. is_readable s.line) (map sent letters) ≡ true
 all_readable clients [] all = refl
 all_readable clients (one ∷ letters) all =
@@ -309,15 +309,15 @@ all_readable clients (one ∷ letters) all =
     (and_parts (is_held clients one.to) (is_line one.text && is_readable one.text) parts.0).1 in
     and_from _ _ line.1 (all_readable clients letters parts.1)
 
-told_as_is : (clients : List (Option Person)) (letters : Option (List Letter)) (lines : List Sent) → go_out clients letters
+told_as_is : (clients : List (Option ClientIdentity)) (letters : Option (List Letter)) (lines : List SentLine) → go_out clients letters
     → IfSome letters (λ ls. lines ≡ deliveries clients None ls) → IfSome letters (λ ls. IsTold ls lines)
 told_as_is clients None lines out told = told
 told_as_is clients (Some letters) lines out told =
     let same = told ∙ delivered clients letters out in
-    record { as_they_are = same; readable = ap (list_all (λ (s : Sent). is_readable s.line)) same ∙ all_readable clients letters out }
+    record { as_they_are = same; readable = ap (list_all (λ (s : SentLine). is_readable s.line)) same ∙ all_readable clients letters out }
 
 -- what goes out of a line of a client that is held is its letters as they are
-pub told_whole : (client : ℕ) (p : Person) (text : List ℕ) (s : Server) (lines : List Sent) → IsWhole s.clients s.channels
+pub told_whole : (client : ℕ) (p : ClientIdentity) (text : List ℕ) (s : Server) (lines : List SentLine) → IsWhole s.clients s.channels
     → held_at s.clients client ≡ Some p
     → IfSome (letters_of client p (line_of (up_to is_end text)) s) (λ ls. lines ≡ deliveries s.clients None ls)
     → IfSome (letters client text s) (λ ls. IsTold ls lines)

@@ -17,14 +17,14 @@ use Rattle.ircline.proofs.GrammarLemmas.{middle_all, nospcrlf_octets}
 use Rattle.ircline.proofs.PrintingLemmas.{parts_carried}
 use Rattle.ircline.proofs.TextLemmas.{none-all, all-up_to}
 use Rattle.ircline.specs.declared.message.Message.{Message}
-use Rattle.miniircd.specs.declared.person.Person.{Person}
-use Rattle.miniircd.specs.declared.member.Member.{Member}
-use Rattle.miniircd.specs.declared.member.Channel.{Channel}
-use Rattle.miniircd.specs.declared.command.Command.{Command}
-use Rattle.miniircd.specs.declared.command.Command.TheVariants as command
-use Rattle.miniircd.specs.declared.change.Change.{Change}
-use Rattle.miniircd.specs.declared.change.Change.TheVariants as change
-use Rattle.miniircd.specs.declared.change.Effect.{Effect}
+use Rattle.miniircd.specs.declared.client_identity.ClientIdentity.{ClientIdentity}
+use Rattle.miniircd.specs.declared.member.ServerMember.{ServerMember}
+use Rattle.miniircd.specs.declared.member.ServerChannel.{ServerChannel}
+use Rattle.miniircd.specs.declared.client_command.ClientCommand.{ClientCommand}
+use Rattle.miniircd.specs.declared.client_command.ClientCommand.TheVariants as command
+use Rattle.miniircd.specs.declared.server_change.ServerChange.{ServerChange}
+use Rattle.miniircd.specs.declared.server_change.ServerChange.TheVariants as change
+use Rattle.miniircd.specs.declared.server_change.Effect.{Effect}
 use Rattle.miniircd.specs.declared.standing.Standing.{Standing}
 use Rattle.miniircd.specs.declared.standing.Standing.TheVariants as standing
 use Rattle.miniircd.specs.declared.modes.Single.{Single}
@@ -42,8 +42,8 @@ use Rattle.miniircd.proofs.ListLemmas.{list_all-filtered, list_all-mapped, list_
 -- ---- channels that all pass
 
 -- what is kept of the channels after an edit
-rooms_pass : (p q : Channel → Bool) (f : Channel → Channel) → ((channel : Channel) → p channel ≡ true → q (f channel) ≡ true)
-    → (channels : List Channel) → list_all p channels ≡ true → list_all q (filter is_used (map f channels)) ≡ true
+rooms_pass : (p q : ServerChannel → Bool) (f : ServerChannel → ServerChannel) → ((channel : ServerChannel) → p channel ≡ true → q (f channel) ≡ true)
+    → (channels : List ServerChannel) → list_all p channels ≡ true → list_all q (filter is_used (map f channels)) ≡ true
 rooms_pass p q f step channels all =
     list_all-filtered q q is_used (λ channel is used. is) (map f channels) (list_all-mapped p q f step channels all)
 
@@ -57,30 +57,30 @@ is_sound_edit test (Title topic) = trailing topic
 is_sound_edit test (Mark client is_voice on) = true
 is_sound_edit test (Ban text on) = true
 
-marked_client : (client : ℕ) (is_voice on : Bool) (m : Member) → (marked client is_voice on m).client ≡ m.client
+marked_client : (client : ℕ) (is_voice on : Bool) (m : ServerMember) → (marked client is_voice on m).client ≡ m.client
 marked_client client is_voice on m =
     let voiced = record m { voice = on } in
     let opped = record m { op = on } in
-    cond_both (is_client client m) (cond is_voice voiced opped) m (λ (x : Member). x.client ≡ m.client)
-    (λ is. cond_both is_voice voiced opped (λ (x : Member). x.client ≡ m.client) (λ b. refl) (λ b. refl)) (λ isnt. refl)
+    cond_both (is_client client m) (cond is_voice voiced opped) m (λ (x : ServerMember). x.client ≡ m.client)
+    (λ is. cond_both is_voice voiced opped (λ (x : ServerMember). x.client ≡ m.client) (λ b. refl) (λ b. refl)) (λ isnt. refl)
 
-members_pass : (test : ℕ → Bool) (edit : Edition) (members : List Member) → is_sound_edit test edit ≡ true → are_clients test members ≡ true
+members_pass : (test : ℕ → Bool) (edit : Edition) (members : List ServerMember) → is_sound_edit test edit ≡ true → are_clients test members ≡ true
     → are_clients test (members_after edit members) ≡ true
 members_pass test (Enter client) members is all =
-    list_all-append (λ (m : Member). test m.client) members (plain client ∷ []) ∙ and_from _ _ all (and_from _ true is refl)
+    list_all-append (λ (m : ServerMember). test m.client) members (plain client ∷ []) ∙ and_from _ _ all (and_from _ true is refl)
 members_pass test (Leave client) members is all =
-    list_all-filtered (λ (m : Member). test m.client) (λ (m : Member). test m.client) (λ m. not (is_client client m))
+    list_all-filtered (λ (m : ServerMember). test m.client) (λ (m : ServerMember). test m.client) (λ m. not (is_client client m))
     (λ m there other. there) members all
 members_pass test (Title topic) members is all = all
 members_pass test (Ban text on) members is all = all
 members_pass test (Mark client is_voice on) members is all =
-    list_all-mapped (λ (m : Member). test m.client) (λ (m : Member). test m.client) (marked client is_voice on)
+    list_all-mapped (λ (m : ServerMember). test m.client) (λ (m : ServerMember). test m.client) (marked client is_voice on)
     (λ m there. ap test (marked_client client is_voice on m) ∙ there) members all
 
 members_left : (test next : ℕ → Bool) (client : ℕ) → ((k : ℕ) → test k ≡ true → k ≢ client → next k ≡ true)
-    → (members : List Member) → are_clients test members ≡ true → are_clients next (members_after (Leave client) members) ≡ true
+    → (members : List ServerMember) → are_clients test members ≡ true → are_clients next (members_after (Leave client) members) ≡ true
 members_left test next client step members all =
-    list_all-filtered (λ (m : Member). test m.client) (λ (m : Member). next m.client) (λ m. not (is_client client m))
+    list_all-filtered (λ (m : ServerMember). test m.client) (λ (m : ServerMember). next m.client) (λ m. not (is_client client m))
     (λ m there other. step m.client there (λ same. let is : (m.client == client) ≡ true = grind
     (arith, nat_tests) in let differs = not-true (m.client == client) other in cc))
     members all
@@ -95,28 +95,28 @@ topic_passes test (Leave client) topic is old = old
 topic_passes test (Title new) topic is old = is
 topic_passes test (Mark client is_voice on) topic is old = old
 
-edited_passes : (test : ℕ → Bool) (edit : Edition) (channel : Channel) → is_sound_edit test edit ≡ true
+edited_passes : (test : ℕ → Bool) (edit : Edition) (channel : ServerChannel) → is_sound_edit test edit ≡ true
     → is_sound_channel test channel ≡ true → is_sound_channel test (edited edit channel) ≡ true
 edited_passes test edit channel is there =
     let parts = and_parts (are_clients test channel.members) (trailing channel.topic) there in
     and_from _ _ (members_pass test edit channel.members is parts.0) (topic_passes test edit channel.topic is parts.1)
 
-rooms_keep : (test : ℕ → Bool) (name : Option (List ℕ)) (edit : Edition) (channels : List Channel) → is_sound_edit test edit ≡ true
+rooms_keep : (test : ℕ → Bool) (name : Option (List ℕ)) (edit : Edition) (channels : List ServerChannel) → is_sound_edit test edit ≡ true
     → are_sound_channels test channels ≡ true → are_sound_channels test (rooms_after name edit channels) ≡ true
 rooms_keep test name edit channels is all =
     rooms_pass (is_sound_channel test) (is_sound_channel test) (edited_if name edit)
-    (λ channel there. cond_both (concerns name channel) (edited edit channel) channel (λ (c : Channel). is_sound_channel test c ≡ true)
+    (λ channel there. cond_both (concerns name channel) (edited edit channel) channel (λ (c : ServerChannel). is_sound_channel test c ≡ true)
     (λ b. edited_passes test edit channel is there) (λ b. there))
     channels all
 
 channel_left : (test next : ℕ → Bool) (client : ℕ) → ((k : ℕ) → test k ≡ true → k ≢ client → next k ≡ true)
-    → (channel : Channel) → is_sound_channel test channel ≡ true → is_sound_channel next (edited (Leave client) channel) ≡ true
+    → (channel : ServerChannel) → is_sound_channel test channel ≡ true → is_sound_channel next (edited (Leave client) channel) ≡ true
 channel_left test next client step channel there =
     let parts = and_parts (are_clients test channel.members) (trailing channel.topic) there in
     and_from _ _ (members_left test next client step channel.members parts.0) parts.1
 
 pub rooms_left : (test next : ℕ → Bool) (client : ℕ) → ((k : ℕ) → test k ≡ true → k ≢ client → next k ≡ true)
-    → (channels : List Channel) → are_sound_channels test channels ≡ true
+    → (channels : List ServerChannel) → are_sound_channels test channels ≡ true
     → are_sound_channels next (rooms_after None (Leave client) channels) ≡ true
 rooms_left test next client step channels all =
     rooms_pass (is_sound_channel test) (is_sound_channel next) (edited_if None (Leave client))
@@ -127,7 +127,7 @@ rooms_left test next client step channels all =
 opened_passes : (test : ℕ → Bool) (name : List ℕ) (client : ℕ) → test client ≡ true → is_sound_channel test (opened name client) ≡ true
 opened_passes test name client is = and_from _ true (and_from _ true is refl) refl
 
-at_keeps : (test : ℕ → Bool) (place : Option ℕ) (name : List ℕ) (client : ℕ) (channels : List Channel) → test client ≡ true
+at_keeps : (test : ℕ → Bool) (place : Option ℕ) (name : List ℕ) (client : ℕ) (channels : List ServerChannel) → test client ≡ true
     → are_sound_channels test channels ≡ true → are_sound_channels test (entered_at place name client channels) ≡ true
 at_keeps test None name client channels is all =
     list_all-append (is_sound_channel test) channels (opened name client ∷ [])
@@ -138,7 +138,7 @@ at_keeps test (Some place) name client channels is all =
     list_all-set (is_sound_channel test) channels place (edited (Enter client) channel)
     (edited_passes test (Enter client) channel is sound) all
 
-joined_by_keeps : (test : ℕ → Bool) (by : Entrance) (name : List ℕ) (client : ℕ) (channels : List Channel) → test client ≡ true
+joined_by_keeps : (test : ℕ → Bool) (by : Entrance) (name : List ℕ) (client : ℕ) (channels : List ServerChannel) → test client ≡ true
     → are_sound_channels test channels ≡ true → are_sound_channels test (joined_by by name client channels) ≡ true
 joined_by_keeps test entrance.Open name client channels is all = at_keeps test (position (is_named name) channels) name client channels is all
 joined_by_keeps test entrance.Nameless name client channels is all = all
@@ -146,11 +146,11 @@ joined_by_keeps test entrance.Inside name client channels is all = all
 joined_by_keeps test entrance.TooMany name client channels is all = all
 joined_by_keeps test entrance.Banned name client channels is all = all
 
-pub joined_keeps : (test : ℕ → Bool) (client : ℕ) (source name : List ℕ) (channels : List Channel) → test client ≡ true
+pub joined_keeps : (test : ℕ → Bool) (client : ℕ) (source name : List ℕ) (channels : List ServerChannel) → test client ≡ true
     → are_sound_channels test channels ≡ true → are_sound_channels test (joined client source name channels) ≡ true
 joined_keeps test client source name channels is all = joined_by_keeps test (entrance_of client source name channels) name client channels is all
 
-joined_each_keeps : (test : ℕ → Bool) (client : ℕ) (source : List ℕ) (names : List (List ℕ)) (channels : List Channel) → test client ≡ true
+joined_each_keeps : (test : ℕ → Bool) (client : ℕ) (source : List ℕ) (names : List (List ℕ)) (channels : List ServerChannel) → test client ≡ true
     → are_sound_channels test channels ≡ true → are_sound_channels test (joined_each client source names channels) ≡ true
 joined_each_keeps test client source [] channels is all = all
 joined_each_keeps test client source (name ∷ names) channels is all =
@@ -159,12 +159,12 @@ joined_each_keeps test client source (name ∷ names) channels is all =
 -- ---- the other commands
 
 -- a change to sound channels, or to a sound person
-abbrev pub keeps : (ℕ → Bool) → Change → Bool
+abbrev pub keeps : (ℕ → Bool) → ServerChange → Bool
 keeps test change.Same = true
 keeps test (change.Person p) = is_sound_person p
 keeps test (change.Channels channels) = are_sound_channels test channels
 
-part_keeps : (test : ℕ → Bool) (at : Standing) (client : ℕ) (name : List ℕ) (channels : List Channel)
+part_keeps : (test : ℕ → Bool) (at : Standing) (client : ℕ) (name : List ℕ) (channels : List ServerChannel)
     → are_sound_channels test channels ≡ true → keeps test (part_change at client name channels) ≡ true
 part_keeps test standing.Unknown client name channels all = refl
 part_keeps test standing.Outside client name channels all = refl
@@ -176,7 +176,7 @@ abbrev pub is_text : Option (List ℕ) → Bool
 is_text None = true
 is_text (Some text) = trailing text
 
-topic_keeps : (test : ℕ → Bool) (at : Standing) (name : List ℕ) (text : Option (List ℕ)) (channels : List Channel) → is_text text ≡ true
+topic_keeps : (test : ℕ → Bool) (at : Standing) (name : List ℕ) (text : Option (List ℕ)) (channels : List ServerChannel) → is_text text ≡ true
     → are_sound_channels test channels ≡ true → keeps test (topic_change at name text channels) ≡ true
 topic_keeps test standing.Unknown name text channels is all = refl
 topic_keeps test standing.Outside name text channels is all = refl
@@ -185,32 +185,32 @@ topic_keeps test standing.Plain name (Some text) channels is all = rooms_keep te
 topic_keeps test standing.Op name None channels is all = refl
 topic_keeps test standing.Op name (Some text) channels is all = rooms_keep test (Some name) (Title text) channels is all
 
-kicked_keeps : (test : ℕ → Bool) (client : Option ℕ) (name : List ℕ) (channels : List Channel)
+kicked_keeps : (test : ℕ → Bool) (client : Option ℕ) (name : List ℕ) (channels : List ServerChannel)
     → are_sound_channels test channels ≡ true → keeps test (kicked client name channels) ≡ true
 kicked_keeps test None name channels all = refl
 kicked_keeps test (Some client) name channels all = rooms_keep test (Some name) (Leave client) channels refl all
 
-kick_keeps : (test : ℕ → Bool) (at : Standing) (clients : List (Option Person)) (name nick : List ℕ) (channels : List Channel)
+kick_keeps : (test : ℕ → Bool) (at : Standing) (clients : List (Option ClientIdentity)) (name nick : List ℕ) (channels : List ServerChannel)
     → are_sound_channels test channels ≡ true → keeps test (kick_change at clients name nick channels) ≡ true
 kick_keeps test standing.Unknown clients name nick channels all = refl
 kick_keeps test standing.Outside clients name nick channels all = refl
 kick_keeps test standing.Plain clients name nick channels all = refl
 kick_keeps test standing.Op clients name nick channels all = kicked_keeps test (target_on clients channels name nick) name channels all
 
-marked_keeps : (test : ℕ → Bool) (client : Option ℕ) (name : List ℕ) (one : Single) (channels : List Channel)
+marked_keeps : (test : ℕ → Bool) (client : Option ℕ) (name : List ℕ) (one : Single) (channels : List ServerChannel)
     → are_sound_channels test channels ≡ true → are_sound_channels test (marked_on client name one channels) ≡ true
 marked_keeps test None name one channels all = all
 marked_keeps test (Some client) name one channels all =
     rooms_keep test (Some name) (Mark client (one.letter == 118) one.on) channels refl all
 
-banned_keeps : (test : ℕ → Bool) (name : List ℕ) (one : Single) (channels : List Channel)
+banned_keeps : (test : ℕ → Bool) (name : List ℕ) (one : Single) (channels : List ServerChannel)
     → are_sound_channels test channels ≡ true → are_sound_channels test (banned_on name one channels) ≡ true
 banned_keeps test name one channels all =
     cond_both (one.on && is_full one.argument (room name channels)) channels (rooms_after (Some name) (Ban one.argument one.on) channels)
     (λ cs. are_sound_channels test cs ≡ true) (λ b. all)
     (λ b. rooms_keep test (Some name) (Ban one.argument one.on) channels refl all)
 
-moded_keeps : (test : ℕ → Bool) (clients : List (Option Person)) (name : List ℕ) (one : Single) (channels : List Channel)
+moded_keeps : (test : ℕ → Bool) (clients : List (Option ClientIdentity)) (name : List ℕ) (one : Single) (channels : List ServerChannel)
     → are_sound_channels test channels ≡ true → are_sound_channels test (moded clients name one channels) ≡ true
 moded_keeps test clients name one channels all =
     let banned = banned_on name one channels in
@@ -220,13 +220,13 @@ moded_keeps test clients name one channels all =
     (λ b. cond_both (is_ban_of one) banned channels (λ cs. are_sound_channels test cs ≡ true)
     (λ k. banned_keeps test name one channels all) (λ k. all))
 
-moded_each_keeps : (test : ℕ → Bool) (clients : List (Option Person)) (name : List ℕ) (ones : List Single) (channels : List Channel)
+moded_each_keeps : (test : ℕ → Bool) (clients : List (Option ClientIdentity)) (name : List ℕ) (ones : List Single) (channels : List ServerChannel)
     → are_sound_channels test channels ≡ true → are_sound_channels test (moded_each clients name ones channels) ≡ true
 moded_each_keeps test clients name [] channels all = all
 moded_each_keeps test clients name (one ∷ ones) channels all =
     moded_each_keeps test clients name ones (moded clients name one channels) (moded_keeps test clients name one channels all)
 
-mode_keeps : (test : ℕ → Bool) (at : Standing) (clients : List (Option Person)) (name modes : List ℕ) (arguments : List (List ℕ)) (channels : List Channel)
+mode_keeps : (test : ℕ → Bool) (at : Standing) (clients : List (Option ClientIdentity)) (name modes : List ℕ) (arguments : List (List ℕ)) (channels : List ServerChannel)
     → are_sound_channels test channels ≡ true → keeps test (mode_change at clients name modes arguments channels) ≡ true
 mode_keeps test standing.Unknown clients name modes arguments channels all = refl
 mode_keeps test standing.Outside clients name modes arguments channels all = refl
@@ -238,7 +238,7 @@ mode_keeps test standing.Op clients name modes arguments channels all =
 
 -- ---- NICK and USER
 
-nick_keeps : (test : ℕ → Bool) (client : ℕ) (p : Person) (clients : List (Option Person)) (new : List ℕ)
+nick_keeps : (test : ℕ → Bool) (client : ℕ) (p : ClientIdentity) (clients : List (Option ClientIdentity)) (new : List ℕ)
     → is_sound_person p ≡ true → keeps test (nick_change client p clients new) ≡ true
 nick_keeps test client p clients new sound =
     let after = change.Person (record p { nick = new }) in
@@ -247,7 +247,7 @@ nick_keeps test client p clients new sound =
     (λ isnt. cond_both (is_nick new) after change.Same (λ c. keeps test c ≡ true)
     (λ is. and_from _ _ (or_right (not (filled new)) (is_nick new) is) user) (λ other. refl))
 
-user_keeps : (test : ℕ → Bool) (p : Person) (name : List ℕ)
+user_keeps : (test : ℕ → Bool) (p : ClientIdentity) (name : List ℕ)
     → is_sound_person p ≡ true → list_all nospcrlf name ≡ true → keeps test (user_change p name) ≡ true
 user_keeps test p name sound word =
     let new = map user_byte (take 30 name) in
@@ -291,7 +291,7 @@ first_middle (p ∷ next ∷ ps) is more = (and_parts (middle p) (carries_params
 
 -- ---- a command, and a message
 
-by_keeps : (test : ℕ → Bool) (c : Command) (client : ℕ) (p : Person) (clients : List (Option Person)) (channels : List Channel) (ps : List (List ℕ))
+by_keeps : (test : ℕ → Bool) (c : ClientCommand) (client : ℕ) (p : ClientIdentity) (clients : List (Option ClientIdentity)) (channels : List ServerChannel) (ps : List (List ℕ))
     → test client ≡ true → is_sound_person p ≡ true → carries_params ps ≡ true → needed c ≤ length ps
     → are_sound_channels test channels ≡ true → keeps test (change_by c client p clients channels ps) ≡ true
 by_keeps test command.Nick client p clients channels ps is sound carried enough all = nick_keeps test client p clients (word_at 0 ps) sound
@@ -317,7 +317,7 @@ by_keeps test command.Who client p clients channels ps is sound carried enough a
 by_keeps test command.Ping client p clients channels ps is sound carried enough all = refl
 by_keeps test command.Unknown client p clients channels ps is sound carried enough all = refl
 
-pub change_keeps : (test : ℕ → Bool) (client : ℕ) (p : Person) (clients : List (Option Person)) (channels : List Channel) (m : Message)
+pub change_keeps : (test : ℕ → Bool) (client : ℕ) (p : ClientIdentity) (clients : List (Option ClientIdentity)) (channels : List ServerChannel) (m : Message)
     → test client ≡ true → is_sound_person p ≡ true → carries_params m.params ≡ true
     → are_sound_channels test channels ≡ true → keeps test (change_of client p clients channels m) ≡ true
 change_keeps test client p clients channels m is sound carried all =
@@ -338,19 +338,19 @@ pub line_parts : (text : List ℕ) (m : Message) → line_of (up_to is_end text)
     × (length (up_to is_end text) ≤ 510)
 line_parts text m is = parts_carried (up_to is_end text) m (run_up_to text, m, is, (refl, refl, refl))
 
-held_other : (clients : List (Option Person)) (client : ℕ) (slot : Option Person) (k : ℕ) → k ≢ client
+held_other : (clients : List (Option ClientIdentity)) (client : ℕ) (slot : Option ClientIdentity) (k : ℕ) → k ≢ client
     → held_at (slice_set clients client slot) k ≡ held_at clients k
 held_other clients client slot k differs = get_or-set_other clients client k slot None differs
 
-held_same : (clients : List (Option Person)) (client : ℕ) (slot : Option Person) → client < length clients
+held_same : (clients : List (Option ClientIdentity)) (client : ℕ) (slot : Option ClientIdentity) → client < length clients
     → held_at (slice_set clients client slot) client ≡ slot
 held_same clients client slot less = get_or-set_same clients client slot None less
 
-pub within : (clients : List (Option Person)) (client : ℕ) → is_held clients client ≡ true → client < length clients
+pub within : (clients : List (Option ClientIdentity)) (client : ℕ) → is_held clients client ≡ true → client < length clients
 within clients client held = grind (arith, get_or_past)
 
 -- a client that is held is so after another has spoken of itself
-pub held_person : (clients : List (Option Person)) (client : ℕ) (p : Person) (k : ℕ)
+pub held_person : (clients : List (Option ClientIdentity)) (client : ℕ) (p : ClientIdentity) (k : ℕ)
     → is_held clients k ≡ true → is_held (slice_set clients client (Some p)) k ≡ true
 held_person clients client p k held =
     elim (cases_eq k client) [
@@ -360,7 +360,7 @@ held_person clients client p k held =
       | inr differs ↦ ap is_some (held_other clients client (Some p) k differs) ∙ held
     ]
 
-people_set : (clients : List (Option Person)) (client : ℕ) (slot : Option Person) → is_sound_slot slot ≡ true → client < length clients
+people_set : (clients : List (Option ClientIdentity)) (client : ℕ) (slot : Option ClientIdentity) → is_sound_slot slot ≡ true → client < length clients
     → ((k : ℕ) → is_sound_slot (held_at clients k) ≡ true) → (k : ℕ) → is_sound_slot (held_at (slice_set clients client slot) k) ≡ true
 people_set clients client slot sound less all k =
     elim (cases_eq k client) [
@@ -368,16 +368,16 @@ people_set clients client slot sound less all k =
       | inr differs ↦ ap is_sound_slot (held_other clients client slot k differs) ∙ all k
     ]
 
-channels_weaker : (test next : ℕ → Bool) → ((k : ℕ) → test k ≡ true → next k ≡ true) → (channels : List Channel)
+channels_weaker : (test next : ℕ → Bool) → ((k : ℕ) → test k ≡ true → next k ≡ true) → (channels : List ServerChannel)
     → are_sound_channels test channels ≡ true → are_sound_channels next channels ≡ true
 channels_weaker test next step channels all =
     list_all-weaker (is_sound_channel test) (is_sound_channel next)
     (λ channel there. let parts = and_parts (are_clients test channel.members) (trailing channel.topic) there in
-    and_from _ _ (list_all-weaker (λ (m : Member). test m.client) (λ (m : Member). next m.client)
+    and_from _ _ (list_all-weaker (λ (m : ServerMember). test m.client) (λ (m : ServerMember). next m.client)
     (λ m is. step m.client is) channel.members parts.0) parts.1)
     channels all
 
-changed_whole : (client : ℕ) (one : Change) (s : Server) → is_held s.clients client ≡ true → keeps (is_held s.clients) one ≡ true
+changed_whole : (client : ℕ) (one : ServerChange) (s : Server) → is_held s.clients client ≡ true → keeps (is_held s.clients) one ≡ true
     → IsWhole s.clients s.channels → IsWhole (changed client one s).clients (changed client one s).channels
 changed_whole client change.Same s held kept whole = whole
 changed_whole client (change.Person p) s held kept whole = record {
@@ -394,7 +394,7 @@ left_whole client s held whole = record {
       (λ k is differs. ap is_some (held_other s.clients client None k differs) ∙ is) s.channels whole.rooms;
 }
 
-message_whole : (client : ℕ) (p : Person) (m : Message) (s : Server) → held_at s.clients client ≡ Some p → carries_params m.params ≡ true
+message_whole : (client : ℕ) (p : ClientIdentity) (m : Message) (s : Server) → held_at s.clients client ≡ Some p → carries_params m.params ≡ true
     → IsWhole s.clients s.channels → IsWhole (after_message client p m s).clients (after_message client p m s).channels
 message_whole client p m s is carried whole =
     let held = ap is_some is in
@@ -405,19 +405,19 @@ message_whole client p m s is carried whole =
     (λ other. changed_whole client change s held (change_keeps
     (is_held s.clients) client p s.clients s.channels m held sound carried whole.rooms) whole)
 
-line_whole : (client : ℕ) (p : Person) (text : List ℕ) (read : Line) (s : Server) → held_at s.clients client ≡ Some p
+line_whole : (client : ℕ) (p : ClientIdentity) (text : List ℕ) (read : Line) (s : Server) → held_at s.clients client ≡ Some p
     → line_of (up_to is_end text) ≡ read → IsWhole s.clients s.channels
     → IsWhole (after_line client p read s).clients (after_line client p read s).channels
 line_whole client p text (line.Message m) s is reads whole = message_whole client p m s is (line_parts text m reads).3 whole
 line_whole client p text (line.Bad fault) s is reads whole = whole
 
 -- a line of a client leaves the server whole
-pub after_whole : (client : ℕ) (p : Person) (text : List ℕ) (s : Server) → held_at s.clients client ≡ Some p → IsWhole s.clients s.channels
+pub after_whole : (client : ℕ) (p : ClientIdentity) (text : List ℕ) (s : Server) → held_at s.clients client ≡ Some p → IsWhole s.clients s.channels
     → let next = after_line client p (line_of (up_to is_end text)) s in IsWhole next.clients next.channels
 after_whole client p text s is whole = line_whole client p text (line_of (up_to is_end text)) s is refl whole
 
 -- one who comes leaves it whole
-pub came_whole : (old new : List (Option Person)) (client : ℕ) (channels : List Channel) → held_at new client ≡ Some blank
+pub came_whole : (old new : List (Option ClientIdentity)) (client : ℕ) (channels : List ServerChannel) → held_at new client ≡ Some blank
     → ((k : ℕ) → k ≢ client → held_at new k ≡ held_at old k) → IsWhole old channels → IsWhole new channels
 came_whole old new client channels came others whole = record {
   people = λ k. elim (cases_eq k client) [
@@ -430,7 +430,7 @@ came_whole old new client channels came others whole = record {
   ]) channels whole.rooms;
 }
 
-pub effect_whole : (client : ℕ) (effect : Effect) (s next : Server) (clients : List (Option Person)) (channels : List Channel)
+pub effect_whole : (client : ℕ) (effect : Effect) (s next : Server) (clients : List (Option ClientIdentity)) (channels : List ServerChannel)
     → clients ≡ (effected client effect s).clients → channels ≡ (effected client effect s).channels → effected client effect s ≡ next
     → IsWhole next.clients next.channels → IsWhole clients channels
 effect_whole client effect s next clients channels e k is whole =

@@ -4,15 +4,15 @@ use Rattle.std.specs.List.{list_any, list_all, slice_split}
 use Rattle.std.specs.Cmp.Lexicographic.{pointwise}
 use Rattle.ircline.specs.Classes.{filled}
 use Rattle.ircline.specs.declared.message.Message.{Message}
-use Rattle.miniircd.specs.declared.person.Person.{Person}
-use Rattle.miniircd.specs.declared.member.Member.{Member}
-use Rattle.miniircd.specs.declared.member.Channel.{Channel}
-use Rattle.miniircd.specs.declared.command.Command.{Command}
-use Rattle.miniircd.specs.declared.command.Command.TheVariants as command
-use Rattle.miniircd.specs.declared.command.Inquiry.{Inquiry}
-use Rattle.miniircd.specs.declared.command.Inquiry.TheVariants as inquiry
-use Rattle.miniircd.specs.declared.change.Change.{Change}
-use Rattle.miniircd.specs.declared.change.Change.TheVariants as change
+use Rattle.miniircd.specs.declared.client_identity.ClientIdentity.{ClientIdentity}
+use Rattle.miniircd.specs.declared.member.ServerMember.{ServerMember}
+use Rattle.miniircd.specs.declared.member.ServerChannel.{ServerChannel}
+use Rattle.miniircd.specs.declared.client_command.ClientCommand.{ClientCommand}
+use Rattle.miniircd.specs.declared.client_command.ClientCommand.TheVariants as command
+use Rattle.miniircd.specs.declared.client_command.Inquiry.{Inquiry}
+use Rattle.miniircd.specs.declared.client_command.Inquiry.TheVariants as inquiry
+use Rattle.miniircd.specs.declared.server_change.ServerChange.{ServerChange}
+use Rattle.miniircd.specs.declared.server_change.ServerChange.TheVariants as change
 use Rattle.miniircd.specs.declared.standing.Standing.{Standing}
 use Rattle.miniircd.specs.declared.standing.Standing.TheVariants as standing
 use Rattle.miniircd.specs.People.{is_registered, holder, word_at}
@@ -27,7 +27,7 @@ abbrev pub is_command : List ℕ → List ℕ → Bool
 is_command word name = pointwise nat_eq word name
 
 -- a command that changes nothing on this server
-abbrev pub inquiry_of : List ℕ → Command
+abbrev pub inquiry_of : List ℕ → ClientCommand
 inquiry_of c =
     if is_command c (codes "INVITE") then command.Ask inquiry.Invite
     else (if is_command c (codes "USERHOST") then command.Ask inquiry.Userhost
@@ -38,7 +38,7 @@ inquiry_of c =
     else (if is_command c (codes "WHOIS") then command.Ask inquiry.Whois
     else command.Unknown))))))
 
-abbrev pub command_of : List ℕ → Command
+abbrev pub command_of : List ℕ → ClientCommand
 command_of c =
     if is_command c (codes "PRIVMSG") then command.Privmsg
     else (if is_command c (codes "NOTICE") then command.Notice
@@ -65,7 +65,7 @@ needed_of inquiry.Pong = 0
 needed_of inquiry.Userhost = 1
 needed_of inquiry.Whois = 0
 
-abbrev pub needed : Command → ℕ
+abbrev pub needed : ClientCommand → ℕ
 needed command.Nick = 1
 needed command.User = 4
 needed command.Join = 1
@@ -92,7 +92,7 @@ is_open_to_all inquiry.List = false
 is_open_to_all inquiry.Userhost = false
 is_open_to_all inquiry.Whois = false
 
-abbrev pub is_open : Command → Bool
+abbrev pub is_open : ClientCommand → Bool
 is_open command.Nick = true
 is_open command.User = true
 is_open command.Ping = true
@@ -123,7 +123,7 @@ is_nick_byte b = nat_lt 32 b && not (list_any (λ x. x == b) (codes "!@,*?:#&+%~
 abbrev pub is_nick : List ℕ → Bool
 is_nick text = filled text && (nat_le (length text) 30 && list_all is_nick_byte text)
 
-abbrev pub nick_change : ℕ → Person → List (Option Person) → List ℕ → Change
+abbrev pub nick_change : ℕ → ClientIdentity → List (Option ClientIdentity) → List ℕ → ServerChange
 nick_change client p clients new =
     if is_other client (holder new clients) then change.Same
     else (if is_nick new then change.Person (record p { nick = new }) else change.Same)
@@ -132,27 +132,27 @@ nick_change client p clients new =
 abbrev pub user_byte : ℕ → ℕ
 user_byte b = if b == 33 || b == 64 then 95 else b
 
-abbrev pub user_change : Person → List ℕ → Change
+abbrev pub user_change : ClientIdentity → List ℕ → ServerChange
 user_change p name = if filled p.user then change.Same else change.Person (record p { user = map user_byte (take 30 name) })
 
 -- ---- channels (section 3.2)
 
 -- a client's standing with a channel
-abbrev pub standing_of : Option Member → Standing
+abbrev pub standing_of : Option ServerMember → Standing
 standing_of None = standing.Outside
 standing_of (Some member) = if member.op then standing.Op else standing.Plain
 
-abbrev pub standing_in : ℕ → Option Channel → Standing
+abbrev pub standing_in : ℕ → Option ServerChannel → Standing
 standing_in client None = standing.Unknown
 standing_in client (Some channel) = standing_of (member_of client channel.members)
 
-abbrev pub part_change : Standing → ℕ → List ℕ → List Channel → Change
+abbrev pub part_change : Standing → ℕ → List ℕ → List ServerChannel → ServerChange
 part_change standing.Unknown client name channels = change.Same
 part_change standing.Outside client name channels = change.Same
 part_change standing.Plain client name channels = change.Channels (rooms_after (Some name) (Leave client) channels)
 part_change standing.Op client name channels = change.Channels (rooms_after (Some name) (Leave client) channels)
 
-abbrev pub topic_change : Standing → List ℕ → Option (List ℕ) → List Channel → Change
+abbrev pub topic_change : Standing → List ℕ → Option (List ℕ) → List ServerChannel → ServerChange
 topic_change standing.Unknown name text channels = change.Same
 topic_change standing.Outside name text channels = change.Same
 topic_change standing.Plain name None channels = change.Same
@@ -161,18 +161,18 @@ topic_change standing.Op name None channels = change.Same
 topic_change standing.Op name (Some text) channels = change.Channels (rooms_after (Some name) (Title text) channels)
 
 -- the member of a channel that holds a nick
-abbrev pub on_room : Option ℕ → Option Channel → Option ℕ
+abbrev pub on_room : Option ℕ → Option ServerChannel → Option ℕ
 on_room None channel = None
 on_room (Some client) channel = if is_on_some client channel then Some client else None
 
-abbrev pub target_on : List (Option Person) → List Channel → List ℕ → List ℕ → Option ℕ
+abbrev pub target_on : List (Option ClientIdentity) → List ServerChannel → List ℕ → List ℕ → Option ℕ
 target_on clients channels name nick = on_room (holder nick clients) (room name channels)
 
-abbrev pub kicked : Option ℕ → List ℕ → List Channel → Change
+abbrev pub kicked : Option ℕ → List ℕ → List ServerChannel → ServerChange
 kicked None name channels = change.Same
 kicked (Some client) name channels = change.Channels (rooms_after (Some name) (Leave client) channels)
 
-abbrev pub kick_change : Standing → List (Option Person) → List ℕ → List ℕ → List Channel → Change
+abbrev pub kick_change : Standing → List (Option ClientIdentity) → List ℕ → List ℕ → List ServerChannel → ServerChange
 kick_change standing.Unknown clients name nick channels = change.Same
 kick_change standing.Outside clients name nick channels = change.Same
 kick_change standing.Plain clients name nick channels = change.Same
@@ -183,7 +183,7 @@ kick_change standing.Op clients name nick channels = kicked (target_on clients c
 abbrev pub is_mark : ℕ → Bool
 is_mark letter = letter == 111 || letter == 118
 
-abbrev pub marked_on : Option ℕ → List ℕ → Single → List Channel → List Channel
+abbrev pub marked_on : Option ℕ → List ℕ → Single → List ServerChannel → List ServerChannel
 marked_on None name one channels = channels
 marked_on (Some client) name one channels = rooms_after (Some name) (Mark client (one.letter == 118) one.on) channels
 
@@ -196,21 +196,21 @@ abbrev pub counts : Single → Bool
 counts one = (is_mark one.letter || one.letter == 98) && filled one.argument
 
 -- a ban is set or cleared; a ban for which there is no room is refused
-abbrev pub banned_on : List ℕ → Single → List Channel → List Channel
+abbrev pub banned_on : List ℕ → Single → List ServerChannel → List ServerChannel
 banned_on name one channels =
     if one.on && is_full one.argument (room name channels) then channels
     else rooms_after (Some name) (Ban one.argument one.on) channels
 
-abbrev pub moded : List (Option Person) → List ℕ → Single → List Channel → List Channel
+abbrev pub moded : List (Option ClientIdentity) → List ℕ → Single → List ServerChannel → List ServerChannel
 moded clients name one channels =
     if is_mark one.letter then marked_on (target_on clients channels name one.argument) name one channels
     else (if is_ban_of one then banned_on name one channels else channels)
 
-abbrev pub moded_each : List (Option Person) → List ℕ → List Single → List Channel → List Channel
+abbrev pub moded_each : List (Option ClientIdentity) → List ℕ → List Single → List ServerChannel → List ServerChannel
 moded_each clients name [] channels = channels
 moded_each clients name (one ∷ more) channels = moded_each clients name more (moded clients name one channels)
 
-abbrev pub mode_change : Standing → List (Option Person) → List ℕ → List ℕ → List (List ℕ) → List Channel → Change
+abbrev pub mode_change : Standing → List (Option ClientIdentity) → List ℕ → List ℕ → List (List ℕ) → List ServerChannel → ServerChange
 mode_change standing.Unknown clients name modes arguments channels = change.Same
 mode_change standing.Outside clients name modes arguments channels = change.Same
 mode_change standing.Plain clients name modes arguments channels = change.Same
@@ -221,7 +221,7 @@ mode_change standing.Op clients name modes arguments channels =
 
 -- ---- a whole message other than QUIT
 
-abbrev pub is_quit : Command → Bool
+abbrev pub is_quit : ClientCommand → Bool
 is_quit command.Quit = true
 is_quit command.Nick = false
 is_quit command.User = false
@@ -238,7 +238,7 @@ is_quit command.Ping = false
 is_quit (command.Ask asked) = false
 is_quit command.Unknown = false
 
-abbrev pub change_by : Command → ℕ → Person → List (Option Person) → List Channel → List (List ℕ) → Change
+abbrev pub change_by : ClientCommand → ℕ → ClientIdentity → List (Option ClientIdentity) → List ServerChannel → List (List ℕ) → ServerChange
 change_by command.Nick client p clients channels ps = nick_change client p clients (word_at 0 ps)
 change_by command.User client p clients channels ps = user_change p (word_at 0 ps)
 change_by command.Join client p clients channels ps =
@@ -261,10 +261,10 @@ change_by (command.Ask asked) client p clients channels ps = change.Same
 change_by command.Unknown client p clients channels ps = change.Same
 
 -- a command counts if the client may send it and gives the parameters that it needs
-abbrev pub is_admitted : Person → Command → ℕ → Bool
+abbrev pub is_admitted : ClientIdentity → ClientCommand → ℕ → Bool
 is_admitted p c count = (is_registered p || is_open c) && nat_le (needed c) count
 
-abbrev pub change_of : ℕ → Person → List (Option Person) → List Channel → Message → Change
+abbrev pub change_of : ℕ → ClientIdentity → List (Option ClientIdentity) → List ServerChannel → Message → ServerChange
 change_of client p clients channels m =
     if is_admitted p (command_of m.command) (length m.params)
     then change_by (command_of m.command) client p clients channels m.params

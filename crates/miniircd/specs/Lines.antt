@@ -5,9 +5,9 @@ use Rattle.ircline.specs.Classes.{filled, middle, trailing, names}
 use Rattle.ircline.specs.Carrying.{kept_command}
 use Rattle.ircline.specs.declared.message.Message.{Message}
 use Rattle.ircline.specs.Printing.{wants_colon, last_text}
-use Rattle.miniircd.specs.declared.person.Person.{Person}
-use Rattle.miniircd.specs.declared.member.Member.{Member}
-use Rattle.miniircd.specs.declared.member.Channel.{Channel}
+use Rattle.miniircd.specs.declared.client_identity.ClientIdentity.{ClientIdentity}
+use Rattle.miniircd.specs.declared.member.ServerMember.{ServerMember}
+use Rattle.miniircd.specs.declared.member.ServerChannel.{ServerChannel}
 use Rattle.miniircd.specs.People.{held_at}
 use Rattle.miniircd.specs.declared.entrance.Entrance.{Entrance}
 use Rattle.miniircd.specs.declared.entrance.Entrance.TheVariants as entrance
@@ -70,7 +70,7 @@ relay_message source command last middles =
     record { prefix = source; command = command; params = middles ++ cut (509 - length (head source command words)) last ∷ []; rest = [] }
 
 -- the source of a client's messages
-abbrev pub source_of : Person → List ℕ
+abbrev pub source_of : ClientIdentity → List ℕ
 source_of p = p.nick ++ codes "!" ++ p.user ++ codes "@local"
 
 -- ---- letters
@@ -79,27 +79,27 @@ abbrev pub letter : ℕ → List ℕ → Letter
 letter to text = record { to = to; text = text }
 
 -- a reply to a client, about a word or about none
-abbrev pub told : ℕ → Person → List ℕ → List ℕ → List ℕ → Letter
+abbrev pub told : ℕ → ClientIdentity → List ℕ → List ℕ → List ℕ → Letter
 told to p code words last = letter to (numbered p.nick code words last)
 
 -- the same line for each of these members
-abbrev pub spread : List ℕ → List Member → List Letter
+abbrev pub spread : List ℕ → List ServerMember → List Letter
 spread text members = map (λ m. letter m.client text) members
 
-abbrev pub others : ℕ → List Member → List Member
+abbrev pub others : ℕ → List ServerMember → List ServerMember
 others client members = filter (λ m. not (is_client client m)) members
 
 -- ---- names (RFC 2812 section 5.1, replies 353 and 366)
 
 -- an operator has '@' before its nick, else one with a voice '+'
-abbrev pub marks : Member → List ℕ
+abbrev pub marks : ServerMember → List ℕ
 marks m = if m.op then codes "@" else (if m.voice then codes "+" else [])
 
-abbrev pub name_of : Option Person → Member → List (List ℕ)
+abbrev pub name_of : Option ClientIdentity → ServerMember → List (List ℕ)
 name_of None m = []
 name_of (Some p) m = (marks m ++ p.nick) ∷ []
 
-abbrev pub names_of : List (Option Person) → List Member → List (List ℕ)
+abbrev pub names_of : List (Option ClientIdentity) → List ServerMember → List (List ℕ)
 names_of clients members = flat_map (λ m. name_of (held_at clients m.client) m) members
 
 -- names separated by spaces
@@ -110,26 +110,26 @@ side_by_side names = drop 1 (flat_map (λ name. 32 ∷ name) names)
 abbrev pub row : List (List ℕ) → ℕ → List ℕ
 row names i = side_by_side (take 10 (drop (10 * i) names))
 
-abbrev pub listed : ℕ → Person → List ℕ → List (List ℕ) → ℕ → Letter
+abbrev pub listed : ℕ → ClientIdentity → List ℕ → List (List ℕ) → ℕ → Letter
 listed to p name names i = told to p (codes "353") (codes " =" ++ repeated name) (row names i)
 
 -- the lines before line `i`
-unfoldable pub listed_before : ℕ → Person → List ℕ → List (List ℕ) → ℕ → List Letter
+unfoldable pub listed_before : ℕ → ClientIdentity → List ℕ → List (List ℕ) → ℕ → List Letter
 listed_before to p name names zero = []
 listed_before to p name names (suc i) = listed_before to p name names i ++ listed to p name names i ∷ []
 
-abbrev pub listing : ℕ → Person → List ℕ → List (List ℕ) → List Letter
+abbrev pub listing : ℕ → ClientIdentity → List ℕ → List (List ℕ) → List Letter
 listing to p name names =
     listed_before to p name names ((length names + 10 - 1) / 10) ++ told to p (codes "366") (repeated name) (codes "End of names") ∷ []
 
 -- ---- JOIN (RFC 2812 section 3.2.1)
 
 -- a topic, if there is one
-abbrev pub titling : ℕ → Person → List ℕ → List ℕ → List Letter
+abbrev pub titling : ℕ → ClientIdentity → List ℕ → List ℕ → List Letter
 titling to p name topic = if filled topic then told to p (codes "332") (repeated name) topic ∷ [] else []
 
 -- the JOIN is sent to all members, the new one last, who then gets the topic and the names
-abbrev pub arrival : ℕ → Person → List ℕ → List (Option Person) → Option Channel → List Letter
+abbrev pub arrival : ℕ → ClientIdentity → List ℕ → List (Option ClientIdentity) → Option ServerChannel → List Letter
 arrival client p name clients None = []
 arrival client p name clients (Some channel) =
     spread (relayed (source_of p) (codes "JOIN") [] name) channel.members
@@ -137,7 +137,7 @@ arrival client p name clients (Some channel) =
     ++ listing client p name (names_of clients channel.members)
 
 -- the lines for one name of a JOIN, by what keeps the client out, with the channels after it
-abbrev pub join_letters_by : Entrance → ℕ → Person → List (Option Person) → List ℕ → List Channel → List Letter
+abbrev pub join_letters_by : Entrance → ℕ → ClientIdentity → List (Option ClientIdentity) → List ℕ → List ServerChannel → List Letter
 join_letters_by entrance.Nameless client p clients name after = told client p (codes "403") (repeated name) (codes "No such channel") ∷ []
 join_letters_by entrance.Inside client p clients name after = []
 join_letters_by entrance.TooMany client p clients name after =
@@ -146,12 +146,12 @@ join_letters_by entrance.Banned client p clients name after =
     told client p (codes "474") (repeated name) (codes "Cannot join channel (+b)") ∷ []
 join_letters_by entrance.Open client p clients name after = arrival client p name clients (room name after)
 
-abbrev pub join_letters : ℕ → Person → List (Option Person) → List ℕ → List Channel → List Letter
+abbrev pub join_letters : ℕ → ClientIdentity → List (Option ClientIdentity) → List ℕ → List ServerChannel → List Letter
 join_letters client p clients name channels =
     join_letters_by (entrance_of client (source_of p) name channels) client p clients name (joined client (source_of p) name channels)
 
 -- a list of names, one after another
-abbrev pub join_letters_each : ℕ → Person → List (Option Person) → List (List ℕ) → List Channel → List Letter
+abbrev pub join_letters_each : ℕ → ClientIdentity → List (Option ClientIdentity) → List (List ℕ) → List ServerChannel → List Letter
 join_letters_each client p clients [] channels = []
 join_letters_each client p clients (name ∷ names) channels =
     join_letters client p clients name channels

@@ -4,23 +4,23 @@ ghost use Rattle.ircline.specs.declared.line.Line.TheVariants.{Message as messag
 ghost use Rattle.ircline.specs.Words.{up_to};
 ghost use Rattle.ircline.specs.Classes.{is_end};
 ghost use Rattle.ircline.specs.Reading.{line_of, TakesMemory};
-ghost use Rattle.miniircd.specs.declared.change.Effect.TheVariants.{Left};
+ghost use Rattle.miniircd.specs.declared.server_change.Effect.TheVariants.{Left};
 ghost use Rattle.miniircd.specs.Mail.{deliveries};
 ghost use Rattle.miniircd.specs.Rooms.{rooms_after, Leave};
 ghost use Rattle.miniircd.specs.Commands.{change_of};
 ghost use Rattle.miniircd.specs.Talk.{exact_letters};
 ghost use Rattle.miniircd.specs.Server.{changed, effected, after_message, after_line, letters_of, IsSoundAfter};
 
-use crate::change::{Change, Effect};
-use crate::client::Sent;
-use crate::command::read_command;
-use crate::edit::{Edit, rooms_after};
+use crate::channel_edit::{ChannelEdit, rooms_after};
+use crate::client::SentLine;
+use crate::client_command::read_command;
+use crate::client_identity::ClientIdentity;
 use crate::lines::{farewell, source_of};
-use crate::member::Channel;
+use crate::member::ServerChannel;
 use crate::people::spread_to_neighbours;
-use crate::person::Person;
 use crate::post::Post;
 use crate::replies::Sender;
+use crate::server_change::{Effect, ServerChange};
 use crate::texts::param;
 use crate::turn::answer;
 use bytetext::{NoMemory, Seq};
@@ -30,21 +30,21 @@ use std::alloc::Global;
 
 /// What a line of a client does to the server, and the lines that the server sends because of it.
 #[derive(Drop)]
-pub struct Reply {
+pub struct ServerReply {
     /// What the line does.
     pub effect: Effect,
     /// The lines, in order.
-    pub lines: Seq<Sent>,
+    pub lines: Seq<SentLine>,
 }
 
 // Returns the reply to a message other than QUIT.
 fn reply_to_message(
     alloc: Global,
-    clients: &Slab<Person>,
-    channels: &mut Vec<Channel>,
+    clients: &Slab<ClientIdentity>,
+    channels: &mut Vec<ServerChannel>,
     me: &Sender<'_>,
     message: &Message,
-) -> Result<Reply, NoMemory>
+) -> Result<ServerReply, NoMemory>
     ensures change { IfOk result
         (λ reply. effected me.now.key reply.effect (record { clients = clients.now.slots; channels = channels.new.items })
         ≡ changed me.now.key (change_of me.now.key me.now.person.now clients.now.slots channels.old.items message.now)
@@ -57,14 +57,14 @@ fn reply_to_message(
 {
     let mut post = Post::new(alloc, clients, None);
     let change = answer(alloc, &mut post, clients, channels, me, message)?;
-    Ok(Reply {
+    Ok(ServerReply {
         effect: Effect::Changed(change),
         lines: Seq::new(post.into_lines()),
     })
 }
 
 // Starts the lines for the clients that stay when `leaver` leaves.
-fn post_of_leaver(alloc: Global, clients: &Slab<Person>, leaver: usize) -> Post<'_>
+fn post_of_leaver(alloc: Global, clients: &Slab<ClientIdentity>, leaver: usize) -> Post<'_>
     ensures { result ≡ record { clients = clients.now.slots; leaver = Some leaver; lines = [] } }
 {
     Post::new(alloc, clients, Some(leaver))
@@ -76,11 +76,11 @@ fn post_of_leaver(alloc: Global, clients: &Slab<Person>, leaver: usize) -> Post<
 /// Returns `NoMemory` if an allocation fails.
 pub fn farewell_of(
     alloc: Global,
-    clients: &Slab<Person>,
-    channels: &[Channel],
+    clients: &Slab<ClientIdentity>,
+    channels: &[ServerChannel],
     me: &Sender<'_>,
     reason: Option<&[u8]>,
-) -> Result<Reply, NoMemory>
+) -> Result<ServerReply, NoMemory>
     ensures left { IfOk result (λ reply. reply.effect ≡ Left (rooms_after None (Leave me.now.key) channels.now)) }
     ensures sound { IfOk result (λ reply. IsSoundAfter me.now.key clients.now.slots reply.effect reply.lines) }
 {
@@ -88,8 +88,8 @@ pub fn farewell_of(
     let source = source_of(alloc, me.person)?;
     let line = farewell(alloc, source.as_slice(), reason)?;
     spread_to_neighbours(alloc, &mut post, clients, channels, me.key, line.as_slice())?;
-    let after = rooms_after(alloc, channels, None, Edit::Leave(me.key))?;
-    Ok(Reply {
+    let after = rooms_after(alloc, channels, None, ChannelEdit::Leave(me.key))?;
+    Ok(ServerReply {
         effect: Effect::Left(Seq::new(after)),
         lines: Seq::new(post.into_lines()),
     })
@@ -98,11 +98,11 @@ pub fn farewell_of(
 // Returns the reply to a message, be it a QUIT or another.
 fn reply_to_any(
     alloc: Global,
-    clients: &Slab<Person>,
-    channels: &mut Vec<Channel>,
+    clients: &Slab<ClientIdentity>,
+    channels: &mut Vec<ServerChannel>,
     me: &Sender<'_>,
     message: &Message,
-) -> Result<Reply, NoMemory>
+) -> Result<ServerReply, NoMemory>
     ensures after { IfOk result
         (λ reply. effected me.now.key reply.effect (record { clients = clients.now.slots; channels = channels.new.items }) ≡ after_message me.now.key me.now.person.now message.now
         (record { clients = clients.now.slots; channels = channels.old.items })) }
@@ -128,11 +128,11 @@ fn reply_to_any(
 /// Returns `NoMemory` if an allocation fails; the channels are then unchanged.
 pub fn reply_to(
     alloc: Global,
-    clients: &Slab<Person>,
-    channels: &mut Vec<Channel>,
+    clients: &Slab<ClientIdentity>,
+    channels: &mut Vec<ServerChannel>,
     me: &Sender<'_>,
     text: &[u8],
-) -> Result<Reply, NoMemory>
+) -> Result<ServerReply, NoMemory>
     ensures after { IfOk result
         (λ reply. effected me.now.key reply.effect (record { clients = clients.now.slots; channels = channels.new.items }) ≡ after_line me.now.key me.now.person.now (line_of (up_to is_end text.now))
         (record { clients = clients.now.slots; channels = channels.old.items })) }
@@ -145,8 +145,8 @@ pub fn reply_to(
     ensures memory { OnErr result (TakesMemory (line_of (up_to is_end text.now))) }
 {
     match read_line(alloc, text)? {
-        Line::Bad(_) => Ok(Reply {
-            effect: Effect::Changed(Change::Same),
+        Line::Bad(_) => Ok(ServerReply {
+            effect: Effect::Changed(ServerChange::Same),
             lines: Seq::empty(alloc),
         }),
         Line::Message(message) => reply_to_any(alloc, clients, channels, me, &message),

@@ -5,7 +5,7 @@ ghost use Rattle.wildmask.specs.Masks.{host_fault};
 ghost use Rattle.miniircd.specs.Mail.{readers};
 ghost use Rattle.miniircd.specs.Rooms.{is_ban, other_bans, ban_unless, is_full};
 
-use crate::member::{Channel, channel_of};
+use crate::member::{ServerChannel, channel_of};
 use crate::post::Post;
 use crate::replies::{Sender, tell_of};
 use crate::texts::is_same;
@@ -62,7 +62,7 @@ pub fn push_ban(alloc: Global, bans: &mut Vec<Mask>, text: &[u8]) -> Result<(), 
 }
 
 /// Returns whether `channel`, if there is one, has no room for the ban of `text`.
-pub fn is_full(channel: Option<&Channel>, text: &[u8]) -> bool
+pub fn is_full(channel: Option<&ServerChannel>, text: &[u8]) -> bool
     ensures { result ≡ is_full text.now (option_copied channel.entry) }
 {
     match channel {
@@ -94,7 +94,7 @@ fn tell_each(
 pub fn tell_bans(
     alloc: Global,
     post: &mut Post<'_>,
-    channels: &[Channel],
+    channels: &[ServerChannel],
     me: &Sender<'_>,
     name: &[u8],
 ) -> Result<(), NoMemory>

@@ -8,7 +8,7 @@ pub struct Client(pub(crate) usize);
 
 /// A line that the server sends to a client.
 #[derive(Debug, Drop)]
-pub struct Sent {
+pub struct SentLine {
     /// The client that gets it.
     pub to: Client,
     /// The line without CR and LF: 1 to 510 bytes, none of them NUL, CR or LF.

@@ -5,7 +5,7 @@ ghost use Rattle.std.specs.Option.{option_copied};
 ghost use Rattle.wildmask.specs.Masks.{is_match};
 ghost use Rattle.miniircd.specs.Rooms.{room, count_of, is_banned, is_on_some, entrance_of};
 
-use crate::member::{Channel, channel_of, is_member};
+use crate::member::{ServerChannel, channel_of, is_member};
 use rfccase::is_channel_name;
 use wildmask::Mask;
 
@@ -28,7 +28,7 @@ pub enum Entrance {
 }
 
 // Returns how many channels a client is on.
-fn count_of(channels: &[Channel], client: usize) -> usize
+fn count_of(channels: &[ServerChannel], client: usize) -> usize
     ensures { result ≡ count_of client channels.now }
 {
     channels
@@ -45,7 +45,7 @@ fn one_matches(bans: &[Mask], source: &[u8]) -> bool
 }
 
 // Returns whether a ban of the channel, if there is one, matches `source`, a `nick!user@host`.
-fn is_banned(channel: Option<&Channel>, source: &[u8]) -> bool
+fn is_banned(channel: Option<&ServerChannel>, source: &[u8]) -> bool
     ensures { result ≡ is_banned source.now (option_copied channel.entry) }
 {
     match channel {
@@ -55,7 +55,7 @@ fn is_banned(channel: Option<&Channel>, source: &[u8]) -> bool
 }
 
 // Returns whether a client is on the channel, if there is one.
-fn is_inside(channel: Option<&Channel>, client: usize) -> bool
+fn is_inside(channel: Option<&ServerChannel>, client: usize) -> bool
     ensures { result ≡ is_on_some client (option_copied channel.entry) }
 {
     match channel {
@@ -65,7 +65,12 @@ fn is_inside(channel: Option<&Channel>, client: usize) -> bool
 }
 
 /// Returns what keeps `client`, whose `nick!user@host` is `source`, out of the channel called `name`.
-pub fn find_entrance(channels: &[Channel], name: &[u8], client: usize, source: &[u8]) -> Entrance
+pub fn find_entrance(
+    channels: &[ServerChannel],
+    name: &[u8],
+    client: usize,
+    source: &[u8],
+) -> Entrance
     ensures { result ≡ entrance_of client source.now name.now channels.now }
 {
     let channel = channel_of(channels, name);

@@ -7,7 +7,7 @@ use thiserror::Error;
 
 /// Why the server refuses a call.
 #[derive(Clone, Copy, Debug, PartialEq, Eq, Error)]
-pub enum Fault {
+pub enum ServerFault {
     /// The server has 64 clients.
     #[error("the server is full: let a client go first")]
     Full,
@@ -16,17 +16,17 @@ pub enum Fault {
     NoSuchClient,
 }
 
-impl Fault {
+impl ServerFault {
     /// Returns the letters of this fault: `I1` and `I2`.
     pub fn code(self) -> &'static str
         ensures { result.now ≡ code_of self }
     {
         match self {
-            Fault::Full => "I1",
-            Fault::NoSuchClient => "I2",
+            ServerFault::Full => "I1",
+            ServerFault::NoSuchClient => "I2",
         }
     }
 }
 
-/// Why a call changed nothing: a [`Fault`], or an allocation failed.
-pub type IrcdError = Failure<Fault>;
+/// Why a call changed nothing: a [`ServerFault`], or an allocation failed.
+pub type IrcdError = Failure<ServerFault>;

@@ -2,12 +2,12 @@
 ghost use Rattle.std.specs.Prelude.{◌≡◌, OnOk};
 ghost use Rattle.miniircd.specs.Mail.{readers};
 
-use crate::command::Inquiry;
+use crate::client_command::Inquiry;
+use crate::client_identity::ClientIdentity;
 use crate::invite::invite;
 use crate::lines::repeated;
-use crate::member::Channel;
+use crate::member::ServerChannel;
 use crate::people::holder;
-use crate::person::Person;
 use crate::post::Post;
 use crate::replies::{Sender, tell, tell_of};
 use crate::talk::if_there;
@@ -29,8 +29,8 @@ const MAX_ASKED: usize = 5;
 pub fn inquire(
     alloc: Global,
     post: &mut Post<'_>,
-    clients: &Slab<Person>,
-    channels: &[Channel],
+    clients: &Slab<ClientIdentity>,
+    channels: &[ServerChannel],
     me: &Sender<'_>,
     inquiry: Inquiry,
     params: &[Text],
@@ -76,13 +76,13 @@ fn cap(
 }
 
 // Returns the registered client called `nick`.
-fn person_of<'a>(clients: &'a Slab<Person>, nick: &[u8]) -> Option<&'a Person> {
+fn person_of<'a>(clients: &'a Slab<ClientIdentity>, nick: &[u8]) -> Option<&'a ClientIdentity> {
     clients.get(if_there(clients, holder(clients, nick))?)
 }
 
 // Appends to `present` those of `nicks`, separated by spaces, that registered clients hold, each after a space.
 fn push_present(
-    clients: &Slab<Person>,
+    clients: &Slab<ClientIdentity>,
     present: &mut Vec<u8>,
     nicks: &[u8],
 ) -> Result<(), NoMemory> {
@@ -99,7 +99,7 @@ fn push_present(
 fn ison(
     alloc: Global,
     post: &mut Post<'_>,
-    clients: &Slab<Person>,
+    clients: &Slab<ClientIdentity>,
     me: &Sender<'_>,
     params: &[Text],
 ) -> Result<(), NoMemory>
@@ -128,7 +128,7 @@ fn after_space(text: &[u8]) -> &[u8] {
 }
 
 // Returns what USERHOST says of a client, with a space before it.
-fn userhost_of(alloc: Global, person: &Person) -> Result<Vec<u8>, NoMemory> {
+fn userhost_of(alloc: Global, person: &ClientIdentity) -> Result<Vec<u8>, NoMemory> {
     let (nick, user) = (person.nick.as_bytes(), person.user.as_bytes());
     let words: [&[u8]; 5] = [b" ", nick, b"=+", user, b"@local"];
     Ok(words.concat(alloc)?)
@@ -139,7 +139,7 @@ fn userhost_of(alloc: Global, person: &Person) -> Result<Vec<u8>, NoMemory> {
 fn userhost(
     alloc: Global,
     post: &mut Post<'_>,
-    clients: &Slab<Person>,
+    clients: &Slab<ClientIdentity>,
     me: &Sender<'_>,
     params: &[Text],
 ) -> Result<(), NoMemory>
@@ -155,7 +155,7 @@ fn userhost(
 }
 
 // Returns whether `names`, a list separated by commas, names the channel. An empty list names every channel.
-fn is_asked(names: &[u8], channel: &Channel) -> bool {
+fn is_asked(names: &[u8], channel: &ServerChannel) -> bool {
     let mut each = names.split(|byte| *byte == b',');
     names.is_empty() || each.any(|name| is_same(name, channel.name.as_bytes()))
 }
@@ -165,7 +165,7 @@ fn tell_channel(
     alloc: Global,
     post: &mut Post<'_>,
     me: &Sender<'_>,
-    channel: &Channel,
+    channel: &ServerChannel,
 ) -> Result<(), NoMemory>
     ensures { OnOk result (readers post.new ≡ readers post.old) }
 {
@@ -181,7 +181,7 @@ fn tell_channel(
 fn list(
     alloc: Global,
     post: &mut Post<'_>,
-    channels: &[Channel],
+    channels: &[ServerChannel],
     me: &Sender<'_>,
     names: &[u8],
 ) -> Result<(), NoMemory>

@@ -2,10 +2,10 @@
 ghost use Rattle.std.specs.Prelude.{◌≡◌, OnOk};
 ghost use Rattle.miniircd.specs.Mail.{readers};
 
+use crate::client_identity::ClientIdentity;
 use crate::lines::{relayed, repeated, source_of};
-use crate::member::{Channel, channel_of, is_member};
+use crate::member::{ServerChannel, channel_of, is_member};
 use crate::people::holder;
-use crate::person::Person;
 use crate::post::Post;
 use crate::replies::{Sender, tell, tell_of};
 use crate::talk::if_there;
@@ -21,8 +21,8 @@ use std::alloc::Global;
 pub fn invite(
     alloc: Global,
     post: &mut Post<'_>,
-    clients: &Slab<Person>,
-    channels: &[Channel],
+    clients: &Slab<ClientIdentity>,
+    channels: &[ServerChannel],
     me: &Sender<'_>,
     nick: &[u8],
     name: &[u8],

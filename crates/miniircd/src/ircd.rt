@@ -5,20 +5,20 @@ ghost use Rattle.bytetext.specs.declared.failure.Failure.TheVariants.{Refused, N
 ghost use Rattle.ircline.specs.Words.{up_to};
 ghost use Rattle.ircline.specs.Classes.{is_end};
 ghost use Rattle.ircline.specs.Reading.{line_of, TakesMemory};
-ghost use Rattle.miniircd.specs.declared.fault.Fault.TheVariants.{Full, NoSuchClient};
+ghost use Rattle.miniircd.specs.declared.fault.ServerFault.TheVariants.{Full, NoSuchClient};
 ghost use Rattle.miniircd.specs.People.{held_at};
 ghost use Rattle.miniircd.specs.Mail.{IsTold, are_sound};
 ghost use Rattle.miniircd.specs.Whole.{IsWhole};
 ghost use Rattle.miniircd.specs.Talk.{is_there};
 ghost use Rattle.miniircd.specs.Server.{count, Comes, effected, left, after, letters};
 
-use crate::answers::{Reply, farewell_of, reply_to};
-use crate::change::{Change, Effect};
-use crate::client::{Client, Sent};
-use crate::fault::{Fault, IrcdError};
-use crate::member::Channel;
-use crate::person::Person;
+use crate::answers::{ServerReply, farewell_of, reply_to};
+use crate::client::{Client, SentLine};
+use crate::client_identity::ClientIdentity;
+use crate::fault::{IrcdError, ServerFault};
+use crate::member::ServerChannel;
 use crate::replies::Sender;
+use crate::server_change::{Effect, ServerChange};
 use bytetext::{Failure, Seq};
 use slab::Slab;
 use std::alloc::Global;
@@ -39,8 +39,8 @@ pub const MAX_CLIENTS: usize = 64;
 /// ```
 #[derive(Drop)]
 pub struct Ircd {
-    clients: Slab<Person>,
-    channels: Vec<Channel>,
+    clients: Slab<ClientIdentity>,
+    channels: Vec<ServerChannel>,
 }
 
 impl Model for Ircd {
@@ -68,7 +68,7 @@ impl Ircd {
     /// Adds a client and returns its number.
     ///
     /// # Errors
-    /// Returns [`Fault::Full`] if the server has 64 clients, and `NoMemory` if it has fewer and the client can't be
+    /// Returns [`ServerFault::Full`] if the server has 64 clients, and `NoMemory` if it has fewer and the client can't be
     /// allocated.
     pub fn connect(&mut self, alloc: Global) -> Result<Client, IrcdError>
         ensures full { (result ≡ Err (Refused Full)) ↔ (64 ≤ count self.old) }
@@ -76,9 +76,9 @@ impl Ircd {
         ensures err { OnErr result (self.new ≡ self.old) }
     {
         if self.clients.len() >= MAX_CLIENTS {
-            return Err(Failure::Refused(Fault::Full));
+            return Err(Failure::Refused(ServerFault::Full));
         }
-        let key = self.clients.insert(Person::blank(alloc))?;
+        let key = self.clients.insert(ClientIdentity::blank(alloc))?;
         Ok(Client(key))
     }
 
@@ -86,13 +86,13 @@ impl Ircd {
     /// because of it, in order. A bad line is ignored.
     ///
     /// # Errors
-    /// Returns [`Fault::NoSuchClient`] if `client` is not connected, and `NoMemory` if it is and an allocation fails.
+    /// Returns [`ServerFault::NoSuchClient`] if `client` is not connected, and `NoMemory` if it is and an allocation fails.
     pub fn line(
         &mut self,
         alloc: Global,
         client: Client,
         text: &[u8],
-    ) -> Result<Seq<Sent>, IrcdError>
+    ) -> Result<Seq<SentLine>, IrcdError>
         ensures unknown { (result ≡ Err (Refused NoSuchClient)) ↔ (held_at self.old.clients client.0 ≡ None) }
         ensures after { OnOk result (self.new ≡ after client.0 text.now self.old) }
         ensures told { IfOk result (λ lines. IfSome (letters client.0 text.now self.old)
@@ -103,14 +103,14 @@ impl Ircd {
         ensures memory { (result ≡ Err NoMemory) → TakesMemory (line_of (up_to is_end text.now)) }
     {
         let Some(person) = self.clients.get(client.0) else {
-            return Err(Failure::Refused(Fault::NoSuchClient));
+            return Err(Failure::Refused(ServerFault::NoSuchClient));
         };
         let me = Sender {
             key: client.0,
             person,
         };
         let reply = reply_to(alloc, &self.clients, &mut self.channels, &me, text)?;
-        let Reply { effect, lines } = reply;
+        let ServerReply { effect, lines } = reply;
         commit(&mut self.clients, &mut self.channels, client.0, effect);
         Ok(lines)
     }
@@ -119,22 +119,22 @@ impl Ircd {
     /// it.
     ///
     /// # Errors
-    /// Returns [`Fault::NoSuchClient`] if `client` is not connected, and `NoMemory` if it is and an allocation fails.
-    pub fn gone(&mut self, alloc: Global, client: Client) -> Result<Seq<Sent>, IrcdError>
+    /// Returns [`ServerFault::NoSuchClient`] if `client` is not connected, and `NoMemory` if it is and an allocation fails.
+    pub fn gone(&mut self, alloc: Global, client: Client) -> Result<Seq<SentLine>, IrcdError>
         ensures unknown { (result ≡ Err (Refused NoSuchClient)) ↔ (held_at self.old.clients client.0 ≡ None) }
         ensures left { OnOk result (self.new ≡ left client.0 self.old) }
         ensures sound { IfOk result (λ lines. are_sound self.new.clients None lines ≡ true) }
         ensures err { OnErr result (self.new ≡ self.old) }
     {
         let Some(person) = self.clients.get(client.0) else {
-            return Err(Failure::Refused(Fault::NoSuchClient));
+            return Err(Failure::Refused(ServerFault::NoSuchClient));
         };
         let me = Sender {
             key: client.0,
             person,
         };
         let reply = farewell_of(alloc, &self.clients, self.channels.as_slice(), &me, None)?;
-        let Reply { effect, lines } = reply;
+        let ServerReply { effect, lines } = reply;
         commit(&mut self.clients, &mut self.channels, client.0, effect);
         Ok(lines)
     }
@@ -159,7 +159,7 @@ impl Ircd {
 }
 
 // Sets what a connected client has said of itself.
-fn place(clients: &mut Slab<Person>, client: usize, person: Person)
+fn place(clients: &mut Slab<ClientIdentity>, client: usize, person: ClientIdentity)
     requires { ContainsKey clients.old client }
     ensures { clients.new.slots ≡ slice_set clients.old.slots client (Some person) }
 {
@@ -167,7 +167,7 @@ fn place(clients: &mut Slab<Person>, client: usize, person: Person)
 }
 
 // Removes a connected client.
-fn remove(clients: &mut Slab<Person>, client: usize)
+fn remove(clients: &mut Slab<ClientIdentity>, client: usize)
     requires { ContainsKey clients.old client }
     ensures { clients.new.slots ≡ slice_set clients.old.slots client None }
 {
@@ -175,15 +175,20 @@ fn remove(clients: &mut Slab<Person>, client: usize)
 }
 
 // Does what a line of a connected client does. Allocates nothing.
-fn commit(clients: &mut Slab<Person>, channels: &mut Vec<Channel>, client: usize, effect: Effect)
+fn commit(
+    clients: &mut Slab<ClientIdentity>,
+    channels: &mut Vec<ServerChannel>,
+    client: usize,
+    effect: Effect,
+)
     requires { ContainsKey clients.old client }
     ensures clients { clients.new.slots ≡ (effected client effect (record { clients = clients.old.slots; channels = channels.old.items })).clients }
     ensures channels { channels.new.items ≡ (effected client effect (record { clients = clients.old.slots; channels = channels.old.items })).channels }
 {
     match effect {
-        Effect::Changed(Change::Same) => {}
-        Effect::Changed(Change::Person(person)) => place(clients, client, person),
-        Effect::Changed(Change::Channels(after)) => *channels = after.into_vec(),
+        Effect::Changed(ServerChange::Same) => {}
+        Effect::Changed(ServerChange::Person(person)) => place(clients, client, person),
+        Effect::Changed(ServerChange::Channels(after)) => *channels = after.into_vec(),
         Effect::Left(after) => {
             remove(clients, client);
             *channels = after.into_vec();

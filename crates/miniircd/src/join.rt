@@ -3,17 +3,17 @@ ghost use Rattle.std.specs.Prelude.{◌≡◌, ◌∷◌, [], IfOk, OnErr, OnOk,
 ghost use Rattle.std.specs.Option.{option_copied};
 ghost use Rattle.miniircd.specs.Mail.{posted};
 ghost use Rattle.miniircd.specs.Rooms.{room, entered, joined, joined_each, undone};
-ghost use Rattle.miniircd.specs.declared.entry.Entry.TheVariants.{Nowhere};
+ghost use Rattle.miniircd.specs.declared.undo.Undo.TheVariants.{Nowhere};
 ghost use Rattle.miniircd.specs.Lines.{told, repeated, source_of, relayed, spread, titling, arrival, join_letters, join_letters_each};
 
+use crate::client_identity::ClientIdentity;
 use crate::entrance::{Entrance, find_entrance};
-use crate::entry::{Entry, enter, undo};
 use crate::lines::{relayed, source_of};
-use crate::member::{Channel, Member, channel_of};
+use crate::member::{ServerChannel, ServerMember, channel_of};
 use crate::names::tell_names;
-use crate::person::Person;
 use crate::post::Post;
 use crate::replies::{Sender, spread, tell_of};
+use crate::undo::{Undo, enter, undo};
 use bytetext::{NoMemory, Text};
 use slab::Slab;
 use std::alloc::Global;
@@ -40,7 +40,7 @@ fn announce(
     post: &mut Post<'_>,
     me: &Sender<'_>,
     name: &[u8],
-    members: &[Member],
+    members: &[ServerMember],
 ) -> Result<(), NoMemory>
     ensures { OnOk result (post.new
         ≡ posted (spread (relayed (source_of me.now.person.now) (codes "JOIN") [] name.now) members.now) post.old) }
@@ -54,10 +54,10 @@ fn announce(
 fn arrive(
     alloc: Global,
     post: &mut Post<'_>,
-    clients: &Slab<Person>,
+    clients: &Slab<ClientIdentity>,
     me: &Sender<'_>,
     name: &[u8],
-    channel: Option<&Channel>,
+    channel: Option<&ServerChannel>,
 ) -> Result<(), NoMemory>
     ensures { OnOk result (post.new
         ≡ posted (arrival me.now.key me.now.person.now name.now clients.now.slots (option_copied channel.entry))
@@ -77,11 +77,11 @@ fn arrive(
 fn come_in(
     alloc: Global,
     post: &mut Post<'_>,
-    clients: &Slab<Person>,
+    clients: &Slab<ClientIdentity>,
     me: &Sender<'_>,
     name: &[u8],
-    channels: &mut Vec<Channel>,
-) -> Result<Entry, NoMemory>
+    channels: &mut Vec<ServerChannel>,
+) -> Result<Undo, NoMemory>
     ensures joined { OnOk result (channels.new.items ≡ entered name.now me.now.key channels.old.items) }
     ensures back { IfOk result (λ entry. undone entry channels.new.items ≡ channels.old.items) }
     ensures told { OnOk result (post.new
@@ -108,13 +108,13 @@ fn keep_out(
     code: &[u8],
     name: &[u8],
     why: &[u8],
-) -> Result<Entry, NoMemory>
+) -> Result<Undo, NoMemory>
     ensures nowhere { IfOk result (λ entry. entry ≡ Nowhere) }
     ensures told { OnOk result (post.new
         ≡ posted (told me.now.key me.now.person.now code.now (repeated name.now) why.now ∷ []) post.old) }
 {
     tell_of(alloc, post, me, code, name, why)?;
-    Ok(Entry::Nowhere)
+    Ok(Undo::Nowhere)
 }
 
 // Lets a client join the channel of one name, if it may.
@@ -122,11 +122,11 @@ fn keep_out(
 fn join(
     alloc: Global,
     post: &mut Post<'_>,
-    clients: &Slab<Person>,
+    clients: &Slab<ClientIdentity>,
     me: &Sender<'_>,
     name: &[u8],
-    channels: &mut Vec<Channel>,
-) -> Result<Entry, NoMemory>
+    channels: &mut Vec<ServerChannel>,
+) -> Result<Undo, NoMemory>
     ensures joined { OnOk result (channels.new.items ≡ joined me.now.key (source_of me.now.person.now) name.now channels.old.items) }
     ensures back { IfOk result (λ entry. undone entry channels.new.items ≡ channels.old.items) }
     ensures told { OnOk result (post.new
@@ -136,7 +136,7 @@ fn join(
     let source = source_of(alloc, me.person)?;
     match find_entrance(channels.as_slice(), name, me.key, source.as_slice()) {
         Entrance::Open => come_in(alloc, post, clients, me, name, channels),
-        Entrance::Inside => Ok(Entry::Nowhere),
+        Entrance::Inside => Ok(Undo::Nowhere),
         Entrance::Nameless => keep_out(alloc, post, me, b"403", name, b"No such channel"),
         Entrance::TooMany => {
             let why = b"You have joined too many channels";
@@ -154,10 +154,10 @@ fn join(
 pub fn join_each(
     alloc: Global,
     post: &mut Post<'_>,
-    clients: &Slab<Person>,
+    clients: &Slab<ClientIdentity>,
     me: &Sender<'_>,
     names: &[Text],
-    channels: &mut Vec<Channel>,
+    channels: &mut Vec<ServerChannel>,
 ) -> Result<(), NoMemory>
     ensures joined { OnOk result (channels.new.items ≡ joined_each me.now.key (source_of me.now.person.now) names.now channels.old.items) }
     ensures told { OnOk result (post.new

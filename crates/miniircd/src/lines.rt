@@ -3,7 +3,7 @@ ghost use Rattle.std.specs.Prelude.{◌≡◌, ◌++◌, IfOk};
 ghost use Rattle.ircline.specs.Printing.{wants_colon};
 ghost use Rattle.miniircd.specs.Lines.{shown, repeated, numbered_head, numbered, cut, head, relayed, source_of};
 
-use crate::person::Person;
+use crate::client_identity::ClientIdentity;
 use crate::texts::front;
 use bytetext::NoMemory;
 use std::alloc::Global;
@@ -119,7 +119,7 @@ pub fn relayed(
 }
 
 /// Returns the source of the messages of `person`.
-pub fn source_of(alloc: Global, person: &Person) -> Result<Vec<u8>, NoMemory>
+pub fn source_of(alloc: Global, person: &ClientIdentity) -> Result<Vec<u8>, NoMemory>
     ensures { IfOk result (λ source. source.items ≡ source_of person.now) }
 {
     let mut source = Vec::from_slice(alloc, person.nick.as_bytes())?;

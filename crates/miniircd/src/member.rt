@@ -10,7 +10,7 @@ use wildmask::Mask;
 
 /// A client that is on a channel.
 #[derive(Clone, Copy, Debug)]
-pub struct Member {
+pub struct ServerMember {
     /// The client's number.
     pub client: usize,
     /// Whether it is a channel operator.
@@ -19,29 +19,29 @@ pub struct Member {
     pub voice: bool,
 }
 
-impl TryCopy for Member {
-    fn copy(&self, _alloc: Global) -> Result<Member, NoMemory> {
+impl TryCopy for ServerMember {
+    fn copy(&self, _alloc: Global) -> Result<ServerMember, NoMemory> {
         Ok(*self)
     }
 }
 
 /// A channel that somebody is on.
 #[derive(Debug)]
-pub struct Channel {
+pub struct ServerChannel {
     /// The name, as the first member spelled it.
     pub name: Text,
     /// The topic, empty if there is none.
     pub topic: Text,
     /// The members in the order in which they joined.
-    pub members: Seq<Member>,
+    pub members: Seq<ServerMember>,
     /// The bans, hostmasks of people who can't join, in the order in which they were set.
     pub bans: Seq<Mask>,
 }
 
-// Written by hand, so that it is proved once and not in each function that drops a `Channel`.
-impl Drop for Channel {
+// Written by hand, so that it is proved once and not in each function that drops a `ServerChannel`.
+impl Drop for ServerChannel {
     fn drop(self) {
-        let Channel {
+        let ServerChannel {
             name: _,
             topic: _,
             members: _,
@@ -50,9 +50,9 @@ impl Drop for Channel {
     }
 }
 
-impl TryCopy for Channel {
-    fn copy(&self, alloc: Global) -> Result<Channel, NoMemory> {
-        Ok(Channel {
+impl TryCopy for ServerChannel {
+    fn copy(&self, alloc: Global) -> Result<ServerChannel, NoMemory> {
+        Ok(ServerChannel {
             name: self.name.copy(alloc)?,
             topic: self.topic.copy(alloc)?,
             members: self.members.copy(alloc)?,
@@ -62,10 +62,10 @@ impl TryCopy for Channel {
 }
 
 // Creates a member who joins a channel that has members.
-pub(crate) fn plain(client: usize) -> Member
+pub(crate) fn plain(client: usize) -> ServerMember
     ensures { result ≡ plain client }
 {
-    Member {
+    ServerMember {
         client,
         op: false,
         voice: false,
@@ -76,16 +76,16 @@ pub(crate) fn plain(client: usize) -> Member
 ///
 /// # Errors
 /// Returns `NoMemory` if an allocation fails.
-pub fn opened(alloc: Global, name: &[u8], client: usize) -> Result<Channel, NoMemory>
+pub fn opened(alloc: Global, name: &[u8], client: usize) -> Result<ServerChannel, NoMemory>
     ensures { IfOk result (λ channel. channel ≡ opened name.now client) }
 {
     let mut members = Seq::empty(alloc);
-    members.push(Member {
+    members.push(ServerMember {
         client,
         op: true,
         voice: false,
     })?;
-    Ok(Channel {
+    Ok(ServerChannel {
         name: Text::from_slice(alloc, name)?,
         topic: Text::empty(alloc),
         members,
@@ -94,7 +94,7 @@ pub fn opened(alloc: Global, name: &[u8], client: usize) -> Result<Channel, NoMe
 }
 
 /// Returns the channel called `name`, by casemapping.
-pub fn channel_of<'a>(channels: &'a [Channel], name: &[u8]) -> Option<&'a Channel>
+pub fn channel_of<'a>(channels: &'a [ServerChannel], name: &[u8]) -> Option<&'a ServerChannel>
     ensures { option_copied result ≡ room name.now channels.now }
 {
     channels
@@ -103,21 +103,21 @@ pub fn channel_of<'a>(channels: &'a [Channel], name: &[u8]) -> Option<&'a Channe
 }
 
 /// Returns `client` as one of `members`.
-pub fn member_of(members: &[Member], client: usize) -> Option<&Member>
+pub fn member_of(members: &[ServerMember], client: usize) -> Option<&ServerMember>
     ensures { option_copied result ≡ member_of client members.now }
 {
     members.iter().find(|member| member.client == client)
 }
 
 /// Returns whether `client` is one of `members`.
-pub fn is_member(members: &[Member], client: usize) -> bool
+pub fn is_member(members: &[ServerMember], client: usize) -> bool
     ensures { result ≡ has_member client members.now }
 {
     members.iter().any(|member| member.client == client)
 }
 
 /// Returns whether `client` is on the channel called `name`.
-pub fn is_on(channels: &[Channel], name: &[u8], client: usize) -> bool
+pub fn is_on(channels: &[ServerChannel], name: &[u8], client: usize) -> bool
     ensures { result ≡ is_on_some client (room name.now channels.now) }
 {
     match channel_of(channels, name) {

@@ -6,15 +6,15 @@ ghost use Rattle.miniircd.specs.Rooms.{room};
 ghost use Rattle.miniircd.specs.Commands.{standing_in, is_mark, is_ban_of, counts, marked_on, banned_on, target_on, moded, moded_each, mode_change};
 
 use crate::bans::{is_full, tell_bans};
-use crate::change::Change;
-use crate::edit::{Edit, rooms_after};
+use crate::channel_edit::{ChannelEdit, rooms_after};
+use crate::client_identity::ClientIdentity;
 use crate::lines::repeated;
-use crate::member::{Channel, channel_of};
+use crate::member::{ServerChannel, channel_of};
 use crate::modes::{Single, singles};
-use crate::person::Person;
 use crate::post::Post;
 use crate::replies::{Sender, tell, tell_of};
 use crate::rooms::{pass_on, target_on, turn_away};
+use crate::server_change::ServerChange;
 use crate::standing::{Standing, find_standing};
 use bytetext::{NoMemory, Seq, Text, copies_of};
 use rfccase::is_channel_name;
@@ -58,7 +58,7 @@ fn any_counts(singles: &[Single]) -> bool
 fn pass_mode_on(
     alloc: Global,
     post: &mut Post<'_>,
-    channels: &[Channel],
+    channels: &[ServerChannel],
     me: &Sender<'_>,
     name: &[u8],
     single: &Single,
@@ -85,12 +85,12 @@ fn pass_mode_on(
 fn mark(
     alloc: Global,
     post: &mut Post<'_>,
-    channels: Vec<Channel>,
+    channels: Vec<ServerChannel>,
     me: &Sender<'_>,
     name: &[u8],
     single: &Single,
     target: Option<usize>,
-) -> Result<Vec<Channel>, NoMemory>
+) -> Result<Vec<ServerChannel>, NoMemory>
     ensures marked { IfOk result (λ after. after.items ≡ marked_on target name.now single.now channels.items) }
     ensures readers { OnOk result (readers post.new ≡ readers post.old) }
 {
@@ -98,7 +98,7 @@ fn mark(
         return Ok(channels);
     };
     pass_mode_on(alloc, post, channels.as_slice(), me, name, single)?;
-    let edit = Edit::Mark {
+    let edit = ChannelEdit::Mark {
         client,
         is_voice: single.letter == b'v',
         on: single.on,
@@ -131,11 +131,11 @@ fn tell_full(
 fn ban(
     alloc: Global,
     post: &mut Post<'_>,
-    channels: Vec<Channel>,
+    channels: Vec<ServerChannel>,
     me: &Sender<'_>,
     name: &[u8],
     single: &Single,
-) -> Result<Vec<Channel>, NoMemory>
+) -> Result<Vec<ServerChannel>, NoMemory>
     ensures banned { IfOk result (λ after. after.items ≡ banned_on name.now single.now channels.items) }
     ensures readers { OnOk result (readers post.new ≡ readers post.old) }
 {
@@ -145,7 +145,7 @@ fn ban(
         return Ok(channels);
     }
     pass_mode_on(alloc, post, channels.as_slice(), me, name, single)?;
-    let edit = Edit::Ban {
+    let edit = ChannelEdit::Ban {
         text,
         on: single.on,
     };
@@ -156,12 +156,12 @@ fn ban(
 fn apply(
     alloc: Global,
     post: &mut Post<'_>,
-    clients: &Slab<Person>,
-    channels: Vec<Channel>,
+    clients: &Slab<ClientIdentity>,
+    channels: Vec<ServerChannel>,
     me: &Sender<'_>,
     name: &[u8],
     single: &Single,
-) -> Result<Vec<Channel>, NoMemory>
+) -> Result<Vec<ServerChannel>, NoMemory>
     ensures moded { IfOk result (λ after. after.items ≡ moded clients.now.slots name.now single.now channels.items) }
     ensures readers { OnOk result (readers post.new ≡ readers post.old) }
 {
@@ -184,12 +184,12 @@ fn apply(
 fn apply_each(
     alloc: Global,
     post: &mut Post<'_>,
-    clients: &Slab<Person>,
-    channels: &[Channel],
+    clients: &Slab<ClientIdentity>,
+    channels: &[ServerChannel],
     me: &Sender<'_>,
     name: &[u8],
     singles: &[Single],
-) -> Result<Vec<Channel>, NoMemory>
+) -> Result<Vec<ServerChannel>, NoMemory>
     ensures moded { IfOk result
         (λ after. after.items ≡ moded_each clients.now.slots name.now singles.now channels.now) }
     ensures readers { OnOk result (readers post.new ≡ readers post.old) }
@@ -221,7 +221,7 @@ fn refuse(
 fn tell_modes(
     alloc: Global,
     post: &mut Post<'_>,
-    channels: &[Channel],
+    channels: &[ServerChannel],
     me: &Sender<'_>,
     name: &[u8],
 ) -> Result<(), NoMemory>
@@ -239,7 +239,7 @@ fn tell_modes(
 fn answer_questions(
     alloc: Global,
     post: &mut Post<'_>,
-    channels: &[Channel],
+    channels: &[ServerChannel],
     me: &Sender<'_>,
     name: &[u8],
     singles: &[Single],
@@ -261,13 +261,13 @@ fn answer_questions(
 pub fn mode(
     alloc: Global,
     post: &mut Post<'_>,
-    clients: &Slab<Person>,
-    channels: &[Channel],
+    clients: &Slab<ClientIdentity>,
+    channels: &[ServerChannel],
     me: &Sender<'_>,
     name: &[u8],
     modes: &[u8],
     arguments: &[Text],
-) -> Result<Change, NoMemory>
+) -> Result<ServerChange, NoMemory>
     ensures change { IfOk result (λ change. change
         ≡ mode_change (standing_in me.now.key (room name.now channels.now)) clients.now.slots name.now modes.now arguments.now channels.now) }
     ensures readers { OnOk result (readers post.new ≡ readers post.old) }
@@ -282,20 +282,20 @@ pub fn mode(
             if is_about_a_channel(name, modes) {
                 turn_away(alloc, post, me, name, standing)?;
             }
-            Ok(Change::Same)
+            Ok(ServerChange::Same)
         }
         Standing::Plain => {
             answer_questions(alloc, post, channels, me, name, singles.as_slice())?;
             refuse(alloc, post, me, name, singles.as_slice())?;
-            Ok(Change::Same)
+            Ok(ServerChange::Same)
         }
         Standing::Op => {
             answer_questions(alloc, post, channels, me, name, singles.as_slice())?;
             if !any_counts(singles.as_slice()) {
-                return Ok(Change::Same);
+                return Ok(ServerChange::Same);
             }
             let after = apply_each(alloc, post, clients, channels, me, name, singles.as_slice())?;
-            Ok(Change::Channels(Seq::new(after)))
+            Ok(ServerChange::Channels(Seq::new(after)))
         }
     }
 }

@@ -5,9 +5,9 @@ ghost use Rattle.std.specs.Option.{option_copied};
 ghost use Rattle.miniircd.specs.Mail.{posted, readers};
 ghost use Rattle.miniircd.specs.Lines.{marks, name_of, names_of, repeated, listed, listing};
 
+use crate::client_identity::ClientIdentity;
 use crate::lines::repeated;
-use crate::member::Member;
-use crate::person::Person;
+use crate::member::ServerMember;
 use crate::post::Post;
 use crate::replies::{Sender, tell, tell_of};
 use bytetext::{NoMemory, Text};
@@ -18,7 +18,7 @@ use std::alloc::Global;
 const NAMES_IN_A_LINE: usize = 10;
 
 /// Returns the mark before the nick of `member`.
-pub fn marks(member: &Member) -> &'static [u8]
+pub fn marks(member: &ServerMember) -> &'static [u8]
     ensures { result.now ≡ marks member.now }
 {
     if member.op {
@@ -34,7 +34,7 @@ pub fn marks(member: &Member) -> &'static [u8]
 ///
 /// # Errors
 /// Returns `NoMemory` if an allocation fails.
-pub fn marked_name(alloc: Global, member: &Member, name: &[u8]) -> Result<Text, NoMemory>
+pub fn marked_name(alloc: Global, member: &ServerMember, name: &[u8]) -> Result<Text, NoMemory>
     ensures { IfOk result (λ marked. marked ≡ marks member.now ++ name.now) }
 {
     let mut marked = Vec::from_slice(alloc, marks(member))?;
@@ -46,8 +46,8 @@ pub fn marked_name(alloc: Global, member: &Member, name: &[u8]) -> Result<Text, 
 fn push_name(
     alloc: Global,
     names: &mut Vec<Text>,
-    member: &Member,
-    person: Option<&Person>,
+    member: &ServerMember,
+    person: Option<&ClientIdentity>,
 ) -> Result<(), NoMemory>
     ensures { OnOk result (names.new.items ≡ names.old.items ++ name_of (option_copied person.entry) member.now) }
 {
@@ -60,8 +60,8 @@ fn push_name(
 // Returns the nicks of these members with their marks.
 fn names_of(
     alloc: Global,
-    clients: &Slab<Person>,
-    members: &[Member],
+    clients: &Slab<ClientIdentity>,
+    members: &[ServerMember],
 ) -> Result<Vec<Text>, NoMemory>
     ensures { IfOk result (λ names. names.items ≡ names_of clients.now.slots members.now) }
 {
@@ -148,10 +148,10 @@ fn list_names(
 pub fn tell_names(
     alloc: Global,
     post: &mut Post<'_>,
-    clients: &Slab<Person>,
+    clients: &Slab<ClientIdentity>,
     me: &Sender<'_>,
     name: &[u8],
-    members: &[Member],
+    members: &[ServerMember],
 ) -> Result<(), NoMemory>
     ensures told { OnOk result (post.new
         ≡ posted (listing me.now.key me.now.person.now name.now (names_of clients.now.slots members.now)) post.old) }

@@ -3,15 +3,15 @@ ghost use Rattle.std.specs.Prelude.{◌≡◌, OnOk};
 ghost use Rattle.miniircd.specs.People.{holder};
 ghost use Rattle.miniircd.specs.Mail.{readers};
 
-use crate::member::{Channel, is_member};
-use crate::person::Person;
+use crate::client_identity::ClientIdentity;
+use crate::member::{ServerChannel, is_member};
 use crate::post::Post;
 use bytetext::NoMemory;
 use slab::Slab;
 use std::alloc::Global;
 
 /// Returns the client that holds `nick`.
-pub fn holder(clients: &Slab<Person>, nick: &[u8]) -> Option<usize>
+pub fn holder(clients: &Slab<ClientIdentity>, nick: &[u8]) -> Option<usize>
     ensures { result ≡ holder nick.now clients.now.slots }
 {
     for (client, person) in clients.iter() {
@@ -23,7 +23,7 @@ pub fn holder(clients: &Slab<Person>, nick: &[u8]) -> Option<usize>
 }
 
 // Returns whether the clients `a` and `b` share a channel.
-fn shares(channels: &[Channel], a: usize, b: usize) -> bool {
+fn shares(channels: &[ServerChannel], a: usize, b: usize) -> bool {
     channels.iter().any(|channel| {
         is_member(channel.members.as_slice(), a) && is_member(channel.members.as_slice(), b)
     })
@@ -36,8 +36,8 @@ fn shares(channels: &[Channel], a: usize, b: usize) -> bool {
 pub fn spread_to_neighbours(
     alloc: Global,
     post: &mut Post<'_>,
-    clients: &Slab<Person>,
-    channels: &[Channel],
+    clients: &Slab<ClientIdentity>,
+    channels: &[ServerChannel],
     client: usize,
     text: &[u8],
 ) -> Result<(), NoMemory>

@@ -3,8 +3,8 @@ ghost use Rattle.std.specs.Prelude.{◌≡◌, ◌&&◌, ◌∷◌, [], true, If
 ghost use Rattle.ircline.specs.Classes.{filled, octet};
 ghost use Rattle.miniircd.specs.Mail.{sealed, posted, readers, serves, are_sound};
 
-use crate::client::{Client, Sent};
-use crate::person::Person;
+use crate::client::{Client, SentLine};
+use crate::client_identity::ClientIdentity;
 use bytetext::{NoMemory, Text};
 use slab::Slab;
 use std::alloc::Global;
@@ -17,9 +17,9 @@ const MAX_LINE: usize = 510;
 /// connected and isn't about to leave, has 1 to 510 bytes, and no NUL, CR or LF.
 #[derive(Drop)]
 pub struct Post<'a> {
-    clients: &'a Slab<Person>,
+    clients: &'a Slab<ClientIdentity>,
     leaver: Option<usize>,
-    lines: Vec<Sent>,
+    lines: Vec<SentLine>,
 }
 
 impl<'a> Model for Post<'a> {
@@ -35,7 +35,7 @@ impl<'a> Model for Post<'a> {
 
 impl<'a> Post<'a> {
     /// Creates an empty list of lines for `clients`, of which `leaver` is about to leave.
-    pub fn new(alloc: Global, clients: &'a Slab<Person>, leaver: Option<usize>) -> Post<'a>
+    pub fn new(alloc: Global, clients: &'a Slab<ClientIdentity>, leaver: Option<usize>) -> Post<'a>
         ensures { result ≡ record { clients = clients.now.slots; leaver = leaver; lines = [] } }
     {
         Post {
@@ -69,7 +69,7 @@ impl<'a> Post<'a> {
     {
         let line = sealed(alloc, text)?;
         if self.takes(to, line.as_bytes()) {
-            self.lines.push(Sent {
+            self.lines.push(SentLine {
                 to: Client(to),
                 line,
             })?;
@@ -78,7 +78,7 @@ impl<'a> Post<'a> {
     }
 
     /// Returns the lines, in order.
-    pub fn into_lines(self) -> Vec<Sent>
+    pub fn into_lines(self) -> Vec<SentLine>
         ensures lines { result.items ≡ self.entry.lines }
         ensures sound { are_sound self.entry.clients self.entry.leaver result.items ≡ true }
     {

@@ -5,13 +5,13 @@ ghost use Rattle.miniircd.specs.People.{holder};
 ghost use Rattle.miniircd.specs.Mail.{readers};
 ghost use Rattle.miniircd.specs.Commands.{is_other, is_nick_byte, is_nick, nick_change, user_byte, user_change};
 
-use crate::change::Change;
+use crate::client_identity::ClientIdentity;
 use crate::lines::{relayed, source_of};
-use crate::member::Channel;
+use crate::member::ServerChannel;
 use crate::people::{holder, spread_to_neighbours};
-use crate::person::Person;
 use crate::post::Post;
 use crate::replies::{Sender, tell, tell_of};
+use crate::server_change::ServerChange;
 use crate::texts::front;
 use bytetext::{NoMemory, Text, TryCopy};
 use slab::Slab;
@@ -53,7 +53,7 @@ fn welcome(
     alloc: Global,
     post: &mut Post<'_>,
     client: usize,
-    person: &Person,
+    person: &ClientIdentity,
 ) -> Result<(), NoMemory>
     ensures { OnOk result (readers post.new ≡ readers post.old) }
 {
@@ -72,8 +72,8 @@ fn welcome(
 fn announce(
     alloc: Global,
     post: &mut Post<'_>,
-    clients: &Slab<Person>,
-    channels: &[Channel],
+    clients: &Slab<ClientIdentity>,
+    channels: &[ServerChannel],
     me: &Sender<'_>,
     new: &[u8],
 ) -> Result<(), NoMemory>
@@ -92,24 +92,24 @@ fn announce(
 pub fn nick(
     alloc: Global,
     post: &mut Post<'_>,
-    clients: &Slab<Person>,
-    channels: &[Channel],
+    clients: &Slab<ClientIdentity>,
+    channels: &[ServerChannel],
     me: &Sender<'_>,
     new: &[u8],
-) -> Result<Change, NoMemory>
+) -> Result<ServerChange, NoMemory>
     ensures change { IfOk result
         (λ change. change ≡ nick_change me.now.key me.now.person.now clients.now.slots new.now) }
     ensures readers { OnOk result (readers post.new ≡ readers post.old) }
 {
     if is_other(me.key, holder(clients, new)) {
         tell_of(alloc, post, me, b"433", new, b"Nickname in use")?;
-        return Ok(Change::Same);
+        return Ok(ServerChange::Same);
     }
     if !is_nick(new) {
         tell_of(alloc, post, me, b"432", new, b"Erroneous nickname")?;
-        return Ok(Change::Same);
+        return Ok(ServerChange::Same);
     }
-    let person = Person {
+    let person = ClientIdentity {
         nick: Text::from_slice(alloc, new)?,
         user: me.person.user.copy(alloc)?,
     };
@@ -118,7 +118,7 @@ pub fn nick(
     } else {
         welcome(alloc, post, me.key, &person)?;
     }
-    Ok(Change::Person(person))
+    Ok(ServerChange::Person(person))
 }
 
 fn user_byte(byte: u8) -> u8
@@ -151,18 +151,18 @@ pub fn user(
     post: &mut Post<'_>,
     me: &Sender<'_>,
     name: &[u8],
-) -> Result<Change, NoMemory>
+) -> Result<ServerChange, NoMemory>
     ensures change { IfOk result (λ change. change ≡ user_change me.now.person.now name.now) }
     ensures readers { OnOk result (readers post.new ≡ readers post.old) }
 {
     if me.person.user.len() > 0 {
-        return Ok(Change::Same);
+        return Ok(ServerChange::Same);
     }
     let name = user_name(alloc, front(name, MAX_NAME))?;
-    let person = Person {
+    let person = ClientIdentity {
         nick: me.person.nick.copy(alloc)?,
         user: Text::new(name),
     };
     welcome(alloc, post, me.key, &person)?;
-    Ok(Change::Person(person))
+    Ok(ServerChange::Person(person))
 }

@@ -3,10 +3,10 @@ ghost use Rattle.std.specs.Prelude.{◌≡◌, ◌∷◌, [], OnOk};
 ghost use Rattle.miniircd.specs.Mail.{posted, readers};
 ghost use Rattle.miniircd.specs.Lines.{repeated, told, spread, others};
 
-use crate::edit::without;
+use crate::channel_edit::without;
+use crate::client_identity::ClientIdentity;
 use crate::lines::{numbered, repeated};
-use crate::member::Member;
-use crate::person::Person;
+use crate::member::ServerMember;
 use crate::post::Post;
 use bytetext::NoMemory;
 use std::alloc::Global;
@@ -17,7 +17,7 @@ pub struct Sender<'a> {
     /// Its number.
     pub key: usize,
     /// What the server knows of it.
-    pub person: &'a Person,
+    pub person: &'a ClientIdentity,
 }
 
 /// Appends to `post` the reply to the sender `me` with the number `code`. `words` have a space before each, and `last`
@@ -60,7 +60,7 @@ pub fn tell_of(
 pub fn spread(
     alloc: Global,
     post: &mut Post<'_>,
-    members: &[Member],
+    members: &[ServerMember],
     text: &[u8],
 ) -> Result<(), NoMemory>
     ensures told { OnOk result (post.new ≡ posted (spread text.now members.now) post.old) }
@@ -76,7 +76,7 @@ pub fn spread(
 pub fn spread_to_others(
     alloc: Global,
     post: &mut Post<'_>,
-    members: &[Member],
+    members: &[ServerMember],
     client: usize,
     text: &[u8],
 ) -> Result<(), NoMemory>

@@ -6,14 +6,14 @@ ghost use Rattle.miniircd.specs.Mail.{readers};
 ghost use Rattle.miniircd.specs.Rooms.{room};
 ghost use Rattle.miniircd.specs.Commands.{standing_in, part_change, topic_change, target_on, kicked, kick_change};
 
-use crate::change::Change;
-use crate::edit::{Edit, rooms_after};
+use crate::channel_edit::{ChannelEdit, rooms_after};
+use crate::client_identity::ClientIdentity;
 use crate::lines::{relayed, source_of};
-use crate::member::{Channel, channel_of, is_on};
+use crate::member::{ServerChannel, channel_of, is_on};
 use crate::people::holder;
-use crate::person::Person;
 use crate::post::Post;
 use crate::replies::{Sender, spread, tell_of};
+use crate::server_change::ServerChange;
 use crate::standing::{Standing, find_standing};
 use bytetext::{NoMemory, Seq};
 use slab::Slab;
@@ -49,7 +49,7 @@ pub fn turn_away(
 pub fn pass_on(
     alloc: Global,
     post: &mut Post<'_>,
-    channels: &[Channel],
+    channels: &[ServerChannel],
     me: &Sender<'_>,
     command: &[u8],
     name: &[u8],
@@ -73,7 +73,7 @@ pub fn pass_on(
 fn pass_name_on(
     alloc: Global,
     post: &mut Post<'_>,
-    channels: &[Channel],
+    channels: &[ServerChannel],
     me: &Sender<'_>,
     command: &[u8],
     name: &[u8],
@@ -95,11 +95,11 @@ fn pass_name_on(
 pub fn part(
     alloc: Global,
     post: &mut Post<'_>,
-    channels: &[Channel],
+    channels: &[ServerChannel],
     me: &Sender<'_>,
     name: &[u8],
     text: Option<&[u8]>,
-) -> Result<Change, NoMemory>
+) -> Result<ServerChange, NoMemory>
     ensures change { IfOk result (λ change. change
         ≡ part_change (standing_in me.now.key (room name.now channels.now)) me.now.key name.now channels.now) }
     ensures readers { OnOk result (readers post.new ≡ readers post.old) }
@@ -108,15 +108,15 @@ pub fn part(
     match standing {
         Standing::Unknown | Standing::Outside => {
             turn_away(alloc, post, me, name, standing)?;
-            Ok(Change::Same)
+            Ok(ServerChange::Same)
         }
         Standing::Plain | Standing::Op => {
             match text {
                 Some(text) => pass_on(alloc, post, channels, me, b"PART", name, b"", text)?,
                 None => pass_name_on(alloc, post, channels, me, b"PART", name)?,
             }
-            let after = rooms_after(alloc, channels, Some(name), Edit::Leave(me.key))?;
-            Ok(Change::Channels(Seq::new(after)))
+            let after = rooms_after(alloc, channels, Some(name), ChannelEdit::Leave(me.key))?;
+            Ok(ServerChange::Channels(Seq::new(after)))
         }
     }
 }
@@ -125,7 +125,7 @@ pub fn part(
 fn tell_topic(
     alloc: Global,
     post: &mut Post<'_>,
-    channels: &[Channel],
+    channels: &[ServerChannel],
     me: &Sender<'_>,
     name: &[u8],
 ) -> Result<(), NoMemory>
@@ -147,11 +147,11 @@ fn tell_topic(
 pub fn topic(
     alloc: Global,
     post: &mut Post<'_>,
-    channels: &[Channel],
+    channels: &[ServerChannel],
     me: &Sender<'_>,
     name: &[u8],
     text: Option<&[u8]>,
-) -> Result<Change, NoMemory>
+) -> Result<ServerChange, NoMemory>
     ensures change { IfOk result (λ change. change
         ≡ topic_change (standing_in me.now.key (room name.now channels.now)) name.now (option_copied text.entry) channels.now) }
     ensures readers { OnOk result (readers post.new ≡ readers post.old) }
@@ -160,24 +160,24 @@ pub fn topic(
     match (standing, text) {
         (Standing::Unknown | Standing::Outside, _) => {
             turn_away(alloc, post, me, name, standing)?;
-            Ok(Change::Same)
+            Ok(ServerChange::Same)
         }
         (Standing::Plain | Standing::Op, None) => {
             tell_topic(alloc, post, channels, me, name)?;
-            Ok(Change::Same)
+            Ok(ServerChange::Same)
         }
         (Standing::Plain | Standing::Op, Some(text)) => {
             pass_on(alloc, post, channels, me, b"TOPIC", name, b"", text)?;
-            let after = rooms_after(alloc, channels, Some(name), Edit::Title(text))?;
-            Ok(Change::Channels(Seq::new(after)))
+            let after = rooms_after(alloc, channels, Some(name), ChannelEdit::Title(text))?;
+            Ok(ServerChange::Channels(Seq::new(after)))
         }
     }
 }
 
 /// Returns the member of the channel `name` that holds `nick`.
 pub fn target_on(
-    clients: &Slab<Person>,
-    channels: &[Channel],
+    clients: &Slab<ClientIdentity>,
+    channels: &[ServerChannel],
     name: &[u8],
     nick: &[u8],
 ) -> Option<usize>
@@ -193,19 +193,19 @@ pub fn target_on(
 fn kick_out(
     alloc: Global,
     post: &mut Post<'_>,
-    channels: &[Channel],
+    channels: &[ServerChannel],
     me: &Sender<'_>,
     name: &[u8],
     nick: &[u8],
     reason: &[u8],
     target: Option<usize>,
-) -> Result<Change, NoMemory>
+) -> Result<ServerChange, NoMemory>
     ensures change { IfOk result (λ change. change ≡ kicked target name.now channels.now) }
     ensures readers { OnOk result (readers post.new ≡ readers post.old) }
 {
     let Some(client) = target else {
         tell_of(alloc, post, me, b"401", nick, b"No such nick")?;
-        return Ok(Change::Same);
+        return Ok(ServerChange::Same);
     };
     let mut words = Vec::from_slice(alloc, b" ")?;
     words.extend_from_slice(nick)?;
@@ -219,8 +219,8 @@ fn kick_out(
         words.as_slice(),
         reason,
     )?;
-    let after = rooms_after(alloc, channels, Some(name), Edit::Leave(client))?;
-    Ok(Change::Channels(Seq::new(after)))
+    let after = rooms_after(alloc, channels, Some(name), ChannelEdit::Leave(client))?;
+    Ok(ServerChange::Channels(Seq::new(after)))
 }
 
 /// Answers a KICK of `nick` off the channel `name`. If there is no `reason`, the nick of the client `me` is the reason.
@@ -230,13 +230,13 @@ fn kick_out(
 pub fn kick(
     alloc: Global,
     post: &mut Post<'_>,
-    clients: &Slab<Person>,
-    channels: &[Channel],
+    clients: &Slab<ClientIdentity>,
+    channels: &[ServerChannel],
     me: &Sender<'_>,
     name: &[u8],
     nick: &[u8],
     reason: Option<&[u8]>,
-) -> Result<Change, NoMemory>
+) -> Result<ServerChange, NoMemory>
     ensures change { IfOk result (λ change. change
         ≡ kick_change (standing_in me.now.key (room name.now channels.now)) clients.now.slots name.now nick.now channels.now) }
     ensures readers { OnOk result (readers post.new ≡ readers post.old) }
@@ -245,7 +245,7 @@ pub fn kick(
     match standing {
         Standing::Unknown | Standing::Outside | Standing::Plain => {
             turn_away(alloc, post, me, name, standing)?;
-            Ok(Change::Same)
+            Ok(ServerChange::Same)
         }
         Standing::Op => {
             let target = target_on(clients, channels, name, nick);

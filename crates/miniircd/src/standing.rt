@@ -3,7 +3,7 @@ ghost use Rattle.std.specs.Prelude.{◌≡◌};
 ghost use Rattle.miniircd.specs.Rooms.{room};
 ghost use Rattle.miniircd.specs.Commands.{standing_in};
 
-use crate::member::{Channel, channel_of, member_of};
+use crate::member::{ServerChannel, channel_of, member_of};
 
 /// A client's standing with a channel.
 #[derive(Clone, Copy)]
@@ -19,7 +19,7 @@ pub enum Standing {
 }
 
 /// Returns the standing of `client` with the channel called `name`.
-pub fn find_standing(channels: &[Channel], name: &[u8], client: usize) -> Standing
+pub fn find_standing(channels: &[ServerChannel], name: &[u8], client: usize) -> Standing
     ensures { result ≡ standing_in client (room name.now channels.now) }
 {
     let Some(channel) = channel_of(channels, name) else {

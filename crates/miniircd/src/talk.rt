@@ -6,10 +6,10 @@ ghost use Rattle.miniircd.specs.Mail.{posted, readers};
 ghost use Rattle.miniircd.specs.Talk.{loudly, speech, talk_to_room, talk_to_client, talk_letters, if_there, talk_command, pong};
 ghost use Rattle.miniircd.specs.Lines.{told, repeated};
 
+use crate::client_identity::ClientIdentity;
 use crate::lines::{relayed, source_of};
-use crate::member::{Channel, channel_of, is_member};
+use crate::member::{ServerChannel, channel_of, is_member};
 use crate::people::holder;
-use crate::person::Person;
 use crate::post::Post;
 use crate::replies::{Sender, spread_to_others, tell_of};
 use bytetext::NoMemory;
@@ -45,7 +45,7 @@ fn talk_command(loud: bool) -> &'static [u8]
 // Returns the line that the server passes on.
 fn speech(
     alloc: Global,
-    person: &Person,
+    person: &ClientIdentity,
     loud: bool,
     target: &[u8],
     text: &[u8],
@@ -71,7 +71,7 @@ fn talk_to_room(
     loud: bool,
     target: &[u8],
     text: &[u8],
-    channel: Option<&Channel>,
+    channel: Option<&ServerChannel>,
 ) -> Result<(), NoMemory>
     ensures { OnOk result (post.new
         ≡ posted (talk_to_room loud me.now.key me.now.person.now target.now text.now (option_copied channel.entry))
@@ -108,7 +108,7 @@ fn talk_to_client(
 }
 
 // Returns the client, if it is registered.
-pub(crate) fn if_there(clients: &Slab<Person>, client: Option<usize>) -> Option<usize>
+pub(crate) fn if_there(clients: &Slab<ClientIdentity>, client: Option<usize>) -> Option<usize>
     ensures { result ≡ if_there clients.now.slots client }
 {
     let client = client?;
@@ -125,8 +125,8 @@ pub(crate) fn if_there(clients: &Slab<Person>, client: Option<usize>) -> Option<
 pub fn talk(
     alloc: Global,
     post: &mut Post<'_>,
-    clients: &Slab<Person>,
-    channels: &[Channel],
+    clients: &Slab<ClientIdentity>,
+    channels: &[ServerChannel],
     me: &Sender<'_>,
     loud: bool,
     target: &[u8],

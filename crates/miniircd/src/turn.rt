@@ -7,20 +7,20 @@ ghost use Rattle.miniircd.specs.Rooms.{joined_each, room};
 ghost use Rattle.miniircd.specs.Lines.{join_letters_each, source_of};
 ghost use Rattle.miniircd.specs.Commands.{change_by, change_of, standing_in, kick_change, mode_change};
 ghost use Rattle.miniircd.specs.Server.{LeavesAs};
-ghost use Rattle.miniircd.specs.declared.change.Change.TheVariants.{Same};
+ghost use Rattle.miniircd.specs.declared.server_change.ServerChange.TheVariants.{Same};
 ghost use Rattle.miniircd.specs.Talk.{talk_letters, exact_by, exact_of_few, exact_letters};
 
-use crate::change::Change;
-use crate::command::{Command, read_command};
+use crate::client_command::{ClientCommand, read_command};
+use crate::client_identity::ClientIdentity;
 use crate::inquiries::inquire;
 use crate::join::join_each;
-use crate::member::Channel;
+use crate::member::ServerChannel;
 use crate::mode::mode;
-use crate::person::Person;
 use crate::post::Post;
 use crate::register::{nick, user};
 use crate::replies::{Sender, tell, tell_of};
 use crate::rooms::{kick, part, topic};
+use crate::server_change::ServerChange;
 use crate::talk::{answer_ping, talk};
 use crate::texts::{param, params_from, word};
 use crate::who::{names, who};
@@ -44,8 +44,8 @@ fn names_in(alloc: Global, list: &[u8]) -> Result<Vec<Text>, NoMemory>
 fn join(
     alloc: Global,
     post: &mut Post<'_>,
-    clients: &Slab<Person>,
-    channels: &mut Vec<Channel>,
+    clients: &Slab<ClientIdentity>,
+    channels: &mut Vec<ServerChannel>,
     me: &Sender<'_>,
     list: &[u8],
 ) -> Result<(), NoMemory>
@@ -65,11 +65,11 @@ fn join(
 fn kick_by(
     alloc: Global,
     post: &mut Post<'_>,
-    clients: &Slab<Person>,
-    channels: &[Channel],
+    clients: &Slab<ClientIdentity>,
+    channels: &[ServerChannel],
     me: &Sender<'_>,
     params: &[Text],
-) -> Result<Change, NoMemory>
+) -> Result<ServerChange, NoMemory>
     ensures change { IfOk result (λ change. change
         ≡ kick_change (standing_in me.now.key (room (word_at 0 params.now) channels.now)) clients.now.slots (word_at 0 params.now)
         (word_at 1 params.now) channels.now) }
@@ -84,11 +84,11 @@ fn kick_by(
 fn mode_by(
     alloc: Global,
     post: &mut Post<'_>,
-    clients: &Slab<Person>,
-    channels: &[Channel],
+    clients: &Slab<ClientIdentity>,
+    channels: &[ServerChannel],
     me: &Sender<'_>,
     params: &[Text],
-) -> Result<Change, NoMemory>
+) -> Result<ServerChange, NoMemory>
     ensures change { IfOk result (λ change. change
         ≡ mode_change (standing_in me.now.key (room (word_at 0 params.now) channels.now)) clients.now.slots (word_at 0 params.now)
         (word_at 1 params.now) (drop 2 params.now) channels.now) }
@@ -103,12 +103,12 @@ fn mode_by(
 fn talk_by(
     alloc: Global,
     post: &mut Post<'_>,
-    clients: &Slab<Person>,
-    channels: &[Channel],
+    clients: &Slab<ClientIdentity>,
+    channels: &[ServerChannel],
     me: &Sender<'_>,
     loud: bool,
     params: &[Text],
-) -> Result<Change, NoMemory>
+) -> Result<ServerChange, NoMemory>
     ensures change { IfOk result (λ change. change ≡ Same) }
     ensures told { OnOk result (post.new
         ≡ posted (talk_letters loud me.now.key me.now.person.now clients.now.slots channels.now (word_at 0 params.now)
@@ -117,20 +117,20 @@ fn talk_by(
 {
     let (target, text) = (word(params, 0), word(params, 1));
     talk(alloc, post, clients, channels, me, loud, target, text)?;
-    Ok(Change::Same)
+    Ok(ServerChange::Same)
 }
 
 // Carries out a command that its client may send, with the parameters that it needs. The caller handles QUIT.
 fn act(
     alloc: Global,
     post: &mut Post<'_>,
-    clients: &Slab<Person>,
-    channels: &mut Vec<Channel>,
+    clients: &Slab<ClientIdentity>,
+    channels: &mut Vec<ServerChannel>,
     me: &Sender<'_>,
-    command: Command,
+    command: ClientCommand,
     name: &[u8],
     params: &[Text],
-) -> Result<Change, NoMemory>
+) -> Result<ServerChange, NoMemory>
     ensures change { IfOk result (λ change. LeavesAs me.now.key clients.now.slots change channels.new.items
         (change_by command me.now.key me.now.person.now clients.now.slots channels.old.items params.now) channels.old.items) }
     ensures err { OnErr result (channels.new.items ≡ channels.old.items) }
@@ -142,39 +142,39 @@ fn act(
     let rooms = channels.as_slice();
     let first = word(params, 0);
     match command {
-        Command::Nick => nick(alloc, post, clients, rooms, me, first),
-        Command::User => user(alloc, post, me, first),
-        Command::Join => {
+        ClientCommand::Nick => nick(alloc, post, clients, rooms, me, first),
+        ClientCommand::User => user(alloc, post, me, first),
+        ClientCommand::Join => {
             join(alloc, post, clients, channels, me, first)?;
-            Ok(Change::Same)
+            Ok(ServerChange::Same)
         }
-        Command::Part => part(alloc, post, rooms, me, first, param(params, 1)),
-        Command::Topic => topic(alloc, post, rooms, me, first, param(params, 1)),
-        Command::Kick => kick_by(alloc, post, clients, rooms, me, params),
-        Command::Mode => mode_by(alloc, post, clients, rooms, me, params),
-        Command::Privmsg => talk_by(alloc, post, clients, rooms, me, true, params),
-        Command::Notice => talk_by(alloc, post, clients, rooms, me, false, params),
-        Command::Names => {
+        ClientCommand::Part => part(alloc, post, rooms, me, first, param(params, 1)),
+        ClientCommand::Topic => topic(alloc, post, rooms, me, first, param(params, 1)),
+        ClientCommand::Kick => kick_by(alloc, post, clients, rooms, me, params),
+        ClientCommand::Mode => mode_by(alloc, post, clients, rooms, me, params),
+        ClientCommand::Privmsg => talk_by(alloc, post, clients, rooms, me, true, params),
+        ClientCommand::Notice => talk_by(alloc, post, clients, rooms, me, false, params),
+        ClientCommand::Names => {
             names(alloc, post, clients, rooms, me, first)?;
-            Ok(Change::Same)
+            Ok(ServerChange::Same)
         }
-        Command::Who => {
+        ClientCommand::Who => {
             who(alloc, post, clients, rooms, me, first)?;
-            Ok(Change::Same)
+            Ok(ServerChange::Same)
         }
-        Command::Ping => {
+        ClientCommand::Ping => {
             answer_ping(alloc, post, me.key, first)?;
-            Ok(Change::Same)
+            Ok(ServerChange::Same)
         }
-        Command::Ask(inquiry) => {
+        ClientCommand::Ask(inquiry) => {
             inquire(alloc, post, clients, rooms, me, inquiry, params)?;
-            Ok(Change::Same)
+            Ok(ServerChange::Same)
         }
-        Command::Unknown => {
+        ClientCommand::Unknown => {
             tell_of(alloc, post, me, b"421", name, b"Unknown command")?;
-            Ok(Change::Same)
+            Ok(ServerChange::Same)
         }
-        Command::Quit => Ok(Change::Same),
+        ClientCommand::Quit => Ok(ServerChange::Same),
     }
 }
 
@@ -183,7 +183,7 @@ fn tell_few(
     alloc: Global,
     post: &mut Post<'_>,
     me: &Sender<'_>,
-    command: Command,
+    command: ClientCommand,
     word: &[u8],
 ) -> Result<(), NoMemory>
     ensures told { OnOk result
@@ -192,21 +192,21 @@ fn tell_few(
     ensures readers { OnOk result (readers post.new ≡ readers post.old) }
 {
     match command {
-        Command::Notice => Ok(()),
-        Command::Nick
-        | Command::User
-        | Command::Join
-        | Command::Part
-        | Command::Topic
-        | Command::Kick
-        | Command::Mode
-        | Command::Privmsg
-        | Command::Names
-        | Command::Who
-        | Command::Ping
-        | Command::Quit
-        | Command::Ask(_)
-        | Command::Unknown => tell_of(alloc, post, me, b"461", word, b"Need more parameters"),
+        ClientCommand::Notice => Ok(()),
+        ClientCommand::Nick
+        | ClientCommand::User
+        | ClientCommand::Join
+        | ClientCommand::Part
+        | ClientCommand::Topic
+        | ClientCommand::Kick
+        | ClientCommand::Mode
+        | ClientCommand::Privmsg
+        | ClientCommand::Names
+        | ClientCommand::Who
+        | ClientCommand::Ping
+        | ClientCommand::Quit
+        | ClientCommand::Ask(_)
+        | ClientCommand::Unknown => tell_of(alloc, post, me, b"461", word, b"Need more parameters"),
     }
 }
 
@@ -217,11 +217,11 @@ fn tell_few(
 pub fn answer(
     alloc: Global,
     post: &mut Post<'_>,
-    clients: &Slab<Person>,
-    channels: &mut Vec<Channel>,
+    clients: &Slab<ClientIdentity>,
+    channels: &mut Vec<ServerChannel>,
     me: &Sender<'_>,
     message: &Message,
-) -> Result<Change, NoMemory>
+) -> Result<ServerChange, NoMemory>
     ensures change { IfOk result (λ change. LeavesAs me.now.key clients.now.slots change channels.new.items
         (change_of me.now.key me.now.person.now clients.now.slots channels.old.items message.now) channels.old.items) }
     ensures err { OnErr result (channels.new.items ≡ channels.old.items) }
@@ -235,11 +235,11 @@ pub fn answer(
     let command = read_command(name);
     if !(me.person.is_registered() || command.is_open()) {
         tell(alloc, post, me, b"451", b"", b"Not registered")?;
-        return Ok(Change::Same);
+        return Ok(ServerChange::Same);
     }
     if params.len() < command.needed() {
         tell_few(alloc, post, me, command, name)?;
-        return Ok(Change::Same);
+        return Ok(ServerChange::Same);
     }
     act(alloc, post, clients, channels, me, command, name, params)
 }

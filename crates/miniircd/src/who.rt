@@ -2,10 +2,10 @@
 ghost use Rattle.std.specs.Prelude.{◌≡◌, OnOk};
 ghost use Rattle.miniircd.specs.Mail.{readers};
 
+use crate::client_identity::ClientIdentity;
 use crate::lines::repeated;
-use crate::member::{Channel, Member, channel_of};
+use crate::member::{ServerChannel, ServerMember, channel_of};
 use crate::names::{marks, tell_names};
-use crate::person::Person;
 use crate::post::Post;
 use crate::replies::{Sender, tell, tell_of};
 use bytetext::NoMemory;
@@ -13,7 +13,7 @@ use slab::Slab;
 use std::alloc::Global;
 
 // Returns the members of the channel called `name`.
-fn members_of<'a>(channels: &'a [Channel], name: &[u8]) -> &'a [Member] {
+fn members_of<'a>(channels: &'a [ServerChannel], name: &[u8]) -> &'a [ServerMember] {
     match channel_of(channels, name) {
         Some(channel) => channel.members.as_slice(),
         None => &[],
@@ -27,8 +27,8 @@ fn members_of<'a>(channels: &'a [Channel], name: &[u8]) -> &'a [Member] {
 pub fn names(
     alloc: Global,
     post: &mut Post<'_>,
-    clients: &Slab<Person>,
-    channels: &[Channel],
+    clients: &Slab<ClientIdentity>,
+    channels: &[ServerChannel],
     me: &Sender<'_>,
     name: &[u8],
 ) -> Result<(), NoMemory>
@@ -42,8 +42,8 @@ pub fn names(
 fn words_of(
     alloc: Global,
     name: &[u8],
-    member: &Member,
-    person: &Person,
+    member: &ServerMember,
+    person: &ClientIdentity,
 ) -> Result<Vec<u8>, NoMemory> {
     let name = repeated(alloc, name)?;
     let (nick, user) = (person.nick.as_bytes(), person.user.as_bytes());
@@ -64,10 +64,10 @@ fn words_of(
 fn tell_member(
     alloc: Global,
     post: &mut Post<'_>,
-    clients: &Slab<Person>,
+    clients: &Slab<ClientIdentity>,
     me: &Sender<'_>,
     name: &[u8],
-    member: &Member,
+    member: &ServerMember,
 ) -> Result<(), NoMemory>
     ensures { OnOk result (readers post.new ≡ readers post.old) }
 {
@@ -86,8 +86,8 @@ fn tell_member(
 pub fn who(
     alloc: Global,
     post: &mut Post<'_>,
-    clients: &Slab<Person>,
-    channels: &[Channel],
+    clients: &Slab<ClientIdentity>,
+    channels: &[ServerChannel],
     me: &Sender<'_>,
     name: &[u8],
 ) -> Result<(), NoMemory>

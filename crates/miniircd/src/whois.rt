@@ -2,11 +2,11 @@
 ghost use Rattle.std.specs.Prelude.{◌≡◌, OnOk};
 ghost use Rattle.miniircd.specs.Mail.{readers};
 
+use crate::client_identity::ClientIdentity;
 use crate::lines::repeated;
-use crate::member::{Channel, member_of};
+use crate::member::{ServerChannel, member_of};
 use crate::names::marked_name;
 use crate::people::holder;
-use crate::person::Person;
 use crate::post::Post;
 use crate::replies::{Sender, tell, tell_of};
 use crate::talk::if_there;
@@ -22,8 +22,8 @@ use std::alloc::Global;
 pub fn whois(
     alloc: Global,
     post: &mut Post<'_>,
-    clients: &Slab<Person>,
-    channels: &[Channel],
+    clients: &Slab<ClientIdentity>,
+    channels: &[ServerChannel],
     me: &Sender<'_>,
     nick: &[u8],
 ) -> Result<(), NoMemory>
@@ -40,8 +40,8 @@ pub fn whois(
 fn tell_nick(
     alloc: Global,
     post: &mut Post<'_>,
-    clients: &Slab<Person>,
-    channels: &[Channel],
+    clients: &Slab<ClientIdentity>,
+    channels: &[ServerChannel],
     me: &Sender<'_>,
     nick: &[u8],
 ) -> Result<(), NoMemory>
@@ -57,8 +57,8 @@ fn tell_nick(
 fn tell_client(
     alloc: Global,
     post: &mut Post<'_>,
-    clients: &Slab<Person>,
-    channels: &[Channel],
+    clients: &Slab<ClientIdentity>,
+    channels: &[ServerChannel],
     me: &Sender<'_>,
     client: usize,
 ) -> Result<(), NoMemory>
@@ -89,7 +89,7 @@ fn tell_server(
 }
 
 // Returns the words of the reply about a client, with a space before each.
-fn words_of(alloc: Global, person: &Person) -> Result<Vec<u8>, NoMemory> {
+fn words_of(alloc: Global, person: &ClientIdentity) -> Result<Vec<u8>, NoMemory> {
     let nick = repeated(alloc, person.nick.as_bytes())?;
     let words = [nick.as_slice(), b" ", person.user.as_bytes(), b" local *"];
     Ok(words.concat(alloc)?)
@@ -99,7 +99,7 @@ fn words_of(alloc: Global, person: &Person) -> Result<Vec<u8>, NoMemory> {
 fn tell_channels(
     alloc: Global,
     post: &mut Post<'_>,
-    channels: &[Channel],
+    channels: &[ServerChannel],
     me: &Sender<'_>,
     client: usize,
     nick: &[u8],

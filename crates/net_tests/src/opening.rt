@@ -3,7 +3,7 @@ ghost use Rattle.std.specs.Prelude.{IfOk};
 ghost use Rattle.botcore.specs.Steps.{IsGoodEvent};
 
 use crate::nets::no_procs;
-use botcore::{Bot, Config, Event, Returned};
+use botcore::{Bot, BotEvent, Config, UnopenedBot};
 use bottimers::Zone;
 use bytejournal::Disks;
 use bytetext::{Failure, NoMemory, Text, Texts};
@@ -24,11 +24,11 @@ fn config(alloc: Global, number: u16) -> Result<Config, NoMemory> {
 }
 
 // Makes the event that asks for alice.
-fn ask_alice(alloc: Global) -> Result<Event, NoMemory>
+fn ask_alice(alloc: Global) -> Result<BotEvent, NoMemory>
     ensures { IfOk result IsGoodEvent }
 {
     let handle = Text::from_slice(alloc, b"alice")?;
-    Ok(Event::Ask(Change::AddUser { handle }))
+    Ok(BotEvent::Ask(Change::AddUser { handle }))
 }
 
 // Has a hub accept alice.
@@ -36,7 +36,7 @@ fn add_alice(alloc: Global, hub: &mut Bot<MemDisk>) {
     let store = no_procs(alloc);
     if let Ok(event) = ask_alice(alloc) {
         let _queued = hub.step(alloc, &store, event);
-        let _accepted = hub.step(alloc, &store, Event::Pump);
+        let _accepted = hub.step(alloc, &store, BotEvent::Pump);
     }
 }
 
@@ -64,7 +64,7 @@ fn opened(
     alloc: Global,
     config: Config,
     disks: Disks<MemDisk>,
-) -> Result<Bot<MemDisk>, Returned<MemDisk>> {
+) -> Result<Bot<MemDisk>, UnopenedBot<MemDisk>> {
     let Disks {
         mut first,
         mut second,
@@ -75,7 +75,7 @@ fn opened(
 }
 
 // Returns the disks that are handed back, if the reason is that they hold no journal of that bot.
-fn handed_back(returned: Returned<MemDisk>) -> Option<Disks<MemDisk>> {
+fn handed_back(returned: UnopenedBot<MemDisk>) -> Option<Disks<MemDisk>> {
     let is_none = match returned.error {
         Failure::Refused(fault) => fault.code() == "J2",
         Failure::NoMemory => false,

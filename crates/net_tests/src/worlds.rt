@@ -1,6 +1,6 @@
 // All bots and their packets: `botworld`.
 use crate::nets::{new_bots, no_procs};
-use botcore::Event;
+use botcore::BotEvent;
 use botjournal::LAYOUT;
 use botworld::{Outcome, Step, Transcript, World};
 use bytetext::TryCopy;
@@ -39,7 +39,7 @@ fn made_up() -> Packet {
 
 // Makes the step by which the hub receives `packet`.
 fn receiving(packet: Packet) -> Step {
-    let event = Event::Receive(packet);
+    let event = BotEvent::Receive(packet);
     Step::At { bot: 0, event }
 }
 

@@ -2,7 +2,7 @@
 use crate::fault::{AskError, AskFault, command_error, machine_error, socket_error};
 use botfolder::{FolderFault, MAX_PATH, control_of};
 use bytetext::{Failure, NoMemory};
-use control::{Command, body_of};
+use control::{AdminCommand, body_of};
 use net::{Bounds, UnixSocket, Watch, Wire};
 use std::alloc::Global;
 use std::net::Net;
@@ -40,7 +40,7 @@ struct Talk {
 /// waits for the bot's end.
 ///
 /// # Errors
-/// `Command` if `line` is no command; `Folder` for a name that is too long; `Nobody`, `Barred`, `Busy`, `LetGo`,
+/// `AdminCommand` if `line` is no command; `Folder` for a name that is too long; `Nobody`, `Barred`, `Busy`, `LetGo`,
 /// `Silent`, `TooLong` and `Machine`, as [`AskFault`] describes them; `NoMemory` if an allocation fails. After `LetGo`,
 /// `Silent`, `TooLong`, `Machine` or `NoMemory` the bot may have carried out the command.
 pub fn ask<R: AllocGlobal + Net + Clock>(
@@ -48,7 +48,7 @@ pub fn ask<R: AllocGlobal + Net + Clock>(
     folder: &str,
     line: &[u8],
 ) -> Result<Vec<u8>, AskError> {
-    let is_last = match Command::read(rt.alloc(), line) {
+    let is_last = match AdminCommand::read(rt.alloc(), line) {
         Ok(command) => is_die(&command),
         Err(error) => return Err(command_error(error)),
     };
@@ -62,17 +62,17 @@ pub fn ask<R: AllocGlobal + Net + Clock>(
     }
 }
 
-fn is_die(command: &Command) -> bool {
+fn is_die(command: &AdminCommand) -> bool {
     match command {
-        Command::Die(_) => true,
-        Command::Change(_)
-        | Command::Show
-        | Command::Status
-        | Command::Bind(_)
-        | Command::Unbind(_)
-        | Command::Say(_)
-        | Command::Compact
-        | Command::Jump => false,
+        AdminCommand::Die(_) => true,
+        AdminCommand::Change(_)
+        | AdminCommand::Show
+        | AdminCommand::Status
+        | AdminCommand::Bind(_)
+        | AdminCommand::Unbind(_)
+        | AdminCommand::Say(_)
+        | AdminCommand::Compact
+        | AdminCommand::Jump => false,
     }
 }
 

@@ -2,7 +2,7 @@
 use botfolder::{FolderError, FolderFault};
 use bytejournal::JournalFault;
 use bytetext::{Failure, NoMemory};
-use control::{Advice, CommandError};
+use control::{CommandAdvice, CommandError};
 use std::alloc::AllocError;
 use std::io;
 use std::io::ErrorKind;
@@ -14,7 +14,7 @@ use thiserror::Error;
 pub enum AskFault {
     /// The command is not understood. No bot was asked.
     #[error("{0}")]
-    Command(Advice),
+    Command(CommandAdvice),
     /// Nobody listens at the folder's socket, or the socket does not exist.
     #[error("no bot runs on")]
     Nobody,

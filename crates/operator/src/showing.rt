@@ -9,7 +9,7 @@ ghost use Rattle.operator.specs.Showing.{IsShown};
 use crate::asking::ask;
 use crate::fault::{AskError, AskFault, folder_error, journal_error};
 use botfolder::{FolderFault, Stopped, read_stopped};
-use botjournal::Journal;
+use botjournal::BotJournal;
 use bytetext::Failure;
 use disks::MemDisk;
 use recordtext::put_records;
@@ -80,7 +80,7 @@ fn name(alloc: Global, copies: Stopped) -> Result<Named, AskError>
     ensures first { IfOk result (λ found. found.copies.first.content ≡ copies.first.content) }
     ensures second { IfOk result (λ found. found.copies.second.content ≡ copies.second.content) }
 {
-    let opened = match Journal::open(alloc, copies.first, copies.second) {
+    let opened = match BotJournal::open(alloc, copies.first, copies.second) {
         Ok(opened) => opened,
         Err(returned) => return Err(journal_error(returned.error)),
     };

@@ -9,7 +9,7 @@ use Rattle.outqueue.specs.declared.fault.QueueFault.{QueueFault}
 use Rattle.outqueue.specs.declared.fault.QueueFault.TheVariants.{BadLine, QueueFull}
 use Rattle.outqueue.specs.declared.queue.Queue.{Queue}
 use Rattle.outqueue.specs.declared.queue.Queue.TheVariants.{Mode, Server, Help}
-use Rattle.outqueue.specs.declared.queue.Which.TheVariants.{One}
+use Rattle.outqueue.specs.declared.queue.QueueSet.TheVariants.{One}
 use Rattle.outqueue.specs.Sending.{Sending, lines_in, room_in, with_room}
 
 -- the code that transcripts print

@@ -4,8 +4,8 @@ use Rattle.std.specs.Prelude.{List, [], ◌∷◌, ◌++◌, length, take, drop,
 use Rattle.outqueue.specs.declared.limits.TheConstants.{AHEAD, COST}
 use Rattle.outqueue.specs.declared.queue.Queue.{Queue}
 use Rattle.outqueue.specs.declared.queue.Queue.TheVariants.{Mode, Server, Help}
-use Rattle.outqueue.specs.declared.queue.Which.{Which}
-use Rattle.outqueue.specs.declared.queue.Which.TheVariants.{One, All}
+use Rattle.outqueue.specs.declared.queue.QueueSet.{QueueSet}
+use Rattle.outqueue.specs.declared.queue.QueueSet.TheVariants.{One, All}
 use Rattle.outqueue.specs.declared.queues.Counts.{Counts}
 use Rattle.outqueue.specs.Lanes.{first_of}
 
@@ -47,14 +47,14 @@ abbrev pub waiting : Sending → List (List ℕ)
 waiting q = q.mode ++ (q.server ++ q.help)
 
 -- the lines of one queue, or of all
-abbrev pub lines_in : Sending → Which → List (List ℕ)
+abbrev pub lines_in : Sending → QueueSet → List (List ℕ)
 lines_in q (One Mode) = q.mode
 lines_in q (One Server) = q.server
 lines_in q (One Help) = q.help
 lines_in q All = waiting q
 
 -- without the lines of one queue, or of all; the timer stays
-abbrev pub without : Sending → Which → Sending
+abbrev pub without : Sending → QueueSet → Sending
 without q (One Mode) = record q { mode = [] }
 without q (One Server) = record q { server = [] }
 without q (One Help) = record q { help = [] }

@@ -27,5 +27,5 @@ mod queues;
 pub use crate::fault::{PutError, QueueFault};
 pub use crate::limits::{AHEAD, COST, MAX_AT_ONCE, MAX_BYTES, MAX_LINES};
 pub use crate::pacing::over_moments;
-pub use crate::queue::{Queue, Which};
+pub use crate::queue::{Queue, QueueSet};
 pub use crate::queues::{Counts, Queues};

@@ -13,7 +13,7 @@ pub enum Queue {
 
 /// One queue or all of them.
 #[derive(Clone, Copy, Debug)]
-pub enum Which {
+pub enum QueueSet {
     /// This queue alone.
     One(Queue),
     /// All three.

@@ -9,7 +9,7 @@ use crate::fault::{PutError, QueueFault};
 use crate::lane::Lane;
 use crate::limits::{AHEAD, COST, MAX_AT_ONCE, MAX_LINES};
 use crate::line::is_bad_line;
-use crate::queue::{Queue, Which};
+use crate::queue::{Queue, QueueSet};
 use bytetext::{Failure, MOMENTS_END, NoMemory, Text, Texts, TryCopy, refuse};
 use std::alloc::Global;
 use std::marker::Model;
@@ -153,29 +153,29 @@ impl Queues {
     #[tactic(auto, unfolding(crate::specs::Refusals::refusal))]
     fn refusal_of(&self, queue: Queue, line: &Text) -> Option<QueueFault>
         ensures refusal { result ≡ refusal self.now queue line.now }
-        ensures room { IfNone result (length (lines_in self.now (Which.One queue)) < MAX_LINES) }
+        ensures room { IfNone result (length (lines_in self.now (QueueSet.One queue)) < MAX_LINES) }
     {
         if is_bad_line(line.as_bytes()) {
             return Some(QueueFault::BadLine);
         }
-        if self.len(Which::One(queue)) >= MAX_LINES {
+        if self.len(QueueSet::One(queue)) >= MAX_LINES {
             return Some(QueueFault::QueueFull);
         }
         None
     }
 
     /// Returns how many lines wait in the queues that `which` names.
-    pub fn len(&self, which: Which) -> usize
+    pub fn len(&self, which: QueueSet) -> usize
         ensures lines { result ≡ length (lines_in self.now which) }
         ensures small { result ≤ 3 * MAX_LINES }
-        ensures each { (queue : Queue) → length (lines_in self.now (Which.One queue)) ≤ MAX_LINES }
+        ensures each { (queue : Queue) → length (lines_in self.now (QueueSet.One queue)) ≤ MAX_LINES }
     {
         let (mode, server, help) = (self.mode.len(), self.server.len(), self.help.len());
         match which {
-            Which::One(Queue::Mode) => mode,
-            Which::One(Queue::Server) => server,
-            Which::One(Queue::Help) => help,
-            Which::All => mode + server + help,
+            QueueSet::One(Queue::Mode) => mode,
+            QueueSet::One(Queue::Server) => server,
+            QueueSet::One(Queue::Help) => help,
+            QueueSet::All => mode + server + help,
         }
     }
 
@@ -204,16 +204,16 @@ impl Queues {
     }
 
     /// Drops the lines of the queues that `which` names, and returns how many they were. The timer and the room stay.
-    pub fn clear(&mut self, which: Which) -> usize
+    pub fn clear(&mut self, which: QueueSet) -> usize
         ensures count { result ≡ length (lines_in self.old which) }
         ensures rest { self.new ≡ without self.old which }
     {
         let count = self.len(which);
         match which {
-            Which::One(Queue::Mode) => self.mode.clear(),
-            Which::One(Queue::Server) => self.server.clear(),
-            Which::One(Queue::Help) => self.help.clear(),
-            Which::All => {
+            QueueSet::One(Queue::Mode) => self.mode.clear(),
+            QueueSet::One(Queue::Server) => self.server.clear(),
+            QueueSet::One(Queue::Help) => self.help.clear(),
+            QueueSet::All => {
                 self.mode.clear();
                 self.server.clear();
                 self.help.clear();
@@ -289,7 +289,7 @@ impl Queues {
     {
         let behind = (now + AHEAD).saturating_sub(self.timer.max(now));
         let allowed = (behind + (COST - 1)) / COST;
-        self.len(Which::All).min(allowed as usize)
+        self.len(QueueSet::All).min(allowed as usize)
     }
 }
 

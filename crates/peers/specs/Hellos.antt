@@ -1,8 +1,8 @@
 -- When a leaf is to say hello.
 use Rattle.std.specs.Prelude.{ℕ, Bool, ◌+◌, ◌-◌, ◌^◌, ◌&&◌, min, nat_le, nat_lt, if◌then◌else◌, Option, None, Some}
 use Rattle.sharelink.specs.declared.TheConstants.{HELLO_CHANGES}
-use Rattle.sharelink.specs.declared.note.Note.{Note}
-use Rattle.sharelink.specs.declared.note.Note.TheVariants.{Queued, Idle, Sent, Accepted, Refused, Served, Old, Repeat, Gap, Early, Applied, Kept, Installed, Compacted, Relayed, Text, Stray, Restarted}
+use Rattle.sharelink.specs.declared.note.LinkNote.{LinkNote}
+use Rattle.sharelink.specs.declared.note.LinkNote.TheVariants.{Queued, Idle, Sent, Accepted, Refused, Served, Old, Repeat, Gap, Early, Applied, Kept, Installed, Compacted, Relayed, Text, Stray, Restarted}
 use Rattle.peers.specs.declared.links.Links.{Links}
 use Rattle.peers.specs.declared.links.Links.TheVariants.{Alone, Hub, Leaf}
 use Rattle.peers.specs.declared.pumps.Pumps.{Pumps}
@@ -41,7 +41,7 @@ abbrev pub applied : ℕ → Pumps → Pumps
 applied version pumps = if nat_le HELLO_CHANGES (version - pumps.version) then answered pumps else pumps
 
 -- a leaf's step returned this note; `more` says whether more changes wait than are out
-abbrev pub noted : Note → Bool → Pumps → Pumps
+abbrev pub noted : LinkNote → Bool → Pumps → Pumps
 noted Queued more pumps = asked pumps
 noted Idle more pumps = pumps
 noted (Sent request) more pumps = sent request more pumps

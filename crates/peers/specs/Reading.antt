@@ -7,7 +7,7 @@ use Rattle.std.specs.Str.{bytes_eq}
 use Rattle.bytetext.specs.Numerals.{number_from}
 use Rattle.peers.specs.declared.TheConstants.{MAX_LINE}
 use Rattle.peers.specs.declared.handshake_reading.Ask.{Ask}
-use Rattle.peers.specs.declared.handshake_reading.Answer.{Answer}
+use Rattle.peers.specs.declared.handshake_reading.HubCodeLine.{HubCodeLine}
 use Rattle.peers.specs.Digits.{digits_in}
 
 -- ---- lines and words
@@ -66,15 +66,15 @@ abbrev pub ask_in : List ℕ → Option Ask
 ask_in line = if bytes_eq (take 5 line) (codes "leaf ") then ask_after (drop 5 line) else None
 
 -- hub NET CODE, each of them one word
-abbrev pub answered : Option (List ℕ) → Option (List ℕ) → Option Answer
+abbrev pub answered : Option (List ℕ) → Option (List ℕ) → Option HubCodeLine
 answered (Some net) (Some code) = Some (record { net = net; code = code })
 answered (Some net) None = None
 answered None shown = None
 
-abbrev pub answer_after : List ℕ → Option Answer
+abbrev pub answer_after : List ℕ → Option HubCodeLine
 answer_after words = answered (digits_in 16 (word_of words)) (digits_in 64 (rest_of words))
 
-abbrev pub answer_in : List ℕ → Option Answer
+abbrev pub answer_in : List ℕ → Option HubCodeLine
 answer_in line = if bytes_eq (take 4 line) (codes "hub ") then answer_after (drop 4 line) else None
 
 -- eggnet 1 NONCE: the nonce

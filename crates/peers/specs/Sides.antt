@@ -4,7 +4,7 @@ use Rattle.std.specs.Prelude.{None, if◌then◌else◌}
 use Rattle.std.specs.Str.{bytes_eq}
 use Rattle.peers.specs.declared.TheConstants.{MAX_LINE}
 use Rattle.peers.specs.declared.handshake_reading.Ask.{Ask}
-use Rattle.peers.specs.declared.handshake_reading.Answer.{Answer}
+use Rattle.peers.specs.declared.handshake_reading.HubCodeLine.{HubCodeLine}
 use Rattle.peers.specs.declared.handshake_sides.Meeting.{Meeting}
 use Rattle.peers.specs.declared.handshake_sides.Speaker.TheVariants.{Hub, Leaf}
 use Rattle.peers.specs.declared.handshake_fault.HandshakeFault.{HandshakeFault}
@@ -70,7 +70,7 @@ abbrev pub hears_greeting : LeafSide → ℕ → List ℕ → Option (List ℕ) 
 hears_greeting side used line None = refused (greeting_fault line)
 hears_greeting side used line (Some hub_nonce) = Answers used (leaf_line side.key (leaf_meeting side side.net hub_nonce))
 
-abbrev pub hears_answer : LeafSide → ℕ → List ℕ → Option Answer → LeafHears
+abbrev pub hears_answer : LeafSide → ℕ → List ℕ → Option HubCodeLine → LeafHears
 hears_answer side used hub_nonce None = refused NoHubLine
 hears_answer side used hub_nonce (Some answer) =
     if not (bytes_eq answer.code (code_of side.key Hub (leaf_meeting side (Some answer.net) hub_nonce))) then refused WrongCode

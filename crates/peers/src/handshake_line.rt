@@ -5,11 +5,11 @@ use std::marker::Model;
 
 /// A line that a side sends, with its line feed: at most 200 bytes, without an allocation. Contracts see its bytes.
 #[derive(Drop)]
-pub struct Line {
+pub struct HandshakeLine {
     bytes: ArrayVec<u8, MAX_LINE>,
 }
 
-impl Model for Line {
+impl Model for HandshakeLine {
     ghost use Rattle.std.specs.Prelude.{List, ℕ};
 
     ghost Value = { List ℕ };
@@ -17,14 +17,14 @@ impl Model for Line {
     ghost view = { λ line. line.bytes.items };
 }
 
-impl Line {
+impl HandshakeLine {
     ghost use Rattle.std.specs.Prelude.{◌≡◌, ◌≤◌, ◌+◌, ◌++◌, [], length};
 
     /// Creates a line without any bytes.
-    pub fn empty() -> Line
+    pub fn empty() -> HandshakeLine
         ensures { result ≡ [] }
     {
-        Line {
+        HandshakeLine {
             bytes: ArrayVec::new(),
         }
     }

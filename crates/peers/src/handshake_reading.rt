@@ -23,7 +23,7 @@ pub struct Ask {
 
 /// What a line `hub NET CODE` says.
 #[derive(Clone, Copy)]
-pub struct Answer {
+pub struct HubCodeLine {
     /// The hub's net.
     pub net: NetNumber,
     /// The code that the hub shows.
@@ -77,17 +77,17 @@ fn code_in(word: &[u8]) -> Option<[u8; 64]>
 }
 
 /// Parses `line`, without its line feed, as a hub's answer. Returns `None` if it is not one.
-pub fn answer_in(line: &[u8]) -> Option<Answer>
+pub fn answer_in(line: &[u8]) -> Option<HubCodeLine>
     ensures { result ≡ answer_in line.now }
 {
     answer_after(line.strip_prefix(b"hub ")?)
 }
 
-fn answer_after(words: &[u8]) -> Option<Answer>
+fn answer_after(words: &[u8]) -> Option<HubCodeLine>
     ensures { result ≡ answer_after words.now }
 {
     let net = cut_word(words);
-    Some(Answer {
+    Some(HubCodeLine {
         net: NetNumber::read(net.word)?,
         code: code_in(net.rest)?,
     })

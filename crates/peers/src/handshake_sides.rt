@@ -2,7 +2,7 @@
 ghost use Rattle.std.specs.Prelude.{◌≡◌, ◌≤◌, codes, length};
 ghost use Rattle.peers.specs.Lines.{code_of, coded, front, hub_line, leaf_line, name_of, net_word};
 
-use crate::handshake_line::Line;
+use crate::handshake_line::HandshakeLine;
 use crate::key::Key;
 use crate::net_number::NetNumber;
 use crate::nonce::Nonce;
@@ -42,7 +42,7 @@ impl Meeting {
     }
 
     /// Returns the leaf's line, with its code under `key`: `leaf N NET NONCE CODE`.
-    pub fn leaf_line(&self, key: &Key) -> Line
+    pub fn leaf_line(&self, key: &Key) -> HandshakeLine
         ensures { result ≡ leaf_line key.now self.now }
     {
         let mut line = self.front(Speaker::Leaf);
@@ -53,10 +53,10 @@ impl Meeting {
     }
 
     /// Returns the hub's answer, with its code under `key`: `hub NET CODE`.
-    pub fn hub_line(&self, key: &Key) -> Line
+    pub fn hub_line(&self, key: &Key) -> HandshakeLine
         ensures { result ≡ hub_line key.now self.now }
     {
-        let mut line = Line::empty();
+        let mut line = HandshakeLine::empty();
         line.put(b"hub ");
         line.put(net_word(&self.net));
         line.put(b" ");
@@ -66,12 +66,12 @@ impl Meeting {
     }
 
     // The words that a leaf's line, and the text of a speaker's code, begin with.
-    fn front(&self, speaker: Speaker) -> Line
+    fn front(&self, speaker: Speaker) -> HandshakeLine
         ensures value { result ≡ front speaker self.now }
         ensures short { length result ≤ 70 }
     {
         let mut buffer = Buffer::new();
-        let mut front = Line::empty();
+        let mut front = HandshakeLine::empty();
         front.put(name_of(speaker));
         front.put(b" ");
         front.put(buffer.format(self.leaf).as_bytes());

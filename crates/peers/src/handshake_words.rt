@@ -33,7 +33,7 @@ fn front_of(heard: &[u8]) -> &[u8]
 
 /// A word, and the bytes after it.
 #[derive(Clone, Copy)]
-pub struct Cut<'a> {
+pub struct FirstWord<'a> {
     /// The bytes up to the next space.
     pub word: &'a [u8],
     /// The bytes after that space.
@@ -41,13 +41,13 @@ pub struct Cut<'a> {
 }
 
 /// Splits `words` into the first word and the rest.
-pub fn cut_word(words: &[u8]) -> Cut<'_>
+pub fn cut_word(words: &[u8]) -> FirstWord<'_>
     ensures word { result.word.now ≡ word_of words.now }
     ensures rest { result.rest.now ≡ rest_of words.now }
 {
     let len = word_len(words);
     let (word, rest) = words.split_at(len);
-    Cut {
+    FirstWord {
         word,
         rest: after_one(rest),
     }

@@ -4,7 +4,7 @@ ghost use Rattle.std.specs.Prelude.{◌≡◌, []};
 use crate::MAX_LINE;
 use crate::handshake_codes::is_same_code;
 use crate::handshake_fault::HandshakeFault;
-use crate::handshake_line::Line;
+use crate::handshake_line::HandshakeLine;
 use crate::handshake_reading::{Ask, ask_in};
 use crate::handshake_sides::{Meeting, Speaker};
 use crate::handshake_words::line_len;
@@ -37,14 +37,14 @@ pub enum HubHears {
         /// The length of the leaf's line, in bytes. The bytes after it are the leaf's first frames.
         used: usize,
         /// The line to send.
-        line: Line,
+        line: HandshakeLine,
     },
     /// Disconnect the other side.
     Refused {
         /// The reason.
         fault: HandshakeFault,
         /// The line to send first. It is empty, except for a leaf of another net, which learns that from the line.
-        line: Line,
+        line: HandshakeLine,
     },
 }
 
@@ -54,10 +54,10 @@ impl HubSide {
     ghost use Rattle.peers.specs.Sides.{hub_hears, hub_judges, own_meeting, shows_code, told_meeting};
 
     /// Returns the line that the hub sends first.
-    pub fn greeting(&self) -> Line
+    pub fn greeting(&self) -> HandshakeLine
         ensures { result ≡ greeting self.now.nonce }
     {
-        let mut line = Line::empty();
+        let mut line = HandshakeLine::empty();
         line.put(b"eggnet 1 ");
         line.put(self.nonce.as_bytes());
         line.put(b"\n");
@@ -139,6 +139,6 @@ fn refused(fault: HandshakeFault) -> HubHears
 {
     HubHears::Refused {
         fault,
-        line: Line::empty(),
+        line: HandshakeLine::empty(),
     }
 }

@@ -5,8 +5,8 @@ ghost use Rattle.peers.specs.Sides.{greeting_fault};
 use crate::MAX_LINE;
 use crate::handshake_codes::is_same_code;
 use crate::handshake_fault::HandshakeFault;
-use crate::handshake_line::Line;
-use crate::handshake_reading::{Answer, answer_in, greeting_in};
+use crate::handshake_line::HandshakeLine;
+use crate::handshake_reading::{HubCodeLine, answer_in, greeting_in};
 use crate::handshake_sides::{Meeting, Speaker};
 use crate::handshake_words::line_len;
 use crate::key::Key;
@@ -38,7 +38,7 @@ pub enum LeafHears {
         /// The length of the greeting, in bytes.
         used: usize,
         /// The line to send.
-        line: Line,
+        line: HandshakeLine,
     },
     /// The hub showed the right code: send frames, after saving the number of its net if the leaf keeps none.
     Joined {
@@ -110,7 +110,7 @@ impl LeafSide {
     }
 
     // Returns what the hub's answer means.
-    fn hear_answer(&self, used: usize, hub_nonce: &Nonce, answer: Option<Answer>) -> LeafHears
+    fn hear_answer(&self, used: usize, hub_nonce: &Nonce, answer: Option<HubCodeLine>) -> LeafHears
         ensures { result ≡ hears_answer self.now used hub_nonce.now answer }
     {
         let Some(answer) = answer else {

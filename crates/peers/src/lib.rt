@@ -68,7 +68,7 @@
 //!
 //! - A [`HubLinks`] has a seat for each leaf: a second connection with the right code takes the seat of the first. A
 //!   leaf speaks for itself alone: a packet that names another ends its connection.
-//! - A [`LeafLink`] reconnects whenever its connection is lost, and knows when the leaf is to say hello ([`Pumps`]).
+//! - A [`HubConnection`] reconnects whenever its connection is lost, and knows when the leaf is to say hello ([`Pumps`]).
 //! - [`Links`] is either of them, or neither if a bot is alone.
 //!
 //! | Peer | Limit on what is read | Limit on what is unsent | Beyond the limit |
@@ -102,12 +102,12 @@ mod handshake_line;
 mod handshake_reading;
 mod handshake_sides;
 mod handshake_words;
+mod hub_connection;
 mod hub_links;
 mod hub_side;
 mod inbox;
 mod key;
 mod late;
-mod leaf_link;
 mod leaf_side;
 mod link_wire;
 mod links;
@@ -126,13 +126,13 @@ mod status;
 pub use crate::frame_reader::FrameReader;
 pub use crate::frame_writing::frame_of;
 pub use crate::handshake_fault::HandshakeFault;
-pub use crate::handshake_line::Line;
+pub use crate::handshake_line::HandshakeLine;
+pub use crate::hub_connection::{HubConnection, LONGEST_WAIT};
 pub use crate::hub_links::{HubLinks, ListenFault, MAX_GUESTS};
 pub use crate::hub_side::{HubHears, HubSide};
 pub use crate::inbox::Inbox;
 pub use crate::key::Key;
 pub use crate::late::{TIME_LIMIT, is_late};
-pub use crate::leaf_link::{LONGEST_WAIT, LeafLink};
 pub use crate::leaf_side::{LeafHears, LeafSide};
 pub use crate::links::{FIRST_TOKEN, Links};
 pub use crate::net_number::NetNumber;

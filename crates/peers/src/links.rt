@@ -9,13 +9,13 @@ ghost use Rattle.peers.specs.Tells.{TakesPackets, TellsOne};
 ghost use Rattle.peers.specs.declared.links.Links.TheVariants.{Alone};
 ghost use Rattle.sharelink.specs.Shapes.{HasGoodRecords};
 
+use crate::hub_connection::HubConnection;
 use crate::hub_links::HubLinks;
-use crate::leaf_link::LeafLink;
 use crate::net_number::NetNumber;
 use bytetext::NoMemory;
 use net::Registry;
 use settings::Settings;
-use sharelink::{Note, Outgoing};
+use sharelink::{LinkNote, Outgoing};
 use sharewire::Packet;
 use std::alloc::Global;
 use std::net::Net;
@@ -31,7 +31,7 @@ pub enum Links {
     /// The hub's.
     Hub(HubLinks),
     /// A leaf's.
-    Leaf(LeafLink),
+    Leaf(HubConnection),
 }
 
 // Written by hand, so that the drop is proved once, and not in each function that drops one.
@@ -170,7 +170,7 @@ impl Links {
 
     /// Passes the `note` of a step of the link to a leaf, which decides from it when to say hello. `more` says whether
     /// more changes wait than are out.
-    pub fn note(&mut self, note: &Note, more: bool)
+    pub fn note(&mut self, note: &LinkNote, more: bool)
         ensures { pumps_of self.new ≡ option_map (noted note.now more) (pumps_of self.old) }
     {
         if let Links::Leaf(leaf) = self {

@@ -2,7 +2,7 @@
 ghost use Rattle.std.specs.Prelude.{◌≡◌, ◌≤◌, ◌↔◌, IsTrue};
 ghost use Rattle.peers.specs.Hellos.{answered, applied, asked, begun, noted, said, sent};
 
-use sharelink::{HELLO_CHANGES, Note};
+use sharelink::{HELLO_CHANGES, LinkNote};
 
 /// A leaf that has nothing to ask waits this many seconds for its next hello.
 pub const REST: u64 = 30;
@@ -102,25 +102,25 @@ impl Pumps {
     }
 
     /// Notes what the `note` of a leaf's step means for its hellos. `more` says whether more changes wait than are out.
-    pub fn note(&mut self, note: &Note, more: bool)
+    pub fn note(&mut self, note: &LinkNote, more: bool)
         ensures { self.new ≡ noted note.now more self.old }
     {
         match note {
-            Note::Sent(request) => self.send(*request, more),
-            Note::Queued | Note::Early => self.ask(),
-            Note::Accepted(_) | Note::Refused(_) | Note::Installed(_) => self.go_on(),
-            Note::Applied(version) => self.apply(*version),
-            Note::Idle
-            | Note::Served(_)
-            | Note::Old
-            | Note::Repeat
-            | Note::Gap
-            | Note::Kept(_)
-            | Note::Compacted
-            | Note::Relayed
-            | Note::Text { from: _, text: _ }
-            | Note::Stray
-            | Note::Restarted(_) => {}
+            LinkNote::Sent(request) => self.send(*request, more),
+            LinkNote::Queued | LinkNote::Early => self.ask(),
+            LinkNote::Accepted(_) | LinkNote::Refused(_) | LinkNote::Installed(_) => self.go_on(),
+            LinkNote::Applied(version) => self.apply(*version),
+            LinkNote::Idle
+            | LinkNote::Served(_)
+            | LinkNote::Old
+            | LinkNote::Repeat
+            | LinkNote::Gap
+            | LinkNote::Kept(_)
+            | LinkNote::Compacted
+            | LinkNote::Relayed
+            | LinkNote::Text { from: _, text: _ }
+            | LinkNote::Stray
+            | LinkNote::Restarted(_) => {}
         }
     }
 }

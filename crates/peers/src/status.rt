@@ -2,8 +2,8 @@
 ghost use Rattle.std.specs.Prelude.{◌≢◌, OnErr};
 ghost use Rattle.peers.specs.declared.links.Links.TheVariants.{Alone};
 
+use crate::hub_connection::HubConnection;
 use crate::hub_links::HubLinks;
-use crate::leaf_link::LeafLink;
 use crate::links::Links;
 use crate::seat::Seat;
 use bytetext::NoMemory;
@@ -43,7 +43,7 @@ fn put_seat(text: &mut Vec<u8>, leaf: usize, seat: &Seat) -> Result<(), NoMemory
     put(text, b"\n")
 }
 
-fn put_leaf(text: &mut Vec<u8>, leaf: &LeafLink) -> Result<(), NoMemory> {
+fn put_leaf(text: &mut Vec<u8>, leaf: &HubConnection) -> Result<(), NoMemory> {
     if leaf.is_linked() {
         put_count(text, b"linked to the hub, unsent ", leaf.unsent() as u64)?;
     } else if leaf.hub.is_some() {

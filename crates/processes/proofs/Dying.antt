@@ -26,8 +26,8 @@ use Rattle.sharelink.specs.declared.error.LinkFault.{LinkFault}
 use Rattle.sharelink.specs.BotLinks.{BotEnd, took, asked, MayLeave, LeavesOwn, Asks}
 use Rattle.botcalls.specs.declared.made_call.MadeCall.{MadeCall}
 use Rattle.botcalls.specs.Calls.{Telling as Told}
-use Rattle.botcore.specs.declared.event.Event.{Event}
-use Rattle.botcore.specs.declared.event.Event.TheVariants.{Connect, Line, Ask, Pump, Receive, Clock, Bind, Unbind, Compact, Restart}
+use Rattle.botcore.specs.declared.event.BotEvent.{BotEvent}
+use Rattle.botcore.specs.declared.event.BotEvent.TheVariants.{Connect, Line, Ask, Pump, Receive, Clock, Bind, Unbind, Compact, Restart}
 use Rattle.botcore.specs.declared.event.OldBind.{OldBind}
 use Rattle.botcore.specs.declared.report.End.{End}
 use Rattle.botcore.specs.declared.report.End.TheVariants.{Done, Refused, NoMemory}
@@ -131,7 +131,7 @@ module _ (promised : Promised) (names : List (List ℕ)) where
   reading_device (Some fault) old now report new t = ap (λ (b : Bot). b.link.device) t.1
   reading_device None old now report new t = moment_device (is_stale old.clock now) old now report new t
 
-  step_left : (event : Event) (old : Bot) (report : Report) (new : Bot) → TakesStep promised names old event report new
+  step_left : (event : BotEvent) (old : Bot) (report : Report) (new : Bot) → TakesStep promised names old event report new
       → IsLeft old.link (failing old.link (Telling event)) new.link.device
   step_left Connect old report new t = inl (gives_device report.end _ old (connect_due old) report new refl t)
   step_left (Line (a_message message)) old report new t =
@@ -149,7 +149,7 @@ module _ (promised : Promised) (names : List (List ℕ)) where
   step_left Restart old report new t = inr t.met.moments
 
   -- what a crash leaves at a moment of the step
-  pub step_dies : (event : Event) (was : Bot) (report : Report) (after : Bot) (x y : List ℕ)
+  pub step_dies : (event : BotEvent) (was : Bot) (report : Report) (after : Bot) (x y : List ℕ)
       → MayLeave was.link.device.first was.link.device.second was.link → TakesStep promised names was event report after
       → CrashesIn was.link after.link x y → LeavesIn Nothing was.link x y ⊎ LeavesIn (Telling event) was.link x y
   step_dies event was report after x y leaves takes crash = by (step_left event was report after takes)

@@ -16,9 +16,9 @@ use Rattle.protocol.specs.Nets.{IsMoment, RowFollows}
 use Rattle.protocol.proofs.NetGoes.{received_goes}
 use Rattle.sharelink.specs.StateOpening.{ArePutAnew}
 use Rattle.sharelink.specs.BotLinks.{BotEnd, did, took, end_meaning, compacted, RenewsEnd}
-use Rattle.botcore.specs.declared.event.Event.{Event}
-use Rattle.botcore.specs.declared.event.Event.TheVariants.{Connect, Line, Ask, Pump, Receive, Clock, Bind, Unbind}
-use Rattle.botcore.specs.declared.event.Event.TheVariants.{Compact, Restart}
+use Rattle.botcore.specs.declared.event.BotEvent.{BotEvent}
+use Rattle.botcore.specs.declared.event.BotEvent.TheVariants.{Connect, Line, Ask, Pump, Receive, Clock, Bind, Unbind}
+use Rattle.botcore.specs.declared.event.BotEvent.TheVariants.{Compact, Restart}
 use Rattle.botcore.specs.Bots.{Bot}
 use Rattle.botworld.specs.declared.sent.Sent.{Sent}
 use Rattle.botworld.specs.Net.{posted}
@@ -36,7 +36,7 @@ use Rattle.processes.proofs.Standing.{moves, keeps_end}
 
 -- ---- a packet that was told was sent
 
-was_sent : (told : List Sent) (packets : List LinkSent) → AreAmong told packets → (bot : ℕ) (event : Event)
+was_sent : (told : List Sent) (packets : List LinkSent) → AreAmong told packets → (bot : ℕ) (event : BotEvent)
     → WasTold told bot event
     → WasSentTo packets bot event
 was_sent told packets among bot (Receive packet) was =

@@ -10,9 +10,9 @@ use Rattle.protocol.specs.Network.Event.{Pump as pumps, Compact as compacts}
 use Rattle.protocol.specs.Ends.{End}
 use Rattle.sharelink.specs.BotLinks.{BotEnd, did, took, AreOf}
 use Rattle.sharelink.specs.BotOpening.{IsKeptOf, IsLeft}
-use Rattle.botcore.specs.declared.event.Event.{Event}
-use Rattle.botcore.specs.declared.event.Event.TheVariants.{Connect, Line, Ask, Pump, Receive, Clock, Bind, Unbind}
-use Rattle.botcore.specs.declared.event.Event.TheVariants.{Compact, Restart}
+use Rattle.botcore.specs.declared.event.BotEvent.{BotEvent}
+use Rattle.botcore.specs.declared.event.BotEvent.TheVariants.{Connect, Line, Ask, Pump, Receive, Clock, Bind, Unbind}
+use Rattle.botcore.specs.declared.event.BotEvent.TheVariants.{Compact, Restart}
 use Rattle.botcore.specs.declared.report.Report.{Report}
 use Rattle.botcore.specs.Bots.{Bot, begun, new_bot}
 use Rattle.botcore.specs.Links.{link_version, link_records}
@@ -36,14 +36,14 @@ pub record Net : Type 0 where
 pub record Step : Type 0 where
   pub names : List (List ℕ)
   pub was : Bot
-  pub event : Event
+  pub event : BotEvent
   pub report : Report
   pub after : Bot
 
 -- what a process did when it ended: no call of its bot, or a call with this event that has not returned
 pub data Doing : Type 0 where
   Nothing : Doing
-  Telling : Event → Doing
+  Telling : BotEvent → Doing
 
 -- what the process of a bot does
 pub data Deed : Type 0 where
@@ -75,7 +75,7 @@ net_after w (deed ∷ deeds) = net_after (after_deed w deed) deeds
 -- ---- which deeds may happen
 
 -- A bot takes only packets that a report sent to it: from any bot, at any time, and as often as they come.
-abbrev pub WasTold : List Sent → ℕ → Event → Type 0
+abbrev pub WasTold : List Sent → ℕ → BotEvent → Type 0
 WasTold packets bot Connect = Unit {0}
 WasTold packets bot (Line line) = Unit {0}
 WasTold packets bot (Ask change) = Unit {0}

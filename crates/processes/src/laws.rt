@@ -6,7 +6,7 @@ ghost use Rattle.botjournal.specs.Ledger.{Device};
 ghost use Rattle.sharelink.specs.BotLinks.{BotEnd, MayLeave};
 ghost use Rattle.botcore.specs.declared.config.Config.{Config};
 ghost use Rattle.botcore.specs.Bots.{Bot};
-ghost use Rattle.botcore.specs.declared.event.Event.{Event};
+ghost use Rattle.botcore.specs.declared.event.BotEvent.{BotEvent};
 ghost use Rattle.botcore.specs.declared.report.Report.{Report};
 ghost use Rattle.botcore.specs.Making.{Finds, LeavesFound};
 ghost use Rattle.botcore.specs.Steps.{TakesStep};
@@ -66,7 +66,7 @@ pub fn laws_of_processes<P: Promise, D: Disk>()
         → may_leave (D.state first) x → may_leave (D.state second) y → LeavesIn Nothing link x y }
     // A crash at any moment of a step leaves on the bot's disks what a process may leave that dies outside a call, or
     // in that step. `Bot::know_disks` says that a crash before the step leaves the bot's journal.
-    ensures died { (names : List (List ℕ)) (event : Event) (was after : Bot) (report : Report) (x y : List ℕ)
+    ensures died { (names : List (List ℕ)) (event : BotEvent) (was after : Bot) (report : Report) (x y : List ℕ)
         → MayLeave was.link.device.first was.link.device.second was.link
         → TakesStep P.promised names was event report after → CrashesIn was.link after.link x y
         → LeavesIn Nothing was.link x y ⊎ LeavesIn (Telling event) was.link x y }

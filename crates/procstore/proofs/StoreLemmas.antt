@@ -10,7 +10,7 @@ use Rattle.std.specs.declared.alloc.Global.{Global}
 use Rattle.indexmap.specs.IndexMap.{insert_entry}
 use Rattle.bytetext.specs.declared.memory.NoMemory.{NoMemory}
 use Rattle.procstore.specs.declared.call.Call.{Call}
-use Rattle.procstore.specs.declared.reply.Reply.{Reply}
+use Rattle.procstore.specs.declared.reply.ProcReply.{ProcReply}
 use Rattle.procstore.specs.Named.{Named, names_of, AreKeyed}
 use Rattle.procstore.specs.Promises.{Promised, IsAllowed}
 use Rattle.procstore.specs.Seen.{Seen}
@@ -116,11 +116,11 @@ added-names es new key p own last =
 -- ---- calls
 
 -- the proc that has the name answers as a call by name does
-pub IsCalled-found : (promised : Promised) (names : List (List ℕ)) (own name : List ℕ) (call : Call) (seen : Seen) (answer : Result Reply NoMemory)
+pub IsCalled-found : (promised : Promised) (names : List (List ℕ)) (own name : List ℕ) (call : Call) (seen : Seen) (answer : Result ProcReply NoMemory)
     → holds names name ≡ true → own ≡ name → IsAllowed promised own call seen answer → IsCalled promised names name call seen (as_called answer)
 IsCalled-found promised names own name call seen answer held same allowed =
     by answer (subst (λ (n : List ℕ). IsAllowed promised n call seen answer) same allowed)
   where
-    by : (answer : Result Reply NoMemory) → IsAllowed promised name call seen answer → IsCalled promised names name call seen (as_called answer)
+    by : (answer : Result ProcReply NoMemory) → IsAllowed promised name call seen answer → IsCalled promised names name call seen (as_called answer)
     by (Ok reply) kept = (held, kept)
     by (Err lack) may = (held, may)

@@ -11,7 +11,7 @@ use Rattle.procstore.specs.declared.fault.AddFault.TheVariants.{NameTaken, Full}
 use Rattle.procstore.specs.declared.fault.CallFault.{CallFault}
 use Rattle.procstore.specs.declared.fault.CallFault.TheVariants.{NoSuchProc}
 use Rattle.procstore.specs.declared.limits.TheConstants.{MAX_PROCS}
-use Rattle.procstore.specs.declared.reply.Reply.{Reply}
+use Rattle.procstore.specs.declared.reply.ProcReply.{ProcReply}
 use Rattle.procstore.specs.Promises.{Promised, IsKept}
 use Rattle.procstore.specs.Seen.{Seen}
 
@@ -32,12 +32,12 @@ IsWhy refusal no_memory = refusal ≡ None
 
 -- What a call by name returns: a reply that keeps the promise, or that no proc has the name, or that the proc ran out
 -- of memory.
-abbrev pub IsCalled : Promised → List (List ℕ) → List ℕ → Call → Seen → Result Reply (Failure CallFault) → Type 0
+abbrev pub IsCalled : Promised → List (List ℕ) → List ℕ → Call → Seen → Result ProcReply (Failure CallFault) → Type 0
 IsCalled promised names name call seen (Ok reply) = (holds names name ≡ true) × IsKept promised name call seen reply
 IsCalled promised names name call seen (Err (Refused NoSuchProc)) = holds names name ≡ false
 IsCalled promised names name call seen (Err no_memory) = (holds names name ≡ true) × promised.may_lack name call
 
 -- the answer of a proc, as the answer of a call by name
-abbrev pub as_called : Result Reply NoMemory → Result Reply (Failure CallFault)
+abbrev pub as_called : Result ProcReply NoMemory → Result ProcReply (Failure CallFault)
 as_called (Ok reply) = Ok reply
 as_called (Err lack) = Err no_memory

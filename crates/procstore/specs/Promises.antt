@@ -4,7 +4,7 @@ use Rattle.bytetext.specs.declared.memory.NoMemory.{NoMemory}
 use Rattle.procstore.specs.declared.action.Action.{Action}
 use Rattle.procstore.specs.declared.call.Call.{Call}
 use Rattle.procstore.specs.declared.reply.Code.{Code}
-use Rattle.procstore.specs.declared.reply.Reply.{Reply}
+use Rattle.procstore.specs.declared.reply.ProcReply.{ProcReply}
 use Rattle.procstore.specs.Seen.{Sight, Seen}
 
 -- What the procs of a program promise, by the proc's name and the call. The code of an answer is a function of these
@@ -25,16 +25,16 @@ abbrev pub code_at : Promised → Sight → List ℕ → Call → Code
 code_at promised sight name call = promised.code_of name call sight
 
 -- a reply has the promised code, and actions that the promise allows
-pub record IsKept (promised : Promised) (name : List ℕ) (call : Call) (seen : Seen) (reply : Reply) : Type 0 where
+pub record IsKept (promised : Promised) (name : List ℕ) (call : Call) (seen : Seen) (reply : ProcReply) : Type 0 where
   pub code : reply.code ≡ promised.code_of name call seen.sight
   pub actions : promised.may name call seen reply.actions
 
 -- what a proc of this name may answer to this call
-abbrev pub IsAllowed : Promised → List ℕ → Call → Seen → Result Reply NoMemory → Type 0
+abbrev pub IsAllowed : Promised → List ℕ → Call → Seen → Result ProcReply NoMemory → Type 0
 IsAllowed promised name call seen (Ok reply) = IsKept promised name call seen reply
 IsAllowed promised name call seen (Err lack) = promised.may_lack name call
 
 -- a body whose answers are these keeps the promise of this name
-abbrev pub KeepsPromise : Promised → List ℕ → (Call → Seen → Result Reply NoMemory → Type 0) → Type 0
+abbrev pub KeepsPromise : Promised → List ℕ → (Call → Seen → Result ProcReply NoMemory → Type 0) → Type 0
 KeepsPromise promised name answers =
-    (call : Call) (seen : Seen) (answer : Result Reply NoMemory) → answers call seen answer → IsAllowed promised name call seen answer
+    (call : Call) (seen : Seen) (answer : Result ProcReply NoMemory) → answers call seen answer → IsAllowed promised name call seen answer

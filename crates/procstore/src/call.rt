@@ -1,5 +1,5 @@
 // The arguments of a proc's call.
-use crate::kind::Kind;
+use crate::call_kind::CallKind;
 use bytetext::{NoMemory, Texts, TryCopy};
 use std::alloc::Global;
 
@@ -7,7 +7,7 @@ use std::alloc::Global;
 #[derive(Debug)]
 pub struct Call {
     /// The kind of the event.
-    pub kind: Kind,
+    pub kind: CallKind,
     /// The event's arguments, in the order that its bind type has: for `pub`, the nick, `user@host`, the handle, the
     /// channel and the text.
     pub args: Texts,

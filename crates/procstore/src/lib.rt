@@ -1,7 +1,7 @@
 //! Procs: code that a bot's user writes, each proc with a name and a promise that its every answer keeps.
 //!
-//! The bot calls a proc with a [`Call`], which is the [`Kind`] of an event and its arguments, and a [`View`] of
-//! itself: the records of people and bans, the channels, and the second of its clock. The proc returns a [`Reply`]: a
+//! The bot calls a proc with a [`Call`], which is the [`CallKind`] of an event and its arguments, and a [`View`] of
+//! itself: the records of people and bans, the channels, and the second of its clock. The proc returns a [`ProcReply`]: a
 //! [`Code`] and at most eight [`Actions`]. It changes nothing itself: the bot carries out its actions.
 //!
 //! A [`Promise`] says what procs answer. It exists for contracts alone: for each proc name, `Call` and view it fixes
@@ -32,8 +32,8 @@
 mod action;
 mod actions;
 mod call;
+mod call_kind;
 mod fault;
-mod kind;
 mod limits;
 mod nobody;
 mod proc;
@@ -46,13 +46,13 @@ mod view;
 pub use crate::action::{Action, BotWish, PutWish, TimerName, TimerWish};
 pub use crate::actions::Actions;
 pub use crate::call::Call;
+pub use crate::call_kind::CallKind;
 pub use crate::fault::{ActionsFault, AddError, AddFault, CallError, CallFault, PushError};
-pub use crate::kind::Kind;
 pub use crate::limits::{MAX_ACTIONS, MAX_PROCS};
 pub use crate::nobody::{Nobodies, Nobody};
 pub use crate::proc::Proc;
 pub use crate::promise::Promise;
-pub use crate::reply::{Code, Reply};
+pub use crate::reply::{Code, ProcReply};
 pub use crate::run::{Body, Run};
 pub use crate::store::{NotAdded, ProcStore};
 pub use crate::view::View;

@@ -1,7 +1,7 @@
 // A store without procs.
 use crate::call::Call;
 use crate::promise::Promise;
-use crate::reply::Reply;
+use crate::reply::ProcReply;
 use crate::run::Run;
 use crate::store::ProcStore;
 use crate::view::View;
@@ -27,7 +27,7 @@ impl Run for Nobody {
 
     ghost answers = { λ _ _ _ result. IsErr result };
 
-    fn run(&self, _call: &Call, _view: &View<'_>) -> Result<Reply, NoMemory> {
+    fn run(&self, _call: &Call, _view: &View<'_>) -> Result<ProcReply, NoMemory> {
         Err(NoMemory)
     }
 }

@@ -1,7 +1,7 @@
 // A body with a name, that keeps the promise of that name.
 use crate::call::Call;
 use crate::promise::Promise;
-use crate::reply::Reply;
+use crate::reply::ProcReply;
 use crate::run::{Body, Run};
 use crate::view::View;
 use bytetext::{NoMemory, Text};
@@ -57,7 +57,7 @@ impl<P: Promise, B: Run> Proc<P, B> {
     ///
     /// # Errors
     /// `NoMemory` if the body runs out of memory, which the promise allows for this name and call.
-    pub fn call(&self, call: &Call, view: &View<'_>) -> Result<Reply, NoMemory>
+    pub fn call(&self, call: &Call, view: &View<'_>) -> Result<ProcReply, NoMemory>
         ensures { IsAllowed P.promised self.now.name call.now view.now result }
     {
         self.body.run(call, view)

@@ -16,7 +16,7 @@ pub enum Code {
 
 /// The reply of a proc.
 #[derive(Debug)]
-pub struct Reply {
+pub struct ProcReply {
     /// The code.
     pub code: Code,
     /// What the proc asks its bot to do, in order.
@@ -24,19 +24,19 @@ pub struct Reply {
 }
 
 // Written by hand, so that it is proved once and not in each function that drops one.
-impl Drop for Reply {
+impl Drop for ProcReply {
     fn drop(self) {
-        let Reply {
+        let ProcReply {
             code: _,
             actions: _,
         } = self;
     }
 }
 
-impl TryCopy for Reply {
-    fn copy(&self, alloc: Global) -> Result<Reply, NoMemory> {
+impl TryCopy for ProcReply {
+    fn copy(&self, alloc: Global) -> Result<ProcReply, NoMemory> {
         let actions = self.actions.copy(alloc)?;
-        Ok(Reply {
+        Ok(ProcReply {
             code: self.code,
             actions,
         })

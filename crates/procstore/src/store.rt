@@ -7,7 +7,7 @@ use crate::fault::{AddError, AddFault, CallError, CallFault};
 use crate::limits::MAX_PROCS;
 use crate::proc::Proc;
 use crate::promise::Promise;
-use crate::reply::Reply;
+use crate::reply::ProcReply;
 use crate::run::{Body, Run};
 use crate::view::View;
 use bytetext::{Failure, NoMemory, Text, TryCopy};
@@ -136,7 +136,7 @@ impl<P: Promise, B: Run> ProcStore<P, B> {
     /// # Errors
     /// `NoSuchProc` (P3) if and only if no proc has this name. `NoMemory` (P4) if the proc runs out of memory and its
     /// promise allows that for this call.
-    pub fn call(&self, name: &[u8], call: &Call, view: &View<'_>) -> Result<Reply, CallError>
+    pub fn call(&self, name: &[u8], call: &Call, view: &View<'_>) -> Result<ProcReply, CallError>
         ensures { IsCalled P.promised self.now name.now call.now view.now result }
     {
         match self.procs.get(name) {
@@ -147,7 +147,7 @@ impl<P: Promise, B: Run> ProcStore<P, B> {
 }
 
 // Turns the answer of a proc into the answer of a call by name.
-fn as_called(answer: Result<Reply, NoMemory>) -> Result<Reply, CallError>
+fn as_called(answer: Result<ProcReply, NoMemory>) -> Result<ProcReply, CallError>
     ensures { result ≡ as_called answer }
 {
     match answer {

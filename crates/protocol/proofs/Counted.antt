@@ -6,8 +6,8 @@ use Rattle.userfile.specs.Apply.{refusal, changed}
 use Rattle.userfile.specs.Together.{AreSound}
 use Rattle.userfile.specs.declared.change.Change.{Change as UserChange}
 use Rattle.userfile.proofs.SoundLemmas.{changed-sound}
-use Rattle.botjournal.specs.declared.reply.Answer.{Answer}
-use Rattle.botjournal.specs.declared.reply.Answer.TheVariants.{Taken}
+use Rattle.botjournal.specs.declared.reply.Verdict.{Verdict}
+use Rattle.botjournal.specs.declared.reply.Verdict.TheVariants.{Taken}
 use Rattle.protocol.specs.Numbers.{item_at, set_at}
 use Rattle.protocol.specs.Packets.{AcceptedChange}
 use Rattle.protocol.specs.HubRules.{HubRecord, Accept, Settle, Rebase}
@@ -19,7 +19,7 @@ use Rattle.protocol.proofs.Requests.{is_out-more, is_out-new, is_out-without, Ar
 
 -- ---- the hub
 
-pub with_answer-extends : (answers : ℕ → List Answer) (o : ℕ) (x : Answer) → AllExtend answers (with_answer answers o x)
+pub with_answer-extends : (answers : ℕ → List Verdict) (o : ℕ) (x : Verdict) → AllExtend answers (with_answer answers o x)
 with_answer-extends answers zero x = AllExtend-refl answers
 with_answer-extends answers (suc k) x = AllExtend-set_at answers (suc k) x
 
@@ -30,14 +30,14 @@ hub_grows h asked (Settle i fault) holds =
     record { accepted = Extends-refl h.accepted; answers = with_answer-extends h.answers i _; floor = omega arith }
 hub_grows h asked Rebase holds = record { accepted = Extends-refl h.accepted; answers = AllExtend-refl h.answers; floor = holds.floor }
 
-IsOwned-more : (answers answers' : ℕ → List Answer) (asked asked' : ℕ → List UserChange) (n : ℕ) (e : AcceptedChange)
+IsOwned-more : (answers answers' : ℕ → List Verdict) (asked asked' : ℕ → List UserChange) (n : ℕ) (e : AcceptedChange)
     → AllExtend answers answers' → AllExtend asked asked' → IsOwned answers asked n e → IsOwned answers' asked' n e
 IsOwned-more answers answers' asked asked' n e more more' (inl z) = inl z
 IsOwned-more answers answers' asked asked' n e more more' (inr t) =
     inr (item_at-more _ _ e.request _ (more e.origin) t.0, item_at-more _ _ e.request _ (more' e.origin) t.1)
 
 -- the last accepted change is owned
-owned_last : (answers : ℕ → List Answer) (asked : ℕ → List UserChange) (n : ℕ) (e : AcceptedChange) (o : ℕ) → e.origin ≡ o
+owned_last : (answers : ℕ → List Verdict) (asked : ℕ → List UserChange) (n : ℕ) (e : AcceptedChange) (o : ℕ) → e.origin ≡ o
     → (e.origin ≡ 0) ⊎ ((e.request ≡ length (answers e.origin) + 1) × (item_at (asked e.origin) e.request ≡ Some e.change))
     → IsOwned (with_answer answers o (Taken n)) asked n e
 owned_last answers asked n e zero is f = inl is

@@ -2,7 +2,7 @@
 use Rattle.std.proofs.Common.{◌≡◌, ℕ, zero, suc, true, false, List, [], ◌∷◌, length, None, Some, Ok, refl}
 use Rattle.userfile.specs.declared.change.Change.{Change as UserChange}
 use Rattle.botjournal.specs.declared.reply.Reply.{Reply}
-use Rattle.botjournal.specs.declared.reply.Answer.TheVariants.{Taken}
+use Rattle.botjournal.specs.declared.reply.Verdict.TheVariants.{Taken}
 use Rattle.protocol.specs.Packets.Packet.{Request}
 use Rattle.protocol.specs.Notes.Note.{Sent, Old, Repeat, Gap}
 use Rattle.protocol.specs.Bots.{Works}

@@ -5,7 +5,7 @@ use Rattle.std.specs.Option.{option_map}
 use Rattle.userfile.specs.Records.{Records}
 use Rattle.userfile.specs.declared.change.Change.{Change as UserChange}
 use Rattle.usercodec.specs.Records.{HasShape}
-use Rattle.botjournal.specs.declared.reply.Answer.TheVariants.{Taken, Refused as refused_request}
+use Rattle.botjournal.specs.declared.reply.Verdict.TheVariants.{Taken, Refused as refused_request}
 use Rattle.protocol.specs.Numbers.{item_at}
 use Rattle.protocol.specs.Packets.{Packet}
 use Rattle.protocol.specs.Packets.Packet.{Hello, Change, Request, Accepted, Refused, Part}

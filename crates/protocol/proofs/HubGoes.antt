@@ -7,8 +7,8 @@ use Rattle.userfile.specs.declared.change.Change.{Change as UserChange}
 use Rattle.userfile.specs.declared.error.ChangeFault.{ChangeFault}
 use Rattle.botjournal.specs.declared.TheConstants.{LAYOUT}
 use Rattle.botjournal.specs.declared.reply.Reply.{Reply}
-use Rattle.botjournal.specs.declared.reply.Answer.{Answer}
-use Rattle.botjournal.specs.declared.reply.Answer.TheVariants.{Taken, Refused as refused_request}
+use Rattle.botjournal.specs.declared.reply.Verdict.{Verdict}
+use Rattle.botjournal.specs.declared.reply.Verdict.TheVariants.{Taken, Refused as refused_request}
 use Rattle.protocol.specs.Numbers.{last_number, item_at, Place, Below, Same, Next, Above, place_of}
 use Rattle.protocol.specs.Packets.{Packet, Outgoing, AcceptedChange, own, change_packet, answer_packet, to_each}
 use Rattle.protocol.specs.Packets.Packet.{Hello, Change, Request, Accepted as accepted_packet, Refused as refused_packet, BotText, Part}
@@ -37,13 +37,13 @@ pub version_stands : (asked : ℕ → List UserChange) (w : HubState) (h : PastH
 version_stands asked w h st holds = omega (arith, st.floor, ap length st.tail, length-drop h.floor h.accepted, holds.floor)
 
 -- one more reply is the last one
-replies_stand : (replies : List (List Reply)) (answers : ℕ → List Answer) (origin : ℕ) (x y : Answer) → x ≡ y
+replies_stand : (replies : List (List Reply)) (answers : ℕ → List Verdict) (origin : ℕ) (x y : Verdict) → x ≡ y
     → ((place : ℕ) (kept : List Reply) → slice_get replies place ≡ Some kept → KeepsLast kept (answers (suc place)))
     → (place : ℕ) (kept : List Reply) → slice_get (with_reply replies origin x) place ≡ Some kept
     → KeepsLast kept (with_answer answers origin y (suc place))
 replies_stand replies answers zero x y is st = st
 replies_stand replies answers (suc k) x y is st =
-    set-elim (λ j (kept : List Reply) (ys : List Answer). KeepsLast kept ys) replies answers k _ _
+    set-elim (λ j (kept : List Reply) (ys : List Verdict). KeepsLast kept ys) replies answers k _ _
     (λ kept e.
     subst (λ (o : Option (List Reply)). KeepsLast (with_next (suc k) x (kept_in o)) (answers (suc k) ++ y ∷ [])) (sym e)
     (keeps_next (suc k) kept (answers (suc k)) x y is (st k kept e))) st
@@ -85,7 +85,7 @@ abbrev pub HubGoes : (ℕ → List UserChange) → HubPast → Row Hub → Type 
 HubGoes asked h row = Goes HubStands (HubSound asked) HubGrows HubSays h row
 
 -- the answer that a record adds is the last one
-answer_said : (answers : ℕ → List Answer) (k r : ℕ) (x : Answer) → r ≡ length (answers (suc k)) + 1
+answer_said : (answers : ℕ → List Verdict) (k r : ℕ) (x : Verdict) → r ≡ length (answers (suc k)) + 1
     → (length (with_answer answers (suc k) x (suc k)) < r + 8) × (item_at (with_answer answers (suc k) x (suc k)) r ≡ Some x)
 answer_said answers k r x is =
     let there = set_at-same answers (suc k) (answers (suc k) ++ x ∷ []) in
@@ -93,7 +93,7 @@ answer_said answers k r x is =
     (omega (arith, is, length-one (answers (suc k)) x, ap length there), rw (there, is) last)
 
 -- the packet of an answer says so
-packet_said : (h : PastHub) (leaf r : ℕ) (x : Answer) → IsRecentAnswer h leaf r x → HubSays h (answer_packet leaf r x)
+packet_said : (h : PastHub) (leaf r : ℕ) (x : Verdict) → IsRecentAnswer h leaf r x → HubSays h (answer_packet leaf r x)
 packet_said h leaf r (Taken n) t = t
 packet_said h leaf r (refused_request fault) t = t
 

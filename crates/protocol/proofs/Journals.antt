@@ -9,7 +9,7 @@ use Rattle.userfile.specs.Together.{AreSound}
 use Rattle.userfile.specs.declared.error.ChangeFault.{ChangeFault}
 use Rattle.userfile.proofs.SoundLemmas.{changed-sound}
 use Rattle.userfile.proofs.RepeatLemmas.{and_both}
-use Rattle.botjournal.specs.declared.reply.Answer.{Answer}
+use Rattle.botjournal.specs.declared.reply.Verdict.{Verdict}
 use Rattle.botjournal.specs.declared.entry.Entry.{Entry}
 use Rattle.botjournal.specs.declared.entry.Entry.TheVariants.{Settled, ReqDone}
 use Rattle.botjournal.specs.declared.reply.Reply.{Reply}
@@ -180,13 +180,13 @@ hub_reads_back leaves contents hub rec means generation is may = by (is_hub_base
 
 -- ---- one more reply
 
-with_reply-places : (replies : List (List Reply)) (origin : ℕ) (answer : Answer)
+with_reply-places : (replies : List (List Reply)) (origin : ℕ) (answer : Verdict)
     → length (with_reply replies origin answer) ≡ length replies
 with_reply-places replies zero answer = refl
 with_reply-places replies (suc place) answer = length-set replies place _
 
 -- what holds of the replies at each place, and with the next one
-with_reply-each : (P : ℕ → List Reply → Type 0) (replies : List (List Reply)) (origin : ℕ) (answer : Answer)
+with_reply-each : (P : ℕ → List Reply → Type 0) (replies : List (List Reply)) (origin : ℕ) (answer : Verdict)
     → ((leaf : ℕ) (kept : List Reply) → P leaf kept → P leaf (with_next leaf answer kept))
     → ((place : ℕ) (kept : List Reply) → slice_get replies place ≡ Some kept → P (suc place) kept)
     → (place : ℕ) (kept : List Reply) → slice_get (with_reply replies origin answer) place ≡ Some kept → P (suc place) kept
@@ -197,7 +197,7 @@ with_reply-each P replies (suc k) answer next each = λ place kept at.
     subst (λ (o : Option (List Reply)). P (suc k) (with_next (suc k) answer (kept_in o))) (sym e) (next (suc k) was (each k was e)))
     each place kept at
 
-with_next-to : (answer : Answer) (leaf : ℕ) (kept : List Reply) → AreTo leaf kept → AreTo leaf (with_next leaf answer kept)
+with_next-to : (answer : Verdict) (leaf : ℕ) (kept : List Reply) → AreTo leaf kept → AreTo leaf (with_next leaf answer kept)
 with_next-to answer leaf kept to = with_next-all (λ (reply : Reply). reply.leaf ≡ leaf) leaf answer kept to refl
 
 -- a hub's state stays one

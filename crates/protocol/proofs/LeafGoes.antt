@@ -8,8 +8,8 @@ use Rattle.userfile.specs.declared.change.Change.{Change as UserChange}
 use Rattle.userfile.specs.declared.error.ChangeFault.{ChangeFault}
 use Rattle.usercodec.specs.declared.records.Record.{Record}
 use Rattle.botjournal.specs.declared.request.Request.{Request as OutRequest}
-use Rattle.botjournal.specs.declared.reply.Answer.{Answer}
-use Rattle.botjournal.specs.declared.reply.Answer.TheVariants.{Taken, Refused as refused_request}
+use Rattle.botjournal.specs.declared.reply.Verdict.{Verdict}
+use Rattle.botjournal.specs.declared.reply.Verdict.TheVariants.{Taken, Refused as refused_request}
 use Rattle.protocol.specs.Numbers.{last_number, item_at, Place, Below, Same, Next, Above, place_of}
 use Rattle.protocol.specs.Packets.{Packet, Outgoing, AcceptedChange}
 use Rattle.protocol.specs.Packets.Packet.{Hello, Change, Request, Accepted as accepted_packet, Refused as refused_packet, BotText, Part}
@@ -191,13 +191,13 @@ module _ (g : PastHub) (asked : ℕ → List UserChange) (hub : HubHolds asked g
           let none = sym (hub.taken l.kept.version e there) ∙ ap (λ (x : Records). refusal x e.change) (sym st.kept.records) ∙ r in cc
       by None r = leaf_writes (Apply e.change) _ [] w.loose up (e, there, refl) true_parts tt
 
-  answered : l.down ≡ false → (r : ℕ) (answer : Answer) → item_at (g.answers i) r ≡ Some answer → (b : Bool)
+  answered : l.down ≡ false → (r : ℕ) (answer : Verdict) → item_at (g.answers i) r ≡ Some answer → (b : Bool)
       → LeafGoes g i l (reply_taken leaves i how w r answer b)
   answered up r answer at false = leaf_stays (Ok Old) [] tt tt
   answered up r answer at true = leaf_writes (Done r) _ [] w.loose up (item_at-within (g.answers i) r answer at) true_parts tt
 
   -- an answer to this leaf, or to another
-  replied : l.down ≡ false → (leaf r : ℕ) (answer : Answer) → item_at (g.answers leaf) r ≡ Some answer
+  replied : l.down ≡ false → (leaf r : ℕ) (answer : Verdict) → item_at (g.answers leaf) r ≡ Some answer
       → LeafGoes g i l (reply_received leaves i how w leaf r answer)
   replied up leaf r answer at = by (leaf == i) refl (r == 0)
     where

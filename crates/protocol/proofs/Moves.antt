@@ -5,7 +5,7 @@ use Rattle.userfile.specs.Apply.{bad_shape, refusal}
 use Rattle.userfile.specs.declared.change.Change.{Change as UserChange}
 use Rattle.userfile.specs.declared.error.ChangeFault.{ChangeFault}
 use Rattle.botjournal.specs.declared.reply.Reply.{Reply}
-use Rattle.botjournal.specs.declared.reply.Answer.TheVariants.{Taken}
+use Rattle.botjournal.specs.declared.reply.Verdict.TheVariants.{Taken}
 use Rattle.botjournal.specs.declared.TheConstants.{LAYOUT}
 use Rattle.protocol.specs.Numbers.{last_number, item_at, Place, Below, Same, Next, Above, place_of}
 use Rattle.protocol.specs.Packets.{Packet, Outgoing, Sent, AcceptedChange, own, change_packet, to_each}

@@ -3,7 +3,7 @@ use Rattle.std.proofs.Common.{◌≡◌, ℕ, zero, suc, ◌+◌, ◌-◌, ◌<�
 use Rattle.std.proofs.lemmas.List.{drop-append-le}
 use Rattle.std.specs.List.{AllByRecursion}
 use Rattle.botjournal.specs.declared.reply.Reply.{Reply}
-use Rattle.botjournal.specs.declared.reply.Answer.{Answer}
+use Rattle.botjournal.specs.declared.reply.Verdict.{Verdict}
 use Rattle.protocol.specs.Numbers.{item_at}
 use Rattle.protocol.specs.HubRules.{request_number, last_request, last_eight, with_next, reply_to, AreNumbered, AreInTurn}
 use Rattle.protocol.specs.Standing.{KeepsLast}
@@ -44,7 +44,7 @@ eight_with kept next =
     ap (λ n. drop n (kept ++ next ∷ [])) cut ∙ drop-append-le (length kept - 7) kept (next ∷ []) (omega arith)
 
 -- what holds of each reply that is kept, and of the next one
-pub with_next-all : (P : Reply → Type 0) (leaf : ℕ) (answer : Answer) (kept : List Reply) → AllByRecursion P kept
+pub with_next-all : (P : Reply → Type 0) (leaf : ℕ) (answer : Verdict) (kept : List Reply) → AllByRecursion P kept
     → P (record { leaf = leaf; request = last_request kept + 1; answer = answer }) → AllByRecursion P (with_next leaf answer kept)
 with_next-all P leaf answer kept all one =
     all-drop P (length (kept ++ next ∷ []) - 8) (kept ++ next ∷ []) (all-append P kept (next ∷ []) all (one, tt))
@@ -53,14 +53,14 @@ with_next-all P leaf answer kept all one =
     next = record { leaf = leaf; request = last_request kept + 1; answer = answer }
 
 -- the last request's number is one more
-pub with_next-last : (leaf : ℕ) (answer : Answer) (kept : List Reply) → last_request (with_next leaf answer kept) ≡ last_request kept + 1
+pub with_next-last : (leaf : ℕ) (answer : Verdict) (kept : List Reply) → last_request (with_next leaf answer kept) ≡ last_request kept + 1
 with_next-last leaf answer kept =
     ap last_request (eight_with kept next) ∙ ap request_number (last_item-end (drop (length kept - 7) kept) next)
   where
     next : Reply
     next = record { leaf = leaf; request = last_request kept + 1; answer = answer }
 
-pub with_next-in_turn : (leaf : ℕ) (answer : Answer) (kept : List Reply) → AreInTurn kept → AreInTurn (with_next leaf answer kept)
+pub with_next-in_turn : (leaf : ℕ) (answer : Verdict) (kept : List Reply) → AreInTurn kept → AreInTurn (with_next leaf answer kept)
 with_next-in_turn leaf answer [] turn = record { first = 1; numbered = (refl, tt); few = omega arith }
 with_next-in_turn leaf answer (one ∷ others) turn = subst AreInTurn (sym (eight_with kept next)) (record {
   first = turn.first + (length kept - 7);
@@ -110,7 +110,7 @@ reply_to-above n r (one ∷ kept) reply is numbered =
 -- ---- the replies and the answers
 
 -- one more answer, which is the reply to the next request
-pub keeps_next : (leaf : ℕ) (kept : List Reply) (answers : List Answer) (x y : Answer) → x ≡ y → KeepsLast kept answers
+pub keeps_next : (leaf : ℕ) (kept : List Reply) (answers : List Verdict) (x y : Verdict) → x ≡ y → KeepsLast kept answers
     → KeepsLast (with_next leaf x kept) (answers ++ y ∷ [])
 keeps_next leaf kept answers x y is keeps = record {
   in_turn = with_next-in_turn leaf x kept keeps.in_turn;
@@ -129,10 +129,10 @@ keeps_next leaf kept answers x y is keeps = record {
     new : item_at (answers ++ y ∷ []) (last_request kept + 1) ≡ Some x
     new =
         subst (λ n. item_at (answers ++ y ∷ []) (n + 1) ≡ Some x) (sym keeps.last)
-        (item_at-end answers y ∙ ap (λ (a : Answer). Some a) (sym is))
+        (item_at-end answers y ∙ ap (λ (a : Verdict). Some a) (sym is))
 
 -- the reply to a request has its answer, which is one of the last eight
-pub kept_is_answer : (kept : List Reply) (answers : List Answer) (r : ℕ) (reply : Reply) → KeepsLast kept answers
+pub kept_is_answer : (kept : List Reply) (answers : List Verdict) (r : ℕ) (reply : Reply) → KeepsLast kept answers
     → reply_to r kept ≡ Some reply → (length answers < r + 8) × (item_at answers r ≡ Some reply.answer)
 kept_is_answer kept answers r reply keeps is =
     let turn = keeps.in_turn in

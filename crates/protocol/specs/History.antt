@@ -4,8 +4,8 @@ use Rattle.userfile.specs.Records.{Records}
 use Rattle.userfile.specs.Versions.{records_at}
 use Rattle.userfile.specs.declared.change.Change.{Change as UserChange}
 use Rattle.botjournal.specs.declared.request.Request.{Request as OutRequest}
-use Rattle.botjournal.specs.declared.reply.Answer.{Answer}
-use Rattle.botjournal.specs.declared.reply.Answer.TheVariants.{Taken, Refused as refused_request}
+use Rattle.botjournal.specs.declared.reply.Verdict.{Verdict}
+use Rattle.botjournal.specs.declared.reply.Verdict.TheVariants.{Taken, Refused as refused_request}
 use Rattle.protocol.specs.Numbers.{set_at}
 use Rattle.protocol.specs.Packets.{Sent, AcceptedChange}
 use Rattle.protocol.specs.Bots.{Bot}
@@ -16,7 +16,7 @@ use Rattle.protocol.specs.LeafRules.{LeafRecord, Apply, Out, Done, Install, Comp
 -- the floor
 pub record PastHub : Type 0 where
   pub accepted : List AcceptedChange
-  pub answers : ℕ → List Answer
+  pub answers : ℕ → List Verdict
   pub floor : ℕ
 
 -- a leaf's version; all changes that it gave a request number, of which that of request r is the r-th; and its
@@ -63,7 +63,7 @@ records_of accepted version = records_at (changes_of accepted) version
 -- ---- a record that is kept
 
 -- one more answer to a leaf; the hub's own changes have none
-abbrev pub with_answer : (ℕ → List Answer) → ℕ → Answer → ℕ → List Answer
+abbrev pub with_answer : (ℕ → List Verdict) → ℕ → Verdict → ℕ → List Verdict
 with_answer answers zero answer = answers
 with_answer answers (suc place) answer = set_at answers (suc place) (answers (suc place) ++ answer ∷ [])
 

@@ -7,8 +7,8 @@ use Rattle.userfile.specs.declared.error.ChangeFault.{ChangeFault}
 use Rattle.sharewire.specs.Texts.{is_bot_text}
 use Rattle.botjournal.specs.declared.TheConstants.{LAYOUT}
 use Rattle.botjournal.specs.declared.reply.Reply.{Reply}
-use Rattle.botjournal.specs.declared.reply.Answer.{Answer}
-use Rattle.botjournal.specs.declared.reply.Answer.TheVariants.{Taken, Refused as refused_request}
+use Rattle.botjournal.specs.declared.reply.Verdict.{Verdict}
+use Rattle.botjournal.specs.declared.reply.Verdict.TheVariants.{Taken, Refused as refused_request}
 use Rattle.protocol.specs.Numbers.{last_number, item_at, last_item, Place, Below, Same, Next, Above, place_of}
 use Rattle.protocol.specs.Packets.{Packet, Outgoing, AcceptedChange, own, change_packet, answer_packet, to_each, numbered_from}
 use Rattle.protocol.specs.Packets.Packet.{Hello, Change, Request, Accepted as accepted_packet, Refused as refused_packet, BotText, Part}
@@ -76,11 +76,11 @@ pub record AreInTurn (kept : List Reply) : Type 0 where
   pub few : length kept ≤ 8
 
 -- the replies to a leaf after that to its next request is added; only the last eight are kept
-abbrev pub with_next : ℕ → Answer → List Reply → List Reply
+abbrev pub with_next : ℕ → Verdict → List Reply → List Reply
 with_next leaf answer kept = last_eight (kept ++ record { leaf = leaf; request = last_request kept + 1; answer = answer } ∷ [])
 
 -- the reply to a leaf's next request, put at the leaf's place; the hub's own changes have none
-abbrev pub with_reply : List (List Reply) → ℕ → Answer → List (List Reply)
+abbrev pub with_reply : List (List Reply) → ℕ → Verdict → List (List Reply)
 with_reply replies zero answer = replies
 with_reply replies (suc place) answer = slice_set replies place (with_next (suc place) answer (kept_in (slice_get replies place)))
 
@@ -166,7 +166,7 @@ module _ (leaves : ℕ) (how : How) (old : Hub) where
   hub_pumped = unless_down old (hub_pumped_up old.loose)
 
   -- the hub tells a leaf the outcome of its request
-  abbrev pub replied : ℕ → ℕ → Answer → List Outgoing
+  abbrev pub replied : ℕ → ℕ → Verdict → List Outgoing
   replied leaf request answer = record { to = leaf; packet = answer_packet leaf request answer } ∷ []
 
   -- a leaf's next request is settled: a rejection is journaled too, before it is sent

@@ -8,8 +8,8 @@ use Rattle.userfile.specs.declared.error.ChangeFault.{ChangeFault}
 use Rattle.usercodec.specs.declared.records.Record.{Record}
 use Rattle.botjournal.specs.declared.TheConstants.{LAYOUT}
 use Rattle.botjournal.specs.declared.request.Request.{Request as OutRequest}
-use Rattle.botjournal.specs.declared.reply.Answer.{Answer}
-use Rattle.botjournal.specs.declared.reply.Answer.TheVariants.{Taken, Refused as refused_request}
+use Rattle.botjournal.specs.declared.reply.Verdict.{Verdict}
+use Rattle.botjournal.specs.declared.reply.Verdict.TheVariants.{Taken, Refused as refused_request}
 use Rattle.protocol.specs.Numbers.{last_number, last_item, Place, Below, Same, Next, Above, place_of}
 use Rattle.protocol.specs.Packets.{Packet, Outgoing}
 use Rattle.protocol.specs.Packets.Packet.{Hello, Change, Request, Accepted as accepted_packet, Refused as refused_packet, BotText, Part}
@@ -152,16 +152,16 @@ module _ (leaves number : ℕ) (how : How) (old : Leaf) where
   change_placed change Above = noted Early old
 
   -- the note of a reply
-  abbrev pub note_of : Answer → Note
+  abbrev pub note_of : Verdict → Note
   note_of (Taken n) = Accepted n
   note_of (refused_request fault) = Refused fault
 
   -- a reply to an outstanding request ends it
-  abbrev pub reply_taken : ℕ → Answer → Bool → Row Leaf
+  abbrev pub reply_taken : ℕ → Verdict → Bool → Row Leaf
   reply_taken request answer false = noted Old old
   reply_taken request answer true = journals leaf_folded how old (Done request) (note_of answer) [] old.loose
 
-  abbrev pub reply_received : ℕ → ℕ → Answer → Row Leaf
+  abbrev pub reply_received : ℕ → ℕ → Verdict → Row Leaf
   reply_received leaf request answer =
       if not (leaf == number) || (request == 0) then noted Stray old
       else reply_taken request answer (is_out request old.kept.out)

@@ -1,8 +1,8 @@
 -- What the bots of a net send each other. Bot 0 is the hub, and leaves are numbered from 1.
 use Rattle.std.specs.Prelude.{ℕ, zero, suc, ◌+◌, List, [], ◌∷◌}
 use Rattle.usercodec.specs.declared.records.Record.{Record}
-use Rattle.botjournal.specs.declared.reply.Answer.{Answer}
-use Rattle.botjournal.specs.declared.reply.Answer.TheVariants.{Taken, Refused as refused_request}
+use Rattle.botjournal.specs.declared.reply.Verdict.{Verdict}
+use Rattle.botjournal.specs.declared.reply.Verdict.TheVariants.{Taken, Refused as refused_request}
 use Rattle.userfile.specs.declared.change.Change.{Change as UserChange}
 use Rattle.userfile.specs.declared.error.ChangeFault.{ChangeFault}
 use Rattle.sharewire.specs.declared.packet.Packet.{Packet as WirePacket}
@@ -62,7 +62,7 @@ abbrev pub change_packet : ℕ → AcceptedChange → Packet
 change_packet number entry = Change number entry.origin entry.request entry.change
 
 -- the packet that tells a leaf the outcome of its request
-abbrev pub answer_packet : ℕ → ℕ → Answer → Packet
+abbrev pub answer_packet : ℕ → ℕ → Verdict → Packet
 answer_packet leaf request (Taken number) = Accepted leaf request number
 answer_packet leaf request (refused_request fault) = Refused leaf request fault
 

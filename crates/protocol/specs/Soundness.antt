@@ -5,8 +5,8 @@ use Rattle.userfile.specs.Together.{AreSound}
 use Rattle.userfile.specs.declared.change.Change.{Change as UserChange}
 use Rattle.usercodec.specs.declared.records.Record.{Record}
 use Rattle.botjournal.specs.declared.request.Request.{Request as OutRequest}
-use Rattle.botjournal.specs.declared.reply.Answer.{Answer}
-use Rattle.botjournal.specs.declared.reply.Answer.TheVariants.{Taken}
+use Rattle.botjournal.specs.declared.reply.Verdict.{Verdict}
+use Rattle.botjournal.specs.declared.reply.Verdict.TheVariants.{Taken}
 use Rattle.protocol.specs.Numbers.{item_at}
 use Rattle.protocol.specs.Packets.{AcceptedChange}
 use Rattle.protocol.specs.Bots.{Bot}
@@ -20,7 +20,7 @@ use Rattle.protocol.specs.Truth.{IsTrue, AllSent}
 
 -- the accepted change of this number is the hub's own; or its leaf asked for that change under its request number, and
 -- the answer to that request is this number
-abbrev pub IsOwned : (ℕ → List Answer) → (ℕ → List UserChange) → ℕ → AcceptedChange → Type 0
+abbrev pub IsOwned : (ℕ → List Verdict) → (ℕ → List UserChange) → ℕ → AcceptedChange → Type 0
 IsOwned answers asked number entry =
     (entry.origin ≡ 0)
     ⊎

@@ -2,7 +2,7 @@
 use Rattle.std.specs.Prelude.{◌≡◌, ℕ, suc, List, length, drop, slice_get, Some}
 use Rattle.std.specs.List.{AllByRecursion}
 use Rattle.botjournal.specs.declared.reply.Reply.{Reply}
-use Rattle.botjournal.specs.declared.reply.Answer.{Answer}
+use Rattle.botjournal.specs.declared.reply.Verdict.{Verdict}
 use Rattle.protocol.specs.Numbers.{item_at}
 use Rattle.protocol.specs.Packets.{AcceptedChange}
 use Rattle.protocol.specs.Bots.{Bot}
@@ -13,7 +13,7 @@ use Rattle.protocol.specs.Network.{Net}
 
 -- the replies that the hub keeps to a leaf are the latest of its answers, and the last one is among them if there is
 -- any
-pub record KeepsLast (kept : List Reply) (answers : List Answer) : Type 0 where
+pub record KeepsLast (kept : List Reply) (answers : List Verdict) : Type 0 where
   pub in_turn : AreInTurn kept
   pub last : last_request kept ≡ length answers
   pub these : AllByRecursion (λ (reply : Reply). item_at answers reply.request ≡ Some reply.answer) kept

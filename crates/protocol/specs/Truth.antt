@@ -3,8 +3,8 @@ use Rattle.std.specs.Prelude.{◌≡◌, ℕ, ◌+◌, ◌<◌, ◌≤◌, List,
 use Rattle.userfile.specs.declared.change.Change.{Change as UserChange}
 use Rattle.usercodec.specs.declared.records.Record.{Record}
 use Rattle.botjournal.specs.declared.TheConstants.{LAYOUT}
-use Rattle.botjournal.specs.declared.reply.Answer.{Answer}
-use Rattle.botjournal.specs.declared.reply.Answer.TheVariants.{Taken, Refused as refused_request}
+use Rattle.botjournal.specs.declared.reply.Verdict.{Verdict}
+use Rattle.botjournal.specs.declared.reply.Verdict.TheVariants.{Taken, Refused as refused_request}
 use Rattle.protocol.specs.Numbers.{item_at}
 use Rattle.protocol.specs.Packets.{Packet, Outgoing, Sent, AcceptedChange}
 use Rattle.protocol.specs.Packets.Packet.{Hello, Change, Request, Accepted, Refused, BotText, Part}
@@ -34,7 +34,7 @@ IsTrue hub asked (BotText from to text) = Unit {0}
 IsTrue hub asked (Part version part count items) = IsPart hub.accepted version part count items
 
 -- the answer to a leaf's request of this number, which is one of its last eight
-abbrev pub IsRecentAnswer : PastHub → ℕ → ℕ → Answer → Type 0
+abbrev pub IsRecentAnswer : PastHub → ℕ → ℕ → Verdict → Type 0
 IsRecentAnswer hub leaf request answer =
     (length (hub.answers leaf) < request + 8) × (item_at (hub.answers leaf) request ≡ Some answer)
 

@@ -6,8 +6,8 @@ use Rattle.flagexpr.specs.Letters.{set_of}
 use Rattle.flagexpr.specs.Faults.{flags_fault}
 use Rattle.userfile.specs.declared.change.Change.{Change}
 use Rattle.userfile.specs.declared.change.Change.TheVariants.{AddUser, DelUser, AddHost, DelHost, SetGlobal, SetChan, SetBot, AddBan, DelBan, SetInfo, SetSticky}
-use Rattle.recordtext.specs.declared.asking.Pair.{Pair}
-use Rattle.recordtext.specs.declared.asking.Pair.TheVariants.{AddHost as add_host, DelHost as del_host, DelBan as del_ban, Global as set_global, Bot as set_bot}
+use Rattle.recordtext.specs.declared.asking.TwoWords.{TwoWords}
+use Rattle.recordtext.specs.declared.asking.TwoWords.TheVariants.{AddHost as add_host, DelHost as del_host, DelBan as del_ban, Global as set_global, Bot as set_bot}
 use Rattle.recordtext.specs.Words.{is_empty, rest_of, number_below, words_of}
 
 -- flags are letters, or - for no flags
@@ -44,7 +44,7 @@ by_one_word name h =
     else None
 
 -- addhost H M, delhost H M, delban C M, global H F, bot H F
-abbrev pub pair_of : List ℕ → Option Pair
+abbrev pub pair_of : List ℕ → Option TwoWords
 pair_of name =
     if bytes_eq name (codes "addhost") then Some add_host
     else if bytes_eq name (codes "delhost") then Some del_host
@@ -53,7 +53,7 @@ pair_of name =
     else if bytes_eq name (codes "bot") then Some set_bot
     else None
 
-abbrev pub pair_change : Option Pair → List ℕ → List ℕ → Option Change
+abbrev pub pair_change : Option TwoWords → List ℕ → List ℕ → Option Change
 pair_change (Some add_host) a b = Some (AddHost a b)
 pair_change (Some del_host) a b = Some (DelHost a b)
 pair_change (Some del_ban) a b = Some (DelBan (channel_of a) b)

@@ -14,7 +14,7 @@ use userfile::Change;
 
 /// The changes that have two words after their name.
 #[derive(Clone, Copy)]
-pub enum Pair {
+pub enum TwoWords {
     AddHost,
     DelHost,
     DelBan,
@@ -136,29 +136,29 @@ fn by_two_words(alloc: Global, name: &[u8], a: &[u8], b: &[u8]) -> Result<Option
         return Ok(None);
     }
     match pair_of(name) {
-        Some(Pair::AddHost) => add_host(alloc, a, b),
-        Some(Pair::DelHost) => del_host(alloc, a, b),
-        Some(Pair::DelBan) => del_ban(alloc, a, b),
-        Some(Pair::Global) => set_global(alloc, a, flags_of(b)),
-        Some(Pair::Bot) => set_bot(alloc, a, flags_of(b)),
+        Some(TwoWords::AddHost) => add_host(alloc, a, b),
+        Some(TwoWords::DelHost) => del_host(alloc, a, b),
+        Some(TwoWords::DelBan) => del_ban(alloc, a, b),
+        Some(TwoWords::Global) => set_global(alloc, a, flags_of(b)),
+        Some(TwoWords::Bot) => set_bot(alloc, a, flags_of(b)),
         None => Ok(None),
     }
 }
 
 // The change of two words that has this name.
-fn pair_of(name: &[u8]) -> Option<Pair>
+fn pair_of(name: &[u8]) -> Option<TwoWords>
     ensures { result ≡ pair_of name.now }
 {
     if name == b"addhost".as_slice() {
-        Some(Pair::AddHost)
+        Some(TwoWords::AddHost)
     } else if name == b"delhost".as_slice() {
-        Some(Pair::DelHost)
+        Some(TwoWords::DelHost)
     } else if name == b"delban".as_slice() {
-        Some(Pair::DelBan)
+        Some(TwoWords::DelBan)
     } else if name == b"global".as_slice() {
-        Some(Pair::Global)
+        Some(TwoWords::Global)
     } else if name == b"bot".as_slice() {
-        Some(Pair::Bot)
+        Some(TwoWords::Bot)
     } else {
         None
     }

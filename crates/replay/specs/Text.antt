@@ -5,14 +5,14 @@ use Rattle.ircline.specs.Codes.{code_of as line_code}
 use Rattle.userfile.specs.Codes.{fault_code}
 use Rattle.procstore.specs.declared.reply.Code.{Code}
 use Rattle.procstore.specs.declared.reply.Code.TheVariants.{Zero, One}
-use Rattle.sharelink.specs.declared.note.Note.{Note as LinkNote}
-use Rattle.sharelink.specs.declared.note.Note.TheVariants.{Queued, Idle, Sent as request_sent, Accepted, Refused, Served, Old, Repeat, Gap, Early, Applied, Kept, Installed, Compacted, Relayed, Text, Stray, Restarted}
+use Rattle.sharelink.specs.declared.note.LinkNote.{LinkNote}
+use Rattle.sharelink.specs.declared.note.LinkNote.TheVariants.{Queued, Idle, Sent as request_sent, Accepted, Refused, Served, Old, Repeat, Gap, Early, Applied, Kept, Installed, Compacted, Relayed, Text, Stray, Restarted}
 use Rattle.sharewire.specs.declared.packet.Packet.{Packet}
 use Rattle.sharewire.specs.declared.packet.Packet.TheVariants.{Hello, Change as change_packet, Request, Accepted as accepted_packet, Refused as refused_packet, BotText, Part}
 use Rattle.outqueue.specs.Refusals.{code_of as queue_code}
 use Rattle.botcore.specs.Codes.{refusal_code, action_code}
-use Rattle.botcore.specs.declared.fault.Fault.{Fault}
-use Rattle.botcore.specs.declared.fault.Fault.TheVariants.{Unbound as unbound_fault, Action as action_fault, Line as line_fault}
+use Rattle.botcore.specs.declared.fault.StepFault.{StepFault}
+use Rattle.botcore.specs.declared.fault.StepFault.TheVariants.{Unbound as unbound_fault, Action as action_fault, Line as line_fault}
 use Rattle.botcalls.specs.declared.made_call.MadeCall.{MadeCall}
 use Rattle.botcore.specs.declared.report.End.{End}
 use Rattle.botcore.specs.declared.report.End.TheVariants.{Done as ended, Refused as ended_refused, NoMemory as ended_no_memory}
@@ -21,7 +21,7 @@ use Rattle.botcore.specs.declared.report.Note.TheVariants.{Link as link_note, Bo
 use Rattle.botworld.specs.declared.sent.Sent.{Sent}
 use Rattle.botworld.specs.declared.outcome.Outcome.{Outcome}
 use Rattle.botworld.specs.declared.outcome.Outcome.TheVariants.{Report as reported, NoSuchBot, NoSuchPacket}
-use Rattle.botworld.specs.declared.outcome.Report.{Report}
+use Rattle.botworld.specs.declared.outcome.WorldReport.{WorldReport}
 use Rattle.botworld.specs.Net.{packet_at}
 
 -- call B PROC CODE
@@ -37,12 +37,12 @@ abbrev pub out_line : ℕ → List ℕ → List ℕ
 out_line bot line = codes "out " ++ decimal bot ++ codes " " ++ line ++ 10 ∷ []
 
 -- fault B NAME: NAME says that a proc is missing, or is the code of a refused action or of a line that wasn't queued
-abbrev pub fault_text : Fault → List ℕ
+abbrev pub fault_text : StepFault → List ℕ
 fault_text (unbound_fault unbound) = codes "Unbound " ++ unbound.proc
 fault_text (action_fault fault) = action_code fault
 fault_text (line_fault fault) = queue_code fault
 
-abbrev pub fault_line : ℕ → Fault → List ℕ
+abbrev pub fault_line : ℕ → StepFault → List ℕ
 fault_line bot fault = codes "fault " ++ decimal bot ++ codes " " ++ fault_text fault ++ 10 ∷ []
 
 -- the note of a call of the link, with its number, letters or text if it has any
@@ -106,7 +106,7 @@ sent_lines packets number (suc count) = found_line number (packet_at packets num
 
 -- a bot's part in a step, given all packets sent so far: its calls, the packets that it sent, its lines for the server,
 -- its faults, and how it ended
-abbrev pub report_text : List Sent → Report → List ℕ
+abbrev pub report_text : List Sent → WorldReport → List ℕ
 report_text packets report =
     flat_map (call_line report.bot) report.calls ++ sent_lines packets report.first report.count ++ flat_map (out_line report.bot) report.lines
     ++ flat_map (fault_line report.bot) report.faults ++ end_line report.bot report.end report.note

@@ -5,7 +5,7 @@ ghost use Rattle.replay.specs.Text.{link_note_text, note_text, end_line};
 use botcore::{End, Note};
 use bytetext::NoMemory;
 use recordtext::{put, put_counted, put_number};
-use sharelink::Note as LinkNote;
+use sharelink::LinkNote;
 
 /// Appends to `out` how a step of `bot` ended, by its `end` and its `note`: as `B NOTE`, `B Done` or `B refused CODE`.
 ///

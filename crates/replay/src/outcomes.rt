@@ -10,8 +10,8 @@ ghost use Rattle.replay.specs.Text.{outcome_text, report_text};
 use crate::ends::put_end;
 use crate::packets::put_sent;
 use botcalls::MadeCall;
-use botcore::Fault;
-use botworld::{Outcome, Report, Sent, World};
+use botcore::StepFault;
+use botworld::{Outcome, Sent, World, WorldReport};
 use bytetext::{NoMemory, Text};
 use disks::Disk;
 use procstore::{Code, Promise, Run};
@@ -41,7 +41,7 @@ pub fn put_outcome<P: Promise, D: Disk, B: Run>(
 fn put_report<P: Promise, D: Disk, B: Run>(
     out: &mut Vec<u8>,
     world: &World<P, D, B>,
-    report: &Report,
+    report: &WorldReport,
 ) -> Result<(), NoMemory>
     ensures made { OnOk result (report.now.end ≢ ended_no_memory) }
     ensures added { OnOk result (out.new.items ≡ out.old.items ++ report_text world.now.packets report.now) }
@@ -136,7 +136,7 @@ fn put_line(out: &mut Vec<u8>, bot: u16, line: &Text) -> Result<(), NoMemory>
 }
 
 // The line of each fault, in order.
-fn put_faults(out: &mut Vec<u8>, bot: u16, faults: &[Fault]) -> Result<(), NoMemory>
+fn put_faults(out: &mut Vec<u8>, bot: u16, faults: &[StepFault]) -> Result<(), NoMemory>
     ensures { OnOk result (out.new.items ≡ out.old.items ++ flat_map (fault_line bot) faults.now) }
 {
     for fault in faults {
@@ -147,7 +147,7 @@ fn put_faults(out: &mut Vec<u8>, bot: u16, faults: &[Fault]) -> Result<(), NoMem
 
 // fault B NAME
 #[tactic(auto, using(std::proofs::Common::append_assoc))]
-fn put_fault(out: &mut Vec<u8>, bot: u16, fault: &Fault) -> Result<(), NoMemory>
+fn put_fault(out: &mut Vec<u8>, bot: u16, fault: &StepFault) -> Result<(), NoMemory>
     ensures { OnOk result (out.new.items ≡ out.old.items ++ fault_line bot fault.now) }
 {
     put(out, b"fault ")?;
@@ -159,15 +159,15 @@ fn put_fault(out: &mut Vec<u8>, bot: u16, fault: &Fault) -> Result<(), NoMemory>
 
 // Unbound PROC, or the code of a refused action or of a line that wasn't queued.
 #[tactic(auto, using(std::proofs::Common::append_assoc))]
-fn put_name(out: &mut Vec<u8>, fault: &Fault) -> Result<(), NoMemory>
+fn put_name(out: &mut Vec<u8>, fault: &StepFault) -> Result<(), NoMemory>
     ensures { OnOk result (out.new.items ≡ out.old.items ++ fault_text fault.now) }
 {
     match fault {
-        Fault::Unbound(unbound) => {
+        StepFault::Unbound(unbound) => {
             put(out, b"Unbound ")?;
             put(out, unbound.proc.as_bytes())
         }
-        Fault::Action(fault) => put(out, fault.code().as_bytes()),
-        Fault::Line(fault) => put(out, fault.code().as_bytes()),
+        StepFault::Action(fault) => put(out, fault.code().as_bytes()),
+        StepFault::Line(fault) => put(out, fault.code().as_bytes()),
     }
 }

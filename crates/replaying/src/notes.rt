@@ -2,12 +2,12 @@
 use crate::canvas::{Anchor, Canvas, Point};
 use crate::places::{LINE, NOTE, place_of};
 use botcalls::MadeCall;
-use botcore::{End, Fault, Note};
-use botworld::Report;
+use botcore::{End, Note, StepFault};
+use botworld::WorldReport;
 use bytetext::Text;
 use procstore::Code;
 use replay::put_note;
-use sharelink::Note as LinkNote;
+use sharelink::LinkNote;
 use std::alloc::Global;
 
 // The maximum number of texts of one kind that are shown.
@@ -48,7 +48,7 @@ impl Notes<'_> {
 
 /// Draws on `out` what came of the step of `report`, from the height `y` down: how it ended, the calls of procs, the
 /// packets and lines that it sent, and its faults. Returns the height of the next notes.
-pub fn put_notes(alloc: Global, out: &mut Canvas, report: &Report, y: u32) -> u32 {
+pub fn put_notes(alloc: Global, out: &mut Canvas, report: &WorldReport, y: u32) -> u32 {
     let mut notes = Notes {
         out,
         bot: report.bot,
@@ -68,7 +68,7 @@ pub fn put_notes(alloc: Global, out: &mut Canvas, report: &Report, y: u32) -> u3
 }
 
 /// Returns whether the step of `report` was refused, or whether a change was.
-pub fn is_refusal(report: &Report) -> bool {
+pub fn is_refusal(report: &WorldReport) -> bool {
     match (report.end, &report.note) {
         (End::Refused(_), _) | (End::Done, Some(Note::Link(LinkNote::Refused(_)))) => true,
         (End::Done, Some(_) | None) | (End::NoMemory, _) => false,
@@ -137,7 +137,7 @@ fn put_lines(alloc: Global, notes: &mut Notes<'_>, lines: &[Text]) {
     put_more(alloc, notes, lines.len(), b" lines more");
 }
 
-fn put_faults(alloc: Global, notes: &mut Notes<'_>, faults: &[Fault]) {
+fn put_faults(alloc: Global, notes: &mut Notes<'_>, faults: &[StepFault]) {
     for fault in faults.iter().take(MOST) {
         let mut text = Canvas::of(alloc, b"fault ");
         text.put(fault.word().as_bytes());

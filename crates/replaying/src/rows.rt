@@ -4,11 +4,11 @@ use crate::flights::{Flight, put_arrow};
 use crate::notes::{REFUSAL_STYLE, is_refusal, put_notes};
 use crate::places::{GAP, LABEL, LINE, place_of};
 use botcore::Note;
-use botworld::{Outcome, Report, Step, World};
+use botworld::{Outcome, Step, World, WorldReport};
 use disks::Disk;
 use procstore::{Promise, Run};
 use replay::put_packet;
-use sharelink::Note as LinkNote;
+use sharelink::LinkNote;
 use std::alloc::Global;
 use std::slice;
 
@@ -176,7 +176,7 @@ fn land(sheet: &mut Sheet, step: &Step, y: u32) {
 fn send<P: Promise, D: Disk, B: Run>(
     sheet: &mut Sheet,
     world: &World<P, D, B>,
-    report: &Report,
+    report: &WorldReport,
     y: u32,
 ) {
     let after = report.first.saturating_add(report.count as u64);
@@ -203,7 +203,7 @@ fn put_report<P: Promise, D: Disk, B: Run>(
     alloc: Global,
     sheet: &mut Sheet,
     world: &World<P, D, B>,
-    report: &Report,
+    report: &WorldReport,
     is_changed: bool,
     y: u32,
 ) -> u32 {
@@ -213,7 +213,7 @@ fn put_report<P: Promise, D: Disk, B: Run>(
 }
 
 // A step's mark, with the version in it if the version has changed or was found by a restart.
-fn put_mark(out: &mut Canvas, report: &Report, is_changed: bool, version: u32, y: u32) {
+fn put_mark(out: &mut Canvas, report: &WorldReport, is_changed: bool, version: u32, y: u32) {
     let at = Point {
         x: place_of(report.bot),
         y,

@@ -4,8 +4,8 @@ use Rattle.script.specs.declared.command.Command.{Command}
 use Rattle.script.specs.declared.command.Command.TheVariants.{Steps, Show}
 use Rattle.bindtable.specs.Kinds.{kind_of}
 use Rattle.sharelink.specs.declared.TheConstants.{MAX_LEAVES}
-use Rattle.botcore.specs.declared.event.Event.{Event}
-use Rattle.botcore.specs.declared.event.Event.TheVariants.{Ask, Pump, Compact, Restart, Connect, Bind, Unbind, Clock}
+use Rattle.botcore.specs.declared.event.BotEvent.{BotEvent}
+use Rattle.botcore.specs.declared.event.BotEvent.TheVariants.{Ask, Pump, Compact, Restart, Connect, Bind, Unbind, Clock}
 use Rattle.botworld.specs.declared.step.Step.{Step}
 use Rattle.botworld.specs.declared.step.Step.TheVariants.{At, Deliver}
 use Rattle.script.specs.declared.verb.Verb.{Verb}
@@ -61,11 +61,11 @@ abbrev pub delivered : ℕ → Command
 delivered packet = one_step (Deliver packet)
 
 -- the command that gives this event to the bot of this number
-abbrev pub event_at : ℕ → Event → Command
+abbrev pub event_at : ℕ → BotEvent → Command
 event_at bot event = one_step (At bot event)
 
 -- the same; the line is wrong if the bot's number is missing
-abbrev pub told_to : Option ℕ → Event → Saying
+abbrev pub told_to : Option ℕ → BotEvent → Saying
 told_to bot event = told (option_map (λ number. event_at number event) bot)
 
 -- VERB A

@@ -2,7 +2,7 @@
 use Rattle.std.specs.Prelude.{ℕ, List, [], ◌∷◌, ◌++◌, map}
 use Rattle.ircline.specs.declared.line.Line.{Line as read_line}
 use Rattle.ircline.specs.Stream.{lines_of}
-use Rattle.botcore.specs.declared.event.Event.TheVariants.{Line}
+use Rattle.botcore.specs.declared.event.BotEvent.TheVariants.{Line}
 use Rattle.botworld.specs.declared.step.Step.{Step}
 use Rattle.botworld.specs.declared.step.Step.TheVariants.{At}
 

@@ -4,7 +4,7 @@ ghost use Rattle.ircline.specs.Stream.{lines_of};
 ghost use Rattle.script.specs.Lines.{line_step, line_steps};
 
 use crate::command::Steps;
-use botcore::Event;
+use botcore::BotEvent;
 use botworld::Step;
 use bytetext::{NoMemory, Text};
 use ircline::{Line, LineReader};
@@ -38,7 +38,7 @@ fn steps_of(alloc: Global, bot: u16, lines: Vec<Line>) -> Result<Vec<Step>, NoMe
 {
     let mut steps = Vec::with_capacity(alloc, lines.len())?;
     for line in lines {
-        let event = Event::Line(line);
+        let event = BotEvent::Line(line);
         steps.push(Step::At { bot, event })?;
     }
     Ok(steps)

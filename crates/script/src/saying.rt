@@ -10,7 +10,7 @@ use crate::command::{Command, Steps};
 use crate::lines::line_steps;
 use crate::verb::Verb;
 use bindtable::BindKind;
-use botcore::Event;
+use botcore::BotEvent;
 use bottimers::Zone;
 use botworld::Step;
 use bytetext::NoMemory;
@@ -66,10 +66,10 @@ fn two_words(alloc: Global, verb: &[u8], a: &[u8]) -> Result<Saying, NoMemory>
     match Verb::named(verb) {
         Some(Verb::Leaves) => Ok(count_leaves(bot_number(a))),
         Some(Verb::Zone) => Ok(read_zone(a)),
-        Some(Verb::Pump) => tell(alloc, bot_number(a), Event::Pump),
-        Some(Verb::Compact) => tell(alloc, bot_number(a), Event::Compact),
-        Some(Verb::Restart) => tell(alloc, bot_number(a), Event::Restart),
-        Some(Verb::Connect) => tell(alloc, bot_number(a), Event::Connect),
+        Some(Verb::Pump) => tell(alloc, bot_number(a), BotEvent::Pump),
+        Some(Verb::Compact) => tell(alloc, bot_number(a), BotEvent::Compact),
+        Some(Verb::Restart) => tell(alloc, bot_number(a), BotEvent::Restart),
+        Some(Verb::Connect) => tell(alloc, bot_number(a), BotEvent::Connect),
         Some(Verb::Deliver) => match number(a) {
             Some(packet) => one_step(alloc, Step::Deliver { packet }),
             None => Ok(Saying::Wrong),
@@ -111,7 +111,7 @@ fn read_zone(rule: &[u8]) -> Saying
 }
 
 // The command that gives this event to the bot; the line is wrong if the bot's number is missing.
-fn tell(alloc: Global, bot: Option<u16>, event: Event) -> Result<Saying, NoMemory>
+fn tell(alloc: Global, bot: Option<u16>, event: BotEvent) -> Result<Saying, NoMemory>
     ensures { IfOk result (λ saying. saying ≡ told_to bot event) }
 {
     match bot {
@@ -121,7 +121,7 @@ fn tell(alloc: Global, bot: Option<u16>, event: Event) -> Result<Saying, NoMemor
 }
 
 // The command that gives this event to the bot of this number.
-fn event_at(alloc: Global, bot: u16, event: Event) -> Result<Saying, NoMemory>
+fn event_at(alloc: Global, bot: u16, event: BotEvent) -> Result<Saying, NoMemory>
     ensures { IfOk result (λ saying. saying ≡ Saying.Told (event_at bot event)) }
 {
     one_step(alloc, Step::At { bot, event })
@@ -175,7 +175,7 @@ fn ask(alloc: Global, bot: Option<u16>, name: &[u8], words: &[&[u8]]) -> Result<
         return Ok(Saying::Wrong);
     };
     match change_named(alloc, name, words)? {
-        Some(change) => event_at(alloc, bot, Event::Ask(change)),
+        Some(change) => event_at(alloc, bot, BotEvent::Ask(change)),
         None => Ok(Saying::Wrong),
     }
 }
@@ -214,7 +214,7 @@ fn read_clock(
         return Ok(Saying::Wrong);
     }
     match (bot, number(word)) {
-        (Some(bot), Some(now)) => event_at(alloc, bot, Event::Clock(now)),
+        (Some(bot), Some(now)) => event_at(alloc, bot, BotEvent::Clock(now)),
         (Some(_), None) | (None, _) => Ok(Saying::Wrong),
     }
 }
@@ -227,7 +227,7 @@ fn bind(alloc: Global, bot: Option<u16>, kind: &[u8], words: &[&[u8]]) -> Result
         return Ok(Saying::Wrong);
     };
     match new_bind(alloc, BindKind::of_word(kind), words)? {
-        Some(bind) => event_at(alloc, bot, Event::Bind(bind)),
+        Some(bind) => event_at(alloc, bot, BotEvent::Bind(bind)),
         None => Ok(Saying::Wrong),
     }
 }
@@ -240,7 +240,7 @@ fn unbind(alloc: Global, bot: Option<u16>, kind: &[u8], words: &[&[u8]]) -> Resu
         return Ok(Saying::Wrong);
     };
     match old_bind(alloc, BindKind::of_word(kind), words)? {
-        Some(bind) => event_at(alloc, bot, Event::Unbind(bind)),
+        Some(bind) => event_at(alloc, bot, BotEvent::Unbind(bind)),
         None => Ok(Saying::Wrong),
     }
 }

@@ -4,17 +4,17 @@ ghost use Rattle.bytetext.specs.declared.moment.TheConstants.{MOMENTS_END};
 
 use crate::cue::{Cue, cue_of, param};
 use crate::entry::{Entry, Fact};
+use crate::irc_connection::{IrcConnection, joined};
 use crate::log::log;
 use crate::nicks::other_nick;
-use crate::uplink::{Uplink, joined};
 use bytetext::{NoMemory, Text, TryCopy};
 use ircline::{Line, Message};
 use settings::Settings;
 
-impl Uplink {
+impl IrcConnection {
     /// Processes `bytes`, which the server sent by second `now`, for the registration and the channels. Notes the
     /// bot's nick, and asks for another one if the server rejects it. Puts the lines `perform` of `settings` once
-    /// after a welcome, and queues those that may go. `bytes` are those of [`Uplink::take_heard`], each once and in
+    /// after a welcome, and queues those that may go. `bytes` are those of [`IrcConnection::take_heard`], each once and in
     /// order.
     ///
     /// # Errors

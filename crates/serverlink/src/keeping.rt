@@ -3,14 +3,14 @@ ghost use Rattle.std.specs.Prelude.{◌≢◌, ◌<◌, None, OnErr};
 ghost use Rattle.bytetext.specs.declared.moment.TheConstants.{MOMENTS_END};
 
 use crate::entry::Entry;
+use crate::irc_connection::{IrcConnection, joined};
 use crate::log::log;
-use crate::uplink::{Uplink, joined};
 use crate::vigil::Care;
 use crate::why::Why;
 use bytetext::NoMemory;
 use settings::Settings;
 
-impl Uplink {
+impl IrcConnection {
     /// Does what is due at second `now` even if the server says nothing. Pings a silent server, or disconnects it.
     /// Rejoins channels, and queues lines of the process's own. `settings` say whether to log the lines. Call this at
     /// least once a second.

@@ -21,9 +21,9 @@
 //! A bot's connection to its IRC server: connecting, registering, keeping it alive, the channels to be on, and what is
 //! sent.
 //!
-//! An [`Uplink`] connects to the servers of a configuration in turn ([`net`]), reads what the connected one says,
+//! An [`IrcConnection`] connects to the servers of a configuration in turn ([`net`]), reads what the connected one says,
 //! and sends it lines. A [`Session`] is one connection of it. [`serverlink`] decides what is due when. What the bot itself
-//! makes of the server's messages is not looked at here; the bot's lines come in by [`Uplink::tell`].
+//! makes of the server's messages is not looked at here; the bot's lines come in by [`IrcConnection::tell`].
 //!
 //! Besides those lines, an uplink sends:
 //!
@@ -31,7 +31,7 @@
 //! - a PING after 90 seconds of silence;
 //! - another nick, if the server rejects the bot's;
 //! - the lines `perform`, once after each welcome;
-//! - a JOIN after a KICK, or after the server did not let the bot in ([`Channels`]);
+//! - a JOIN after a KICK, or after the server did not let the bot in ([`ConfiguredChannels`]);
 //! - lines that an operator has it send, and answers to a person ([`OwnLines`]).
 //!
 //! Each line to a server has 1 to 510 bytes: a [`ServerWire`] sends nothing else.
@@ -54,10 +54,11 @@
 //! ```
 #![tactic(auto)]
 
-mod channels;
+mod configured_channels;
 mod cue;
 mod entry;
 mod hearing;
+mod irc_connection;
 mod keeping;
 mod line;
 mod log;
@@ -68,12 +69,12 @@ mod seat;
 mod server_wire;
 mod session;
 mod shown;
-mod uplink;
 mod vigil;
 mod why;
 
-pub use crate::channels::Channels;
+pub use crate::configured_channels::ConfiguredChannels;
 pub use crate::cue::{Cue, cue_of, param};
+pub use crate::irc_connection::IrcConnection;
 pub use crate::line::{A_BASE, MAX_LINE, is_base_due, is_line};
 pub use crate::nicks::{SHORT_NICK, other_nick};
 pub use crate::own_lines::OwnLines;
@@ -82,6 +83,5 @@ pub use crate::seat::{LONGEST_WAIT, Seat};
 pub use crate::server_wire::ServerWire;
 pub use crate::session::Session;
 pub use crate::shown::{Shown, put};
-pub use crate::uplink::Uplink;
 pub use crate::vigil::{Care, DEAD, GOOD, Loss, QUIET, UNWELCOMED, Vigil};
 pub use crate::why::Why;

@@ -2,11 +2,11 @@
 use Rattle.std.proofs.Common.{◌≡◌, ◌∙◌, ℕ, suc, ◌+◌, ◌<◌, ◌≤◌, List, [], ◌∷◌, length, map, drop, get_or, ap, sym, refl, None, Some, Result, Ok, Err, add-one}
 use Rattle.std.specs.Borrow.{Bor}
 use Rattle.std.proofs.lemmas.List.{drop_more, drop_all, length-map, get_or-map}
-use Rattle.settings.specs.declared.advice.Advice.{Advice}
+use Rattle.settings.specs.declared.advice.SettingAdvice.{SettingAdvice}
 use Rattle.settings.specs.declared.fault.SettingsFault.{SettingsFault}
 use Rattle.settings.specs.declared.fault.SettingsFault.TheVariants.{Line}
 use Rattle.settings.specs.declared.draft.Draft.{Draft}
-use Rattle.settings.specs.declared.saying.Saying.{Saying}
+use Rattle.settings.specs.declared.saying.SettingSaying.{SettingSaying}
 use Rattle.settings.specs.Grammar.{saying_of}
 use Rattle.settings.specs.Drafts.{refusal_of, added}
 use Rattle.settings.specs.Reading.{read_from, unless}
@@ -33,7 +33,7 @@ unfolding read_from
 read_from-none draft n = refl
 
 -- what a line of this saying does to the reading
-steps : (draft : Draft) (n : ℕ) (lines : List (Bor (List ℕ))) (i : ℕ) (d : Bor (List ℕ)) (saying : Saying) → i < length lines
+steps : (draft : Draft) (n : ℕ) (lines : List (Bor (List ℕ))) (i : ℕ) (d : Bor (List ℕ)) (saying : SettingSaying) → i < length lines
     → saying ≡ saying_of (get_or lines i d).now
     → read_from draft n (drop i (now_of lines)) ≡ unless (refusal_of draft saying) n (read_from (added n draft saying) (suc n) (drop (i + 1) (now_of lines)))
 steps draft n lines i d saying within is =
@@ -42,7 +42,7 @@ steps draft n lines i d saying within is =
     ∙ ap (λ said. unless (refusal_of draft said) n (read_from (added n draft said) (suc n) (drop (i + 1) (now_of lines)))) (sym is)
 
 -- it goes on
-pub read_from-more : (old new : Draft) (lines : List (Bor (List ℕ))) (i : ℕ) (d : Bor (List ℕ)) (saying : Saying) (said : Result Draft SettingsFault)
+pub read_from-more : (old new : Draft) (lines : List (Bor (List ℕ))) (i : ℕ) (d : Bor (List ℕ)) (saying : SettingSaying) (said : Result Draft SettingsFault)
     → i < length lines → read_from old (i + 1) (drop i (now_of lines)) ≡ said → saying ≡ saying_of (get_or lines i d).now
     → refusal_of old saying ≡ None → new ≡ added (i + 1) old saying
     → read_from new (i + 1 + 1) (drop (i + 1) (now_of lines)) ≡ said
@@ -53,7 +53,7 @@ read_from-more old new lines i d saying said within so_far is goes new_is =
     ∙ sym (steps old (i + 1) lines i d saying within is) ∙ so_far
 
 -- or ends
-pub read_from-ends : (old : Draft) (lines : List (Bor (List ℕ))) (i : ℕ) (d : Bor (List ℕ)) (saying : Saying) (advice : Advice)
+pub read_from-ends : (old : Draft) (lines : List (Bor (List ℕ))) (i : ℕ) (d : Bor (List ℕ)) (saying : SettingSaying) (advice : SettingAdvice)
     (said : Result Draft SettingsFault)
     → i < length lines → read_from old (i + 1) (drop i (now_of lines)) ≡ said → saying ≡ saying_of (get_or lines i d).now
     → refusal_of old saying ≡ Some advice → said ≡ Err (Line (i + 1) advice)

@@ -1,14 +1,14 @@
 -- What the lines of a file say together: which of them is refused after those before it, and what it adds.
 use Rattle.std.specs.Prelude.{ℕ, Bool, true, false, is_some, [], ◌∷◌, ◌++◌, Option, None, Some}
-use Rattle.settings.specs.declared.word.Word.{Word}
-use Rattle.settings.specs.declared.word.Word.TheVariants.{Account as account_word, Bot as bot_word, Data as data_word}
-use Rattle.settings.specs.declared.word.Word.TheVariants.{Exclusive as exclusive_word, Hub as hub_word, Listen as listen_word}
-use Rattle.settings.specs.declared.word.Word.TheVariants.{Log as log_word, Nick as nick_word, Secret as secret_word, Zone as zone_word}
-use Rattle.settings.specs.declared.advice.Advice.{Advice}
-use Rattle.settings.specs.declared.advice.Advice.TheVariants.{Once}
-use Rattle.settings.specs.declared.saying.Saying.{Saying}
-use Rattle.settings.specs.declared.saying.Saying.TheVariants.{Nothing, Wrong, Account, Bind, Bot, Channel, Data, Exclusive, Hub, Listen}
-use Rattle.settings.specs.declared.saying.Saying.TheVariants.{LogLines, Nick, Perform, Secret, Server, Zone}
+use Rattle.settings.specs.declared.setting_word.SettingWord.{SettingWord}
+use Rattle.settings.specs.declared.setting_word.SettingWord.TheVariants.{Account as account_word, Bot as bot_word, Data as data_word}
+use Rattle.settings.specs.declared.setting_word.SettingWord.TheVariants.{Exclusive as exclusive_word, Hub as hub_word, Listen as listen_word}
+use Rattle.settings.specs.declared.setting_word.SettingWord.TheVariants.{Log as log_word, Nick as nick_word, Secret as secret_word, Zone as zone_word}
+use Rattle.settings.specs.declared.advice.SettingAdvice.{SettingAdvice}
+use Rattle.settings.specs.declared.advice.SettingAdvice.TheVariants.{Once}
+use Rattle.settings.specs.declared.saying.SettingSaying.{SettingSaying}
+use Rattle.settings.specs.declared.saying.SettingSaying.TheVariants.{Nothing, Wrong, Account, Bind, Bot, Channel, Data, Exclusive, Hub, Listen}
+use Rattle.settings.specs.declared.saying.SettingSaying.TheVariants.{LogLines, Nick, Perform, Secret, Server, Zone}
 use Rattle.settings.specs.declared.draft.Draft.{Draft}
 
 -- no line is read
@@ -31,12 +31,12 @@ no_line = record {
 }
 
 -- a line that may stand once is refused if there is one already
-abbrev pub once : Word → Bool → Option Advice
+abbrev pub once : SettingWord → Bool → Option SettingAdvice
 once word false = None
 once word true = Some (Once word)
 
 -- why a line is refused after these
-abbrev pub refusal_of : Draft → Saying → Option Advice
+abbrev pub refusal_of : Draft → SettingSaying → Option SettingAdvice
 refusal_of draft Nothing = None
 refusal_of draft (Wrong advice) = Some advice
 refusal_of draft (Account account) = once account_word (is_some draft.account)
@@ -55,7 +55,7 @@ refusal_of draft (Server server) = None
 refusal_of draft (Zone zone) = once zone_word (is_some draft.zone)
 
 -- what the line of this number adds
-abbrev pub added : ℕ → Draft → Saying → Draft
+abbrev pub added : ℕ → Draft → SettingSaying → Draft
 added line draft Nothing = draft
 added line draft (Wrong advice) = draft
 added line draft (Account account) = record draft { account = Some account }

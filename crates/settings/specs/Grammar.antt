@@ -5,15 +5,15 @@ use Rattle.std.specs.Str.{bytes_eq}
 use Rattle.rfccase.specs.Channels.{is_channel_name}
 use Rattle.bottimers.specs.Zones.{TzText, rule_in}
 use Rattle.settings.specs.declared.TheConstants.{MAX_LEAVES, MAX_LINE}
-use Rattle.settings.specs.declared.word.Word.{Word}
-use Rattle.settings.specs.declared.word.Word.TheVariants.{Account as account_word, Bind as bind_word, Bot as bot_word, Channel as channel_word}
-use Rattle.settings.specs.declared.word.Word.TheVariants.{Data as data_word, Exclusive as exclusive_word, Hub as hub_word, Listen as listen_word}
-use Rattle.settings.specs.declared.word.Word.TheVariants.{Log as log_word, Nick as nick_word, Perform as perform_word}
-use Rattle.settings.specs.declared.word.Word.TheVariants.{Secret as secret_word, Server as server_word, Zone as zone_word}
-use Rattle.settings.specs.declared.advice.Advice.TheVariants.{Form, Leaves, Port, Unknown, CarriageReturn, Control, ByteOrderMark}
-use Rattle.settings.specs.declared.saying.Saying.{Saying}
-use Rattle.settings.specs.declared.saying.Saying.TheVariants.{Nothing, Wrong, Account, Bind, Bot, Channel, Data, Exclusive, Hub, Listen}
-use Rattle.settings.specs.declared.saying.Saying.TheVariants.{LogLines, Nick, Perform, Secret, Server, Zone}
+use Rattle.settings.specs.declared.setting_word.SettingWord.{SettingWord}
+use Rattle.settings.specs.declared.setting_word.SettingWord.TheVariants.{Account as account_word, Bind as bind_word, Bot as bot_word, Channel as channel_word}
+use Rattle.settings.specs.declared.setting_word.SettingWord.TheVariants.{Data as data_word, Exclusive as exclusive_word, Hub as hub_word, Listen as listen_word}
+use Rattle.settings.specs.declared.setting_word.SettingWord.TheVariants.{Log as log_word, Nick as nick_word, Perform as perform_word}
+use Rattle.settings.specs.declared.setting_word.SettingWord.TheVariants.{Secret as secret_word, Server as server_word, Zone as zone_word}
+use Rattle.settings.specs.declared.advice.SettingAdvice.TheVariants.{Form, Leaves, Port, Unknown, CarriageReturn, Control, ByteOrderMark}
+use Rattle.settings.specs.declared.saying.SettingSaying.{SettingSaying}
+use Rattle.settings.specs.declared.saying.SettingSaying.TheVariants.{Nothing, Wrong, Account, Bind, Bot, Channel, Data, Exclusive, Hub, Listen}
+use Rattle.settings.specs.declared.saying.SettingSaying.TheVariants.{LogLines, Nick, Perform, Secret, Server, Zone}
 use Rattle.settings.specs.Names.{is_nick}
 use Rattle.settings.specs.Words.{word_of, rest_of, after_spaces, number_of, port_of}
 use Rattle.settings.specs.Vocabulary.{word_named}
@@ -24,69 +24,69 @@ is_empty word = length word == 0
 -- ---- what follows each word
 
 -- data FOLDER
-abbrev pub data_said : List ℕ → Saying
+abbrev pub data_said : List ℕ → SettingSaying
 data_said rest = if is_empty rest then Wrong (Form data_word) else Data rest
 
 -- secret FILE
-abbrev pub secret_said : List ℕ → Saying
+abbrev pub secret_said : List ℕ → SettingSaying
 secret_said rest = if is_empty rest then Wrong (Form secret_word) else Secret rest
 
 -- perform LINE, which is at most as long as a line may be
-abbrev pub perform_said : List ℕ → Saying
+abbrev pub perform_said : List ℕ → SettingSaying
 perform_said rest = if is_empty rest || nat_lt MAX_LINE (length rest) then Wrong (Form perform_word) else Perform rest
 
 -- nick NICK
-abbrev pub nick_said : List ℕ → Saying
+abbrev pub nick_said : List ℕ → SettingSaying
 nick_said rest = if is_nick (word_of rest) && is_empty (rest_of rest) then Nick (word_of rest) else Wrong (Form nick_word)
 
 -- channel NAME
-abbrev pub channel_said : List ℕ → Saying
+abbrev pub channel_said : List ℕ → SettingSaying
 channel_said rest =
     if is_channel_name (word_of rest) && is_empty (rest_of rest) then Channel (word_of rest) else Wrong (Form channel_word)
 
 -- exclusive
-abbrev pub exclusive_said : List ℕ → Saying
+abbrev pub exclusive_said : List ℕ → SettingSaying
 exclusive_said rest = if is_empty rest then Exclusive else Wrong (Form exclusive_word)
 
 -- log lines
-abbrev pub log_said : List ℕ → Saying
+abbrev pub log_said : List ℕ → SettingSaying
 log_said rest = if bytes_eq (word_of rest) (codes "lines") && is_empty (rest_of rest) then LogLines else Wrong (Form log_word)
 
 -- account NAME FILE
-abbrev pub account_said : List ℕ → Saying
+abbrev pub account_said : List ℕ → SettingSaying
 account_said rest =
     if is_empty (rest_of rest) then Wrong (Form account_word) else Account (record { name = word_of rest; file = rest_of rest })
 
 -- bot NUMBER of LEAVES: the number is at most LEAVES, and LEAVES is not too high
-abbrev pub bot_numbered : Option ℕ → Option ℕ → Saying
+abbrev pub bot_numbered : Option ℕ → Option ℕ → SettingSaying
 bot_numbered None leaves = Wrong (Form bot_word)
 bot_numbered (Some n) None = Wrong (Form bot_word)
 bot_numbered (Some n) (Some m) =
     if nat_le n m && nat_le m MAX_LEAVES then Bot (record { number = n; leaves = m }) else Wrong Leaves
 
-abbrev pub bot_of : List ℕ → List ℕ → Saying
+abbrev pub bot_of : List ℕ → List ℕ → SettingSaying
 bot_of number rest =
     if bytes_eq (word_of rest) (codes "of") && is_empty (rest_of (rest_of rest))
     then bot_numbered (number_of number) (number_of (word_of (rest_of rest))) else Wrong (Form bot_word)
 
-abbrev pub bot_said : List ℕ → Saying
+abbrev pub bot_said : List ℕ → SettingSaying
 bot_said rest = bot_of (word_of rest) (rest_of rest)
 
 -- hub HOST PORT, and listen HOST PORT
-abbrev pub hub_found : List ℕ → Option ℕ → Saying
+abbrev pub hub_found : List ℕ → Option ℕ → SettingSaying
 hub_found host None = Wrong Port
 hub_found host (Some port) = Hub (record { host = host; port = port })
 
-abbrev pub hub_said : List ℕ → Saying
+abbrev pub hub_said : List ℕ → SettingSaying
 hub_said rest =
     if is_empty (rest_of rest) || not (is_empty (rest_of (rest_of rest))) then Wrong (Form hub_word)
     else hub_found (word_of rest) (port_of (word_of (rest_of rest)))
 
-abbrev pub listen_found : List ℕ → Option ℕ → Saying
+abbrev pub listen_found : List ℕ → Option ℕ → SettingSaying
 listen_found host None = Wrong Port
 listen_found host (Some port) = Listen (record { host = host; port = port })
 
-abbrev pub listen_said : List ℕ → Saying
+abbrev pub listen_said : List ℕ → SettingSaying
 listen_said rest =
     if is_empty (rest_of rest) || not (is_empty (rest_of (rest_of rest))) then Wrong (Form listen_word)
     else listen_found (word_of rest) (port_of (word_of (rest_of rest)))
@@ -95,25 +95,25 @@ listen_said rest =
 abbrev pub pass_of : List ℕ → Option (List ℕ)
 pass_of rest = if is_empty rest then None else Some rest
 
-abbrev pub server_found : List ℕ → Option ℕ → List ℕ → Saying
+abbrev pub server_found : List ℕ → Option ℕ → List ℕ → SettingSaying
 server_found host None pass = Wrong Port
 server_found host (Some port) pass = Server (record { address = record { host = host; port = port }; pass = pass_of pass })
 
-abbrev pub server_said : List ℕ → Saying
+abbrev pub server_said : List ℕ → SettingSaying
 server_said rest =
     if is_empty (rest_of rest) then Wrong (Form server_word)
     else server_found (word_of rest) (port_of (word_of (rest_of rest))) (rest_of (rest_of rest))
 
 -- zone RULE
-abbrev pub zone_found : Option TzText → Saying
+abbrev pub zone_found : Option TzText → SettingSaying
 zone_found None = Wrong (Form zone_word)
 zone_found (Some rule) = Zone rule
 
-abbrev pub zone_said : List ℕ → Saying
+abbrev pub zone_said : List ℕ → SettingSaying
 zone_said rest = if is_empty (rest_of rest) then zone_found (rule_in (word_of rest)) else Wrong (Form zone_word)
 
 -- bind TYPE FLAGS PROC MASK
-abbrev pub bind_said : List ℕ → Saying
+abbrev pub bind_said : List ℕ → SettingSaying
 bind_said rest =
     if is_empty (rest_of (rest_of (rest_of rest))) then Wrong (Form bind_word)
     else Bind (record {
@@ -125,7 +125,7 @@ bind_said rest =
 
 -- ---- a line
 
-abbrev pub said_of : Option Word → List ℕ → Saying
+abbrev pub said_of : Option SettingWord → List ℕ → SettingSaying
 said_of None rest = Wrong Unknown
 said_of (Some account_word) rest = account_said rest
 said_of (Some bind_word) rest = bind_said rest
@@ -154,7 +154,7 @@ ends_in_return line = slice_index line (length line - 1) == 13
 abbrev pub has_mark : List ℕ → Bool
 has_mark line = slice_index line 0 == 239 && (slice_index line 1 == 187 && slice_index line 2 == 191)
 
-unfoldable pub saying_by_words : List ℕ → Saying
+unfoldable pub saying_by_words : List ℕ → SettingSaying
 saying_by_words line =
     if ends_in_return line then Wrong CarriageReturn
     else if not (list_all is_shown line) then Wrong Control
@@ -162,9 +162,9 @@ saying_by_words line =
     else said_of (word_named (word_of line)) (rest_of line)
 
 -- an empty line, and one that begins with #, says nothing
-abbrev pub saying_after : List ℕ → Saying
+abbrev pub saying_after : List ℕ → SettingSaying
 saying_after [] = Nothing
 saying_after (b ∷ bs) = if b == 35 then Nothing else saying_by_words (b ∷ bs)
 
-abbrev pub saying_of : List ℕ → Saying
+abbrev pub saying_of : List ℕ → SettingSaying
 saying_of line = saying_after (after_spaces line)

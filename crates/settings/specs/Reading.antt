@@ -6,7 +6,7 @@ use Rattle.bottimers.specs.Zones.{TzText, fixed_rule}
 use Rattle.bytetext.specs.declared.failure.Failure.{Failure}
 use Rattle.bytetext.specs.declared.failure.Failure.TheVariants.{Refused, NoMemory}
 use Rattle.settings.specs.declared.TheConstants.{MAX_FILE}
-use Rattle.settings.specs.declared.advice.Advice.{Advice}
+use Rattle.settings.specs.declared.advice.SettingAdvice.{SettingAdvice}
 use Rattle.settings.specs.declared.fault.SettingsFault.{SettingsFault}
 use Rattle.settings.specs.declared.fault.SettingsFault.TheVariants.{TooLong, Line, Lacks}
 use Rattle.settings.specs.declared.fault.Lack.{Lack}
@@ -24,7 +24,7 @@ abbrev pub lines_of : List ℕ → List (List ℕ)
 lines_of bytes = slice_split (λ b. b == 10) bytes
 
 -- a line that is refused ends the reading
-abbrev pub unless : Option Advice → ℕ → Result Draft SettingsFault → Result Draft SettingsFault
+abbrev pub unless : Option SettingAdvice → ℕ → Result Draft SettingsFault → Result Draft SettingsFault
 unless None line later = later
 unless (Some advice) line later = Err (Line line advice)
 

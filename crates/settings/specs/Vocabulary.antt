@@ -1,11 +1,11 @@
 -- The first words of lines, as files spell them.
 use Rattle.std.specs.Prelude.{ℕ, List, [], ◌∷◌, Option, find, codes}
 use Rattle.std.specs.Str.{bytes_eq}
-use Rattle.settings.specs.declared.word.Word.{Word}
-use Rattle.settings.specs.declared.word.Word.TheVariants.{Account, Bind, Bot, Channel, Data, Exclusive, Hub, Listen, Log, Nick}
-use Rattle.settings.specs.declared.word.Word.TheVariants.{Perform, Secret, Server, Zone}
+use Rattle.settings.specs.declared.setting_word.SettingWord.{SettingWord}
+use Rattle.settings.specs.declared.setting_word.SettingWord.TheVariants.{Account, Bind, Bot, Channel, Data, Exclusive, Hub, Listen, Log, Nick}
+use Rattle.settings.specs.declared.setting_word.SettingWord.TheVariants.{Perform, Secret, Server, Zone}
 
-abbrev pub spelling_of : Word → List ℕ
+abbrev pub spelling_of : SettingWord → List ℕ
 spelling_of Account = codes "account"
 spelling_of Bind = codes "bind"
 spelling_of Bot = codes "bot"
@@ -21,10 +21,10 @@ spelling_of Secret = codes "secret"
 spelling_of Server = codes "server"
 spelling_of Zone = codes "zone"
 
-abbrev pub all_words : List Word
+abbrev pub all_words : List SettingWord
 all_words =
     Account ∷ Bind ∷ Bot ∷ Channel ∷ Data ∷ Exclusive ∷ Hub ∷ Listen ∷ Log ∷ Nick ∷ Perform ∷ Secret ∷ Server ∷ Zone ∷ []
 
 -- the word with this spelling: no two are spelled alike
-abbrev pub word_named : List ℕ → Option Word
+abbrev pub word_named : List ℕ → Option SettingWord
 word_named spelling = find (λ word. bytes_eq (spelling_of word) spelling) all_words

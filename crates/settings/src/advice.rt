@@ -1,15 +1,15 @@
 // What to say instead of a faulty line.
-use crate::word::Word;
+use crate::setting_word::SettingWord;
 use std::fmt;
 use std::fmt::Display;
 
 /// What to say instead of a line that breaks a rule.
 #[derive(Clone, Copy, Debug, PartialEq, Eq)]
-pub enum Advice {
+pub enum SettingAdvice {
     /// The line does not have the form of this word.
-    Form(Word),
+    Form(SettingWord),
     /// An earlier line has this word, which may stand once.
-    Once(Word),
+    Once(SettingWord),
     /// The bot's number is above the number of leaves, or these are above 1,000.
     Leaves,
     /// The port is not a number from 1 to 65,535.
@@ -24,9 +24,9 @@ pub enum Advice {
     ByteOrderMark,
 }
 
-impl Display for Advice {
+impl Display for SettingAdvice {
     fn fmt<W: fmt::Write>(&self, f: &mut fmt::Formatter<W>) -> fmt::Result {
-        if let Advice::Once(word) = *self {
+        if let SettingAdvice::Once(word) = *self {
             f.write_str("say ")?;
             f.write_str(word.spelling())?;
         }
@@ -35,38 +35,39 @@ impl Display for Advice {
 }
 
 // What is said, without the word that may stand once.
-fn words_of(advice: Advice) -> &'static str {
+fn words_of(advice: SettingAdvice) -> &'static str {
     match advice {
-        Advice::Once(_) => " once: a line above has it",
-        Advice::Form(word) => form_of(word),
-        Advice::Leaves => "say a number of at most LEAVES, and at most 1000 leaves",
-        Advice::Port => "say a port of 1 to 65535",
-        Advice::Unknown =>
+        SettingAdvice::Once(_) => " once: a line above has it",
+        SettingAdvice::Form(word) => form_of(word),
+        SettingAdvice::Leaves => "say a number of at most LEAVES, and at most 1000 leaves",
+        SettingAdvice::Port => "say a port of 1 to 65535",
+        SettingAdvice::Unknown =>
             "begin with account, bind, bot, channel, data, exclusive, hub, listen, log, nick, perform, secret, server, zone or #",
-        Advice::CarriageReturn => "end lines with a line feed alone",
-        Advice::Control => "write spaces for tabs, and no other control bytes",
-        Advice::ByteOrderMark => "save the file without a byte order mark",
+        SettingAdvice::CarriageReturn => "end lines with a line feed alone",
+        SettingAdvice::Control => "write spaces for tabs, and no other control bytes",
+        SettingAdvice::ByteOrderMark => "save the file without a byte order mark",
     }
 }
 
 // The form of a line of this word.
-fn form_of(word: Word) -> &'static str {
+fn form_of(word: SettingWord) -> &'static str {
     match word {
-        Word::Account => "say account NAME FILE, as in account egg /etc/eggnet/password",
-        Word::Bind => "say bind TYPE FLAGS PROC MASK, as in bind pub - echo !echo",
-        Word::Bot => "say bot NUMBER of LEAVES, as in bot 1 of 40",
-        Word::Channel => "say channel NAME, as in channel #egg",
-        Word::Data => "say data FOLDER, as in data /var/lib/eggnet/egg1",
-        Word::Exclusive => "say exclusive alone",
-        Word::Hub => "say hub HOST PORT, as in hub hub.example.net 7100",
-        Word::Listen => "say listen HOST PORT, as in listen 0.0.0.0 7100",
-        Word::Log => "say log lines",
-        Word::Nick => "say nick NICK, of 1 to 30 bytes without ! @ , * ?, as in nick egg1",
-        Word::Perform => "say perform LINE, of at most 510 bytes, as in perform MODE egg1 +i",
-        Word::Secret => "say secret FILE, as in secret /etc/eggnet/secret",
-        Word::Server =>
+        SettingWord::Account => "say account NAME FILE, as in account egg /etc/eggnet/password",
+        SettingWord::Bind => "say bind TYPE FLAGS PROC MASK, as in bind pub - echo !echo",
+        SettingWord::Bot => "say bot NUMBER of LEAVES, as in bot 1 of 40",
+        SettingWord::Channel => "say channel NAME, as in channel #egg",
+        SettingWord::Data => "say data FOLDER, as in data /var/lib/eggnet/egg1",
+        SettingWord::Exclusive => "say exclusive alone",
+        SettingWord::Hub => "say hub HOST PORT, as in hub hub.example.net 7100",
+        SettingWord::Listen => "say listen HOST PORT, as in listen 0.0.0.0 7100",
+        SettingWord::Log => "say log lines",
+        SettingWord::Nick => "say nick NICK, of 1 to 30 bytes without ! @ , * ?, as in nick egg1",
+        SettingWord::Perform =>
+            "say perform LINE, of at most 510 bytes, as in perform MODE egg1 +i",
+        SettingWord::Secret => "say secret FILE, as in secret /etc/eggnet/secret",
+        SettingWord::Server =>
             "say server HOST PORT, as in server irc.example.net 6667, and its password after that",
-        Word::Zone =>
+        SettingWord::Zone =>
             "say zone RULE, a rule of POSIX and no name of a place, as in zone CET-1CEST,M3.5.0,M10.5.0/3",
     }
 }

@@ -3,11 +3,11 @@ ghost use Rattle.std.specs.Prelude.{◌≡◌, None};
 ghost use Rattle.settings.specs.Drafts.{no_line, once, refusal_of};
 ghost use Rattle.settings.specs.Reading.{lack_of, settings_of};
 
-use crate::advice::Advice;
+use crate::advice::SettingAdvice;
 use crate::reading::{ALONE, utc};
-use crate::saying::Saying;
-use crate::settings::{Account, Address, BindLines, Servers, Settings, Station};
-use crate::word::Word;
+use crate::saying::SettingSaying;
+use crate::setting_word::SettingWord;
+use crate::settings::{Address, BindLines, Login, Servers, Settings, Station};
 use bottimers::Zone;
 use bytetext::{NoMemory, Text, Texts};
 use std::alloc::Global;
@@ -31,7 +31,7 @@ pub struct Draft {
     /// The file of the secret that both ends of the link know.
     pub secret: Option<Text>,
     /// The account that the bot authenticates as.
-    pub account: Option<Account>,
+    pub account: Option<Login>,
     /// How far its clock is ahead of UTC at each moment.
     pub zone: Option<Zone>,
     /// Whether `msg` and `pub` binds ignore a text for which a `msgm` or `pubm` proc was called.
@@ -90,26 +90,26 @@ impl Draft {
     }
 
     /// Returns why `saying` is refused after the lines so far, if it is.
-    pub fn refusal(&self, saying: &Saying) -> Option<Advice>
+    pub fn refusal(&self, saying: &SettingSaying) -> Option<SettingAdvice>
         ensures { result ≡ refusal_of self.now saying.now }
     {
         match saying {
-            Saying::Nothing
-            | Saying::Bind(_)
-            | Saying::Channel(_)
-            | Saying::Perform(_)
-            | Saying::Server(_) => None,
-            Saying::Wrong(advice) => Some(*advice),
-            Saying::Account(_) => once(Word::Account, self.account.is_some()),
-            Saying::Bot(_) => once(Word::Bot, self.station.is_some()),
-            Saying::Data(_) => once(Word::Data, self.folder.is_some()),
-            Saying::Exclusive => once(Word::Exclusive, self.exclusive),
-            Saying::Hub(_) => once(Word::Hub, self.hub.is_some()),
-            Saying::Listen(_) => once(Word::Listen, self.listen.is_some()),
-            Saying::LogLines => once(Word::Log, self.log_lines),
-            Saying::Nick(_) => once(Word::Nick, self.nick.is_some()),
-            Saying::Secret(_) => once(Word::Secret, self.secret.is_some()),
-            Saying::Zone(_) => once(Word::Zone, self.zone.is_some()),
+            SettingSaying::Nothing
+            | SettingSaying::Bind(_)
+            | SettingSaying::Channel(_)
+            | SettingSaying::Perform(_)
+            | SettingSaying::Server(_) => None,
+            SettingSaying::Wrong(advice) => Some(*advice),
+            SettingSaying::Account(_) => once(SettingWord::Account, self.account.is_some()),
+            SettingSaying::Bot(_) => once(SettingWord::Bot, self.station.is_some()),
+            SettingSaying::Data(_) => once(SettingWord::Data, self.folder.is_some()),
+            SettingSaying::Exclusive => once(SettingWord::Exclusive, self.exclusive),
+            SettingSaying::Hub(_) => once(SettingWord::Hub, self.hub.is_some()),
+            SettingSaying::Listen(_) => once(SettingWord::Listen, self.listen.is_some()),
+            SettingSaying::LogLines => once(SettingWord::Log, self.log_lines),
+            SettingSaying::Nick(_) => once(SettingWord::Nick, self.nick.is_some()),
+            SettingSaying::Secret(_) => once(SettingWord::Secret, self.secret.is_some()),
+            SettingSaying::Zone(_) => once(SettingWord::Zone, self.zone.is_some()),
         }
     }
 
@@ -154,11 +154,11 @@ impl Draft {
 }
 
 // What to say of a line that may stand once, if there is one already.
-fn once(word: Word, is_there: bool) -> Option<Advice>
+fn once(word: SettingWord, is_there: bool) -> Option<SettingAdvice>
     ensures { result ≡ once word is_there }
 {
     if is_there {
-        Some(Advice::Once(word))
+        Some(SettingAdvice::Once(word))
     } else {
         None
     }

@@ -1,5 +1,5 @@
 // Why a configuration file is refused.
-use crate::advice::Advice;
+use crate::advice::SettingAdvice;
 use bytetext::Failure;
 use thiserror::Error;
 
@@ -15,7 +15,7 @@ pub enum SettingsFault {
         /// The line's number, from 1.
         line: u64,
         /// What to say instead.
-        advice: Advice,
+        advice: SettingAdvice,
     },
     /// Each line is right, but one is missing, or stands where it means nothing.
     #[error("{0}")]

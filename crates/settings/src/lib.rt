@@ -40,15 +40,15 @@ mod names;
 mod numeral;
 mod reading;
 mod saying;
+mod setting_word;
 mod settings;
-mod word;
 
-pub use crate::advice::Advice;
+pub use crate::advice::SettingAdvice;
 pub use crate::fault::{Lack, SettingsError, SettingsFault};
+pub use crate::setting_word::SettingWord;
 pub use crate::settings::{
-    Account, Address, BindLine, BindLines, BindWords, Server, Servers, Settings, Station,
+    Address, BindLine, BindLines, BindWords, Login, Server, Servers, Settings, Station,
 };
-pub use crate::word::Word;
 
 /// The most bytes that a file has.
 pub const MAX_FILE: usize = 65_536;

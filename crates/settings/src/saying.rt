@@ -5,13 +5,13 @@ ghost use Rattle.settings.specs.Grammar.{account_said, bind_said, bot_numbered, 
 ghost use Rattle.settings.specs.Grammar.{exclusive_said, has_mark, hub_said, is_shown, listen_said, log_said, nick_said};
 ghost use Rattle.settings.specs.Grammar.{pass_of, perform_said, said_of, saying_by_words, saying_of, secret_said, server_said, zone_said};
 
-use crate::advice::Advice;
+use crate::advice::SettingAdvice;
 use crate::cutting::{after_spaces, cut_word};
 use crate::draft::Draft;
 use crate::names::is_nick;
 use crate::numeral::{number, port};
-use crate::settings::{Account, Address, BindLine, BindWords, Server, Station};
-use crate::word::Word;
+use crate::setting_word::SettingWord;
+use crate::settings::{Address, BindLine, BindWords, Login, Server, Station};
 use crate::{MAX_LEAVES, MAX_LINE};
 use bottimers::Zone;
 use bytetext::{NoMemory, Text};
@@ -19,13 +19,13 @@ use rfccase::is_channel_name;
 use std::alloc::Global;
 
 /// What a line says by itself, whatever lines stand before it.
-pub enum Saying {
+pub enum SettingSaying {
     /// Nothing: the line is empty or begins with `#`.
     Nothing,
     /// The line breaks a rule: what to say instead.
-    Wrong(Advice),
+    Wrong(SettingAdvice),
     /// The account that the bot authenticates as.
-    Account(Account),
+    Account(Login),
     /// A bind.
     Bind(BindWords),
     /// Which bot it is.
@@ -55,30 +55,30 @@ pub enum Saying {
 }
 
 // By hand, so that this is proved once, and not in each function in which one ends.
-impl Drop for Saying {
+impl Drop for SettingSaying {
     fn drop(self) {
         match self {
-            Saying::Nothing
-            | Saying::Wrong(_)
-            | Saying::Account(_)
-            | Saying::Bind(_)
-            | Saying::Bot(_)
-            | Saying::Channel(_)
-            | Saying::Data(_)
-            | Saying::Exclusive
-            | Saying::Hub(_)
-            | Saying::Listen(_)
-            | Saying::LogLines
-            | Saying::Nick(_)
-            | Saying::Perform(_)
-            | Saying::Secret(_)
-            | Saying::Server(_)
-            | Saying::Zone(_) => {}
+            SettingSaying::Nothing
+            | SettingSaying::Wrong(_)
+            | SettingSaying::Account(_)
+            | SettingSaying::Bind(_)
+            | SettingSaying::Bot(_)
+            | SettingSaying::Channel(_)
+            | SettingSaying::Data(_)
+            | SettingSaying::Exclusive
+            | SettingSaying::Hub(_)
+            | SettingSaying::Listen(_)
+            | SettingSaying::LogLines
+            | SettingSaying::Nick(_)
+            | SettingSaying::Perform(_)
+            | SettingSaying::Secret(_)
+            | SettingSaying::Server(_)
+            | SettingSaying::Zone(_) => {}
         }
     }
 }
 
-impl Saying {
+impl SettingSaying {
     ghost use Rattle.std.specs.Prelude.{◌≡◌, OnOk};
     ghost use Rattle.settings.specs.Drafts.{added};
 
@@ -87,53 +87,53 @@ impl Saying {
         ensures { OnOk result (draft.new ≡ added line draft.old self) }
     {
         match self {
-            Saying::Nothing | Saying::Wrong(_) => {}
-            Saying::Account(account) => draft.account = Some(account),
-            Saying::Bind(words) => draft.binds.push(BindLine { line, words })?,
-            Saying::Bot(station) => draft.station = Some(station),
-            Saying::Channel(name) => draft.channels.push(name)?,
-            Saying::Data(folder) => draft.folder = Some(folder),
-            Saying::Exclusive => draft.exclusive = true,
-            Saying::Hub(address) => draft.hub = Some(address),
-            Saying::Listen(address) => draft.listen = Some(address),
-            Saying::LogLines => draft.log_lines = true,
-            Saying::Nick(nick) => draft.nick = Some(nick),
-            Saying::Perform(text) => draft.performs.push(text)?,
-            Saying::Secret(file) => draft.secret = Some(file),
-            Saying::Server(server) => draft.servers.push(server)?,
-            Saying::Zone(zone) => draft.zone = Some(zone),
+            SettingSaying::Nothing | SettingSaying::Wrong(_) => {}
+            SettingSaying::Account(account) => draft.account = Some(account),
+            SettingSaying::Bind(words) => draft.binds.push(BindLine { line, words })?,
+            SettingSaying::Bot(station) => draft.station = Some(station),
+            SettingSaying::Channel(name) => draft.channels.push(name)?,
+            SettingSaying::Data(folder) => draft.folder = Some(folder),
+            SettingSaying::Exclusive => draft.exclusive = true,
+            SettingSaying::Hub(address) => draft.hub = Some(address),
+            SettingSaying::Listen(address) => draft.listen = Some(address),
+            SettingSaying::LogLines => draft.log_lines = true,
+            SettingSaying::Nick(nick) => draft.nick = Some(nick),
+            SettingSaying::Perform(text) => draft.performs.push(text)?,
+            SettingSaying::Secret(file) => draft.secret = Some(file),
+            SettingSaying::Server(server) => draft.servers.push(server)?,
+            SettingSaying::Zone(zone) => draft.zone = Some(zone),
         }
         Ok(())
     }
 }
 
 /// Returns what `line` says.
-pub fn saying_of(alloc: Global, line: &[u8]) -> Result<Saying, NoMemory>
+pub fn saying_of(alloc: Global, line: &[u8]) -> Result<SettingSaying, NoMemory>
     ensures { IfOk result (λ saying. saying ≡ saying_of line.now) }
 {
     let line = after_spaces(line);
     if line.is_empty() || line[0] == b'#' {
-        return Ok(Saying::Nothing);
+        return Ok(SettingSaying::Nothing);
     }
     saying_by_words(alloc, line)
 }
 
 // What a line says that begins with a byte other than a space or `#`.
 #[tactic(auto, unfolding(crate::specs::Grammar::saying_by_words))]
-fn saying_by_words(alloc: Global, line: &[u8]) -> Result<Saying, NoMemory>
+fn saying_by_words(alloc: Global, line: &[u8]) -> Result<SettingSaying, NoMemory>
     ensures { IfOk result (λ saying. saying ≡ saying_by_words line.now) }
 {
     if ends_in_return(line) {
-        return Ok(Saying::Wrong(Advice::CarriageReturn));
+        return Ok(SettingSaying::Wrong(SettingAdvice::CarriageReturn));
     }
     if !are_shown(line) {
-        return Ok(Saying::Wrong(Advice::Control));
+        return Ok(SettingSaying::Wrong(SettingAdvice::Control));
     }
     if has_mark(line) {
-        return Ok(Saying::Wrong(Advice::ByteOrderMark));
+        return Ok(SettingSaying::Wrong(SettingAdvice::ByteOrderMark));
     }
     let cut = cut_word(line);
-    said_of(alloc, Word::named(cut.word), cut.rest)
+    said_of(alloc, SettingWord::named(cut.word), cut.rest)
 }
 
 fn ends_in_return(line: &[u8]) -> bool
@@ -161,111 +161,111 @@ fn has_mark(line: &[u8]) -> bool
 }
 
 // What the rest of a line says after each word.
-fn said_of(alloc: Global, word: Option<Word>, rest: &[u8]) -> Result<Saying, NoMemory>
+fn said_of(alloc: Global, word: Option<SettingWord>, rest: &[u8]) -> Result<SettingSaying, NoMemory>
     ensures { IfOk result (λ saying. saying ≡ said_of word rest.now) }
 {
     let Some(word) = word else {
-        return Ok(Saying::Wrong(Advice::Unknown));
+        return Ok(SettingSaying::Wrong(SettingAdvice::Unknown));
     };
     match word {
-        Word::Account => account_said(alloc, rest),
-        Word::Bind => bind_said(alloc, rest),
-        Word::Bot => Ok(bot_said(rest)),
-        Word::Channel => channel_said(alloc, rest),
-        Word::Data => data_said(alloc, rest),
-        Word::Exclusive => Ok(exclusive_said(rest)),
-        Word::Hub => hub_said(alloc, rest),
-        Word::Listen => listen_said(alloc, rest),
-        Word::Log => Ok(log_said(rest)),
-        Word::Nick => nick_said(alloc, rest),
-        Word::Perform => perform_said(alloc, rest),
-        Word::Secret => secret_said(alloc, rest),
-        Word::Server => server_said(alloc, rest),
-        Word::Zone => Ok(zone_said(rest)),
+        SettingWord::Account => account_said(alloc, rest),
+        SettingWord::Bind => bind_said(alloc, rest),
+        SettingWord::Bot => Ok(bot_said(rest)),
+        SettingWord::Channel => channel_said(alloc, rest),
+        SettingWord::Data => data_said(alloc, rest),
+        SettingWord::Exclusive => Ok(exclusive_said(rest)),
+        SettingWord::Hub => hub_said(alloc, rest),
+        SettingWord::Listen => listen_said(alloc, rest),
+        SettingWord::Log => Ok(log_said(rest)),
+        SettingWord::Nick => nick_said(alloc, rest),
+        SettingWord::Perform => perform_said(alloc, rest),
+        SettingWord::Secret => secret_said(alloc, rest),
+        SettingWord::Server => server_said(alloc, rest),
+        SettingWord::Zone => Ok(zone_said(rest)),
     }
 }
 
-fn data_said(alloc: Global, rest: &[u8]) -> Result<Saying, NoMemory>
+fn data_said(alloc: Global, rest: &[u8]) -> Result<SettingSaying, NoMemory>
     ensures { IfOk result (λ saying. saying ≡ data_said rest.now) }
 {
     if rest.is_empty() {
-        return Ok(Saying::Wrong(Advice::Form(Word::Data)));
+        return Ok(SettingSaying::Wrong(SettingAdvice::Form(SettingWord::Data)));
     }
-    Ok(Saying::Data(Text::from_slice(alloc, rest)?))
+    Ok(SettingSaying::Data(Text::from_slice(alloc, rest)?))
 }
 
-fn secret_said(alloc: Global, rest: &[u8]) -> Result<Saying, NoMemory>
+fn secret_said(alloc: Global, rest: &[u8]) -> Result<SettingSaying, NoMemory>
     ensures { IfOk result (λ saying. saying ≡ secret_said rest.now) }
 {
     if rest.is_empty() {
-        return Ok(Saying::Wrong(Advice::Form(Word::Secret)));
+        return Ok(SettingSaying::Wrong(SettingAdvice::Form(SettingWord::Secret)));
     }
-    Ok(Saying::Secret(Text::from_slice(alloc, rest)?))
+    Ok(SettingSaying::Secret(Text::from_slice(alloc, rest)?))
 }
 
-fn perform_said(alloc: Global, rest: &[u8]) -> Result<Saying, NoMemory>
+fn perform_said(alloc: Global, rest: &[u8]) -> Result<SettingSaying, NoMemory>
     ensures { IfOk result (λ saying. saying ≡ perform_said rest.now) }
 {
     if rest.is_empty() || rest.len() > MAX_LINE {
-        return Ok(Saying::Wrong(Advice::Form(Word::Perform)));
+        return Ok(SettingSaying::Wrong(SettingAdvice::Form(SettingWord::Perform)));
     }
-    Ok(Saying::Perform(Text::from_slice(alloc, rest)?))
+    Ok(SettingSaying::Perform(Text::from_slice(alloc, rest)?))
 }
 
-fn nick_said(alloc: Global, rest: &[u8]) -> Result<Saying, NoMemory>
+fn nick_said(alloc: Global, rest: &[u8]) -> Result<SettingSaying, NoMemory>
     ensures { IfOk result (λ saying. saying ≡ nick_said rest.now) }
 {
     let cut = cut_word(rest);
     if !is_nick(cut.word) || !cut.rest.is_empty() {
-        return Ok(Saying::Wrong(Advice::Form(Word::Nick)));
+        return Ok(SettingSaying::Wrong(SettingAdvice::Form(SettingWord::Nick)));
     }
-    Ok(Saying::Nick(Text::from_slice(alloc, cut.word)?))
+    Ok(SettingSaying::Nick(Text::from_slice(alloc, cut.word)?))
 }
 
-fn channel_said(alloc: Global, rest: &[u8]) -> Result<Saying, NoMemory>
+fn channel_said(alloc: Global, rest: &[u8]) -> Result<SettingSaying, NoMemory>
     ensures { IfOk result (λ saying. saying ≡ channel_said rest.now) }
 {
     let cut = cut_word(rest);
     if !is_channel_name(cut.word) || !cut.rest.is_empty() {
-        return Ok(Saying::Wrong(Advice::Form(Word::Channel)));
+        return Ok(SettingSaying::Wrong(SettingAdvice::Form(SettingWord::Channel)));
     }
-    Ok(Saying::Channel(Text::from_slice(alloc, cut.word)?))
+    Ok(SettingSaying::Channel(Text::from_slice(alloc, cut.word)?))
 }
 
-fn exclusive_said(rest: &[u8]) -> Saying
+fn exclusive_said(rest: &[u8]) -> SettingSaying
     ensures { result ≡ exclusive_said rest.now }
 {
     if rest.is_empty() {
-        Saying::Exclusive
+        SettingSaying::Exclusive
     } else {
-        Saying::Wrong(Advice::Form(Word::Exclusive))
+        SettingSaying::Wrong(SettingAdvice::Form(SettingWord::Exclusive))
     }
 }
 
-fn log_said(rest: &[u8]) -> Saying
+fn log_said(rest: &[u8]) -> SettingSaying
     ensures { result ≡ log_said rest.now }
 {
     let cut = cut_word(rest);
     if cut.word == b"lines".as_slice() && cut.rest.is_empty() {
-        Saying::LogLines
+        SettingSaying::LogLines
     } else {
-        Saying::Wrong(Advice::Form(Word::Log))
+        SettingSaying::Wrong(SettingAdvice::Form(SettingWord::Log))
     }
 }
 
-fn account_said(alloc: Global, rest: &[u8]) -> Result<Saying, NoMemory>
+fn account_said(alloc: Global, rest: &[u8]) -> Result<SettingSaying, NoMemory>
     ensures { IfOk result (λ saying. saying ≡ account_said rest.now) }
 {
     let cut = cut_word(rest);
     if cut.rest.is_empty() {
-        return Ok(Saying::Wrong(Advice::Form(Word::Account)));
+        return Ok(SettingSaying::Wrong(SettingAdvice::Form(SettingWord::Account)));
     }
     let name = Text::from_slice(alloc, cut.word)?;
     let file = Text::from_slice(alloc, cut.rest)?;
-    Ok(Saying::Account(Account { name, file }))
+    Ok(SettingSaying::Account(Login { name, file }))
 }
 
-fn bot_said(rest: &[u8]) -> Saying
+fn bot_said(rest: &[u8]) -> SettingSaying
     ensures { result ≡ bot_said rest.now }
 {
     let cut = cut_word(rest);
@@ -273,87 +273,87 @@ fn bot_said(rest: &[u8]) -> Saying
 }
 
 // `of LEAVES`, after a number.
-fn bot_of(numeral: &[u8], rest: &[u8]) -> Saying
+fn bot_of(numeral: &[u8], rest: &[u8]) -> SettingSaying
     ensures { result ≡ bot_of numeral.now rest.now }
 {
     let of = cut_word(rest);
     let leaves = cut_word(of.rest);
     if of.word != b"of".as_slice() || !leaves.rest.is_empty() {
-        return Saying::Wrong(Advice::Form(Word::Bot));
+        return SettingSaying::Wrong(SettingAdvice::Form(SettingWord::Bot));
     }
     bot_numbered(number(numeral), number(leaves.word))
 }
 
-fn bot_numbered(number: Option<u16>, leaves: Option<u16>) -> Saying
+fn bot_numbered(number: Option<u16>, leaves: Option<u16>) -> SettingSaying
     ensures { result ≡ bot_numbered number leaves }
 {
     let (Some(number), Some(leaves)) = (number, leaves) else {
-        return Saying::Wrong(Advice::Form(Word::Bot));
+        return SettingSaying::Wrong(SettingAdvice::Form(SettingWord::Bot));
     };
     if number <= leaves && leaves <= MAX_LEAVES {
-        Saying::Bot(Station { number, leaves })
+        SettingSaying::Bot(Station { number, leaves })
     } else {
-        Saying::Wrong(Advice::Leaves)
+        SettingSaying::Wrong(SettingAdvice::Leaves)
     }
 }
 
-fn hub_said(alloc: Global, rest: &[u8]) -> Result<Saying, NoMemory>
+fn hub_said(alloc: Global, rest: &[u8]) -> Result<SettingSaying, NoMemory>
     ensures { IfOk result (λ saying. saying ≡ hub_said rest.now) }
 {
     let host = cut_word(rest);
     let numeral = cut_word(host.rest);
     if host.rest.is_empty() || !numeral.rest.is_empty() {
-        return Ok(Saying::Wrong(Advice::Form(Word::Hub)));
+        return Ok(SettingSaying::Wrong(SettingAdvice::Form(SettingWord::Hub)));
     }
     let Some(port) = port(numeral.word) else {
-        return Ok(Saying::Wrong(Advice::Port));
+        return Ok(SettingSaying::Wrong(SettingAdvice::Port));
     };
     let host = Text::from_slice(alloc, host.word)?;
-    Ok(Saying::Hub(Address { host, port }))
+    Ok(SettingSaying::Hub(Address { host, port }))
 }
 
-fn listen_said(alloc: Global, rest: &[u8]) -> Result<Saying, NoMemory>
+fn listen_said(alloc: Global, rest: &[u8]) -> Result<SettingSaying, NoMemory>
     ensures { IfOk result (λ saying. saying ≡ listen_said rest.now) }
 {
     let host = cut_word(rest);
     let numeral = cut_word(host.rest);
     if host.rest.is_empty() || !numeral.rest.is_empty() {
-        return Ok(Saying::Wrong(Advice::Form(Word::Listen)));
+        return Ok(SettingSaying::Wrong(SettingAdvice::Form(SettingWord::Listen)));
     }
     let Some(port) = port(numeral.word) else {
-        return Ok(Saying::Wrong(Advice::Port));
+        return Ok(SettingSaying::Wrong(SettingAdvice::Port));
     };
     let host = Text::from_slice(alloc, host.word)?;
-    Ok(Saying::Listen(Address { host, port }))
+    Ok(SettingSaying::Listen(Address { host, port }))
 }
 
-fn server_said(alloc: Global, rest: &[u8]) -> Result<Saying, NoMemory>
+fn server_said(alloc: Global, rest: &[u8]) -> Result<SettingSaying, NoMemory>
     ensures { IfOk result (λ saying. saying ≡ server_said rest.now) }
 {
     let host = cut_word(rest);
     let numeral = cut_word(host.rest);
     if host.rest.is_empty() {
-        return Ok(Saying::Wrong(Advice::Form(Word::Server)));
+        return Ok(SettingSaying::Wrong(SettingAdvice::Form(SettingWord::Server)));
     }
     let Some(port) = port(numeral.word) else {
-        return Ok(Saying::Wrong(Advice::Port));
+        return Ok(SettingSaying::Wrong(SettingAdvice::Port));
     };
     let host = Text::from_slice(alloc, host.word)?;
     let pass = pass_of(alloc, numeral.rest)?;
     let address = Address { host, port };
-    Ok(Saying::Server(Server { address, pass }))
+    Ok(SettingSaying::Server(Server { address, pass }))
 }
 
-fn zone_said(rest: &[u8]) -> Saying
+fn zone_said(rest: &[u8]) -> SettingSaying
     ensures { result ≡ zone_said rest.now }
 {
     let cut = cut_word(rest);
     if !cut.rest.is_empty() {
-        return Saying::Wrong(Advice::Form(Word::Zone));
+        return SettingSaying::Wrong(SettingAdvice::Form(SettingWord::Zone));
     }
     match Zone::posix(cut.word) {
-        Ok(zone) => Saying::Zone(zone),
-        Err(_) => Saying::Wrong(Advice::Form(Word::Zone)),
+        Ok(zone) => SettingSaying::Zone(zone),
+        Err(_) => SettingSaying::Wrong(SettingAdvice::Form(SettingWord::Zone)),
     }
 }
 
@@ -367,20 +367,20 @@ fn pass_of(alloc: Global, rest: &[u8]) -> Result<Option<Text>, NoMemory>
     Ok(Some(Text::from_slice(alloc, rest)?))
 }
 
-fn bind_said(alloc: Global, rest: &[u8]) -> Result<Saying, NoMemory>
+fn bind_said(alloc: Global, rest: &[u8]) -> Result<SettingSaying, NoMemory>
     ensures { IfOk result (λ saying. saying ≡ bind_said rest.now) }
 {
     let kind = cut_word(rest);
     let flags = cut_word(kind.rest);
     let proc = cut_word(flags.rest);
     if proc.rest.is_empty() {
-        return Ok(Saying::Wrong(Advice::Form(Word::Bind)));
+        return Ok(SettingSaying::Wrong(SettingAdvice::Form(SettingWord::Bind)));
     }
     let kind = Text::from_slice(alloc, kind.word)?;
     let flags = Text::from_slice(alloc, flags.word)?;
     let mask = Text::from_slice(alloc, proc.rest)?;
     let proc = Text::from_slice(alloc, proc.word)?;
-    Ok(Saying::Bind(BindWords {
+    Ok(SettingSaying::Bind(BindWords {
         kind,
         flags,
         proc,

@@ -22,7 +22,7 @@ pub struct Settings {
     /// The file of the secret that both ends of the link know. A bot of a net of several has it.
     pub secret: Option<Text>,
     /// The account that it authenticates as.
-    pub account: Option<Account>,
+    pub account: Option<Login>,
     /// How far its clock is ahead of UTC at each moment.
     pub zone: Zone,
     /// Whether `msg` and `pub` binds ignore a text for which a `msgm` or `pubm` proc was called.
@@ -106,7 +106,7 @@ pub type Servers = Seq<Server>;
 
 /// The account that a bot authenticates as.
 #[derive(Debug)]
-pub struct Account {
+pub struct Login {
     /// The account's name.
     pub name: Text,
     /// The file of its password.
@@ -114,9 +114,9 @@ pub struct Account {
 }
 
 // By hand, so that this is proved once, and not in each function in which one ends.
-impl Drop for Account {
+impl Drop for Login {
     fn drop(self) {
-        let Account { name: _, file: _ } = self;
+        let Login { name: _, file: _ } = self;
     }
 }
 

@@ -12,7 +12,7 @@ use Rattle.botjournal.specs.declared.base.Base.{Base}
 use Rattle.botjournal.specs.declared.entry.Entry.{Entry}
 use Rattle.botjournal.specs.declared.reply.Reply.{Reply}
 use Rattle.protocol.specs.Snapshots.{records_from}
-use Rattle.botjournal.specs.declared.reply.Answer.TheVariants.{Taken, Refused as refused_request}
+use Rattle.botjournal.specs.declared.reply.Verdict.TheVariants.{Taken, Refused as refused_request}
 use Rattle.protocol.specs.Packets.{AcceptedChange}
 use Rattle.protocol.specs.HubRules.{HubState, Accept, Settle, version_of, with_reply, hub_folded}
 use Rattle.protocol.specs.Journals.{read_next, reads, stand_together, record_if, replies_of, hub_of, is_to_leaf, is_hub_base, hub_record, hub_meaning, leaf_of, is_leaf_base, leaf_record, leaf_meaning}

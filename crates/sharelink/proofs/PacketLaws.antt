@@ -5,7 +5,7 @@ use Rattle.userfile.specs.Apply.{refusal}
 use Rattle.userfile.specs.declared.change.Change.{Change}
 use Rattle.userfile.specs.declared.error.ChangeFault.{ChangeFault}
 use Rattle.botjournal.specs.declared.reply.Reply.{Reply}
-use Rattle.botjournal.specs.declared.reply.Answer.TheVariants.{Taken}
+use Rattle.botjournal.specs.declared.reply.Verdict.TheVariants.{Taken}
 use Rattle.protocol.specs.Notes.Note.{Served, Gap, Stray}
 use Rattle.protocol.specs.Packets.{Outgoing as Sent, AcceptedChange, own, answer_packet}
 use Rattle.protocol.specs.Packets.Packet.{Request}

@@ -1,7 +1,7 @@
 -- What a call returns, in the words of the protocol.
 use Rattle.std.specs.Prelude.{◌≡◌, List, [], ◌∷◌, Result, Err}
-use Rattle.sharelink.specs.declared.note.Note.{Note}
-use Rattle.sharelink.specs.declared.note.Note.TheVariants as told
+use Rattle.sharelink.specs.declared.note.LinkNote.{LinkNote}
+use Rattle.sharelink.specs.declared.note.LinkNote.TheVariants as told
 use Rattle.sharelink.specs.declared.answer.Outgoing.{Outgoing}
 use Rattle.sharelink.specs.declared.error.LinkFault.{LinkFault}
 use Rattle.sharelink.specs.declared.error.LinkFault.TheVariants as fault
@@ -11,7 +11,7 @@ use Rattle.protocol.specs.Notes.Note.{Queued, Idle, Sent as RequestSent, Accepte
 use Rattle.protocol.specs.Notes.LinkFault.{Down, BadChange, AsksFull, Diverged, NumbersSpent, JournalFault, BadBotText, DiskFault, OtherLayout}
 
 -- what a note means in the protocol
-abbrev pub note_of : Note → Meaning
+abbrev pub note_of : LinkNote → Meaning
 note_of told.Queued = Queued
 note_of told.Idle = Idle
 note_of (told.Sent request) = RequestSent request

@@ -2,7 +2,7 @@
 use Rattle.std.specs.Prelude.{◌+◌, ℕ, zero, suc, Bool, true, false, List, [], ◌∷◌, ◌++◌, take, Result, Ok, Err}
 use Rattle.bytetext.specs.declared.failure.Failure.{Failure}
 use Rattle.userfile.specs.declared.change.Change.{Change}
-use Rattle.botjournal.specs.declared.reply.Answer.TheVariants.{Taken}
+use Rattle.botjournal.specs.declared.reply.Verdict.TheVariants.{Taken}
 use Rattle.protocol.specs.Packets.{Outgoing, AcceptedChange, answer_packet, change_packet, to_each}
 use Rattle.protocol.specs.HubRules.{Hub, HubState, HubRecord, Rebase, version_of, accepts, hub_folded, changes_from, all_parts}
 use Rattle.protocol.specs.Journals.{hub_meaning}

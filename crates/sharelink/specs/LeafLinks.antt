@@ -8,8 +8,8 @@ use Rattle.sharewire.specs.declared.packet.Packet.{Packet}
 use Rattle.sharewire.specs.declared.packet.Packet.TheVariants as wire
 use Rattle.botjournal.specs.declared.TheConstants.{LAYOUT}
 use Rattle.botjournal.specs.declared.request.Request.{Request}
-use Rattle.botjournal.specs.declared.reply.Answer.{Answer as Outcome}
-use Rattle.botjournal.specs.declared.reply.Answer.TheVariants.{Taken, Refused as refused_request}
+use Rattle.botjournal.specs.declared.reply.Verdict.{Verdict as Outcome}
+use Rattle.botjournal.specs.declared.reply.Verdict.TheVariants.{Taken, Refused as refused_request}
 use Rattle.protocol.specs.Numbers.{place_of}
 use Rattle.protocol.specs.Packets.{from_wire}
 use Rattle.protocol.specs.Packets.Packet.{BotText, Part}

@@ -1,7 +1,7 @@
 // What a call of a link returns.
 ghost use Rattle.std.specs.Prelude.{◌≡◌, []};
 
-use crate::note::Note;
+use crate::note::LinkNote;
 use bytetext::{NoMemory, Seq, TryCopy};
 use sharewire::Packet;
 use std::alloc::Global;
@@ -31,14 +31,14 @@ pub type Outgoings = Seq<Outgoing>;
 #[derive(Drop)]
 pub struct Answer {
     /// The outcome of the call.
-    pub note: Note,
+    pub note: LinkNote,
     /// The packets to send, in order.
     pub packets: Outgoings,
 }
 
 impl Answer {
     /// Returns `note` with nothing to send. Allocates nothing.
-    pub fn only(alloc: Global, note: Note) -> Answer
+    pub fn only(alloc: Global, note: LinkNote) -> Answer
         ensures { result ≡ record { note = note; packets = [] } }
     {
         Answer {

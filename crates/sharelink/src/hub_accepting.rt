@@ -13,7 +13,7 @@ use crate::hub_packets::accepted_packets;
 use crate::hub_record::HubRecord;
 use crate::hub_state::HubState;
 use crate::kept::Kept;
-use crate::note::Note;
+use crate::note::LinkNote;
 use bytetext::{Failure, Seq, TryCopy};
 use disks::Disk;
 use std::alloc::Global;
@@ -46,7 +46,7 @@ pub(crate) fn accept<D: Disk>(
     let packets = accepted_packets(alloc, kept.who(), number, &entry)?;
     match kept.journal(alloc, HubRecord::accept(entry)) {
         Ok(()) => Ok(Answer {
-            note: Note::Accepted(number),
+            note: LinkNote::Accepted(number),
             packets: Seq::new(packets),
         }),
         Err(error) => Err(error),

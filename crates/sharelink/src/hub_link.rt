@@ -6,7 +6,7 @@ use crate::hub_accepting::accept;
 use crate::hub_record::HubRecord;
 use crate::hub_state::HubState;
 use crate::kept::Kept;
-use crate::note::Note;
+use crate::note::LinkNote;
 use crate::texts::{text_by, text_fault};
 use bytejournal::{Disks, Returned};
 use bytetext::{Failure, TryCopy, refuse};
@@ -187,7 +187,7 @@ impl<D: Disk> HubLink<D> {
             return Err(Failure::Refused(LinkFault::AsksFull));
         }
         self.waiting.push_back_reserved(change);
-        Ok(Answer::only(alloc, Note::Queued))
+        Ok(Answer::only(alloc, LinkNote::Queued))
     }
 
     /// Takes the oldest ask. Returns `Accepted` with its number, and the change for each leaf; or `Refused` if the
@@ -213,11 +213,11 @@ impl<D: Disk> HubLink<D> {
         ensures packets { GoOut (MAX_LEAVES + 1) result }
     {
         let Some(change) = self.waiting.front() else {
-            return Ok(Answer::only(alloc, Note::Idle));
+            return Ok(Answer::only(alloc, LinkNote::Idle));
         };
         if let Some(fault) = self.kept.state().userfile().refusal_of(change) {
             let _ = self.waiting.pop_front();
-            return Ok(Answer::only(alloc, Note::Refused(fault)));
+            return Ok(Answer::only(alloc, LinkNote::Refused(fault)));
         }
         match accept(alloc, &mut self.kept, 0, 0, change) {
             Ok(answer) => {
@@ -267,7 +267,7 @@ impl<D: Disk> HubLink<D> {
             return Err(Failure::Refused(LinkFault::NumbersSpent));
         }
         match self.kept.journal(alloc, HubRecord::rebase()) {
-            Ok(()) => Ok(Answer::only(alloc, Note::Compacted)),
+            Ok(()) => Ok(Answer::only(alloc, LinkNote::Compacted)),
             Err(error) => Err(error),
         }
     }
@@ -284,7 +284,7 @@ impl<D: Disk> HubLink<D> {
         match self.kept.restart(alloc) {
             Ok(()) => {
                 self.waiting.clear();
-                Ok(Answer::only(alloc, Note::Restarted(self.kept.state().version())))
+                Ok(Answer::only(alloc, LinkNote::Restarted(self.kept.state().version())))
             }
             Err(error) => Err(error),
         }

@@ -13,24 +13,24 @@ use crate::HELLO_CHANGES;
 use crate::accepted::AcceptedChange;
 use crate::answer::Outgoing;
 use crate::hub_state::HubState;
-use botjournal::Answer;
+use botjournal::Verdict;
 use bytetext::{NoMemory, Seq, TryCopy, copies_of};
 use sharewire::Packet;
 use std::alloc::Global;
 use usercodec::Record;
 
 /// Returns the reply that tells `leaf` the outcome of its request. Allocates nothing.
-pub(crate) fn reply_packet(leaf: u16, request: u32, answer: Answer) -> Outgoing
+pub(crate) fn reply_packet(leaf: u16, request: u32, answer: Verdict) -> Outgoing
     ensures packet { outgoing_of result ≡ record { to = leaf; packet = answer_packet leaf request answer } }
     ensures good { HasGoodRecords result.packet }
 {
     let packet = match answer {
-        Answer::Taken(number) => Packet::Accepted {
+        Verdict::Taken(number) => Packet::Accepted {
             leaf,
             request,
             number,
         },
-        Answer::Refused(fault) => Packet::Refused {
+        Verdict::Refused(fault) => Packet::Refused {
             leaf,
             request,
             fault,
@@ -66,7 +66,7 @@ fn told_before(
     if origin == 0 {
         return Ok(Vec::new(alloc));
     }
-    Ok(vec![in alloc; reply_packet(origin, request, Answer::Taken(number))]?)
+    Ok(vec![in alloc; reply_packet(origin, request, Verdict::Taken(number))]?)
 }
 
 // Appends the accepted change of this number, for each leaf in order, to the packets that go first.

@@ -5,9 +5,9 @@ use crate::hub_accepting::accept;
 use crate::hub_link::HubLink;
 use crate::hub_packets::{hello_packets, reply_packet};
 use crate::hub_record::HubRecord;
-use crate::note::Note;
+use crate::note::LinkNote;
 use crate::texts::text_by;
-use botjournal::{Answer as Outcome, LAYOUT, Reply};
+use botjournal::{LAYOUT, Reply, Verdict as Outcome};
 use bytetext::{Failure, Seq, Text, TryCopy};
 use disks::Disk;
 use sharewire::Packet;
@@ -72,7 +72,7 @@ impl<D: Disk> HubLink<D> {
             Packet::Change { .. }
             | Packet::Accepted { .. }
             | Packet::Refused { .. }
-            | Packet::Part { .. } => Ok(Answer::only(alloc, Note::Stray)),
+            | Packet::Part { .. } => Ok(Answer::only(alloc, LinkNote::Stray)),
         }
     }
 
@@ -99,11 +99,11 @@ impl<D: Disk> HubLink<D> {
         ensures packets { GoOut (MAX_LEAVES + 1) result }
     {
         if self.is_stray_hello(leaf, version) {
-            return Ok(Answer::only(alloc, Note::Stray));
+            return Ok(Answer::only(alloc, LinkNote::Stray));
         }
         let packets = Seq::new(hello_packets(alloc, leaf, version, self.kept.state())?);
         Ok(Answer {
-            note: Note::Served(packets.len()),
+            note: LinkNote::Served(packets.len()),
             packets,
         })
     }
@@ -127,15 +127,15 @@ impl<D: Disk> HubLink<D> {
         ensures packets { GoOut (MAX_LEAVES + 1) result }
     {
         if self.is_stray_text(from, to) {
-            return Ok(Answer::only(alloc, Note::Stray));
+            return Ok(Answer::only(alloc, LinkNote::Stray));
         }
         if to == 0 {
             let text = text.copy(alloc)?;
-            return Ok(Answer::only(alloc, Note::Text { from, text }));
+            return Ok(Answer::only(alloc, LinkNote::Text { from, text }));
         }
         let outgoing = text_by(alloc, to, from, to, text.as_bytes())?;
         Ok(Answer {
-            note: Note::Relayed,
+            note: LinkNote::Relayed,
             packets: Seq::new(vec![in alloc; outgoing]?),
         })
     }
@@ -161,17 +161,17 @@ impl<D: Disk> HubLink<D> {
         ensures packets { GoOut (MAX_LEAVES + 1) result }
     {
         if request == 0 {
-            return Ok(Answer::only(alloc, Note::Stray));
+            return Ok(Answer::only(alloc, LinkNote::Stray));
         }
         let Some(kept) = self.kept.state().replies_to(leaf) else {
-            return Ok(Answer::only(alloc, Note::Stray));
+            return Ok(Answer::only(alloc, LinkNote::Stray));
         };
         let last = kept.last_request();
         if request <= last {
             return self.answer_again(alloc, leaf, request, kept.reply_to(request));
         }
         if request - last > 1 {
-            return Ok(Answer::only(alloc, Note::Gap));
+            return Ok(Answer::only(alloc, LinkNote::Gap));
         }
         self.receive_next(alloc, leaf, request, change)
     }
@@ -188,11 +188,11 @@ impl<D: Disk> HubLink<D> {
         ensures packets { GoOut (MAX_LEAVES + 1) result }
     {
         let Some(reply) = reply else {
-            return Ok(Answer::only(alloc, Note::Old));
+            return Ok(Answer::only(alloc, LinkNote::Old));
         };
         let reply = reply_packet(leaf, request, reply.answer);
         Ok(Answer {
-            note: Note::Repeat,
+            note: LinkNote::Repeat,
             packets: Seq::new(vec![in alloc; reply]?),
         })
     }
@@ -234,7 +234,7 @@ impl<D: Disk> HubLink<D> {
         let packets = Seq::new(vec![in alloc; reply]?);
         match self.kept.journal(alloc, HubRecord::settle(leaf, fault)) {
             Ok(()) => Ok(Answer {
-                note: Note::Refused(fault),
+                note: LinkNote::Refused(fault),
                 packets,
             }),
             Err(error) => Err(error),

@@ -13,7 +13,7 @@ use crate::replies::{
     is_next, is_next_of, know_replies, put_reply, replies_at, replies_in, replies_of,
 };
 use crate::state_fault::{StateError, StateFault};
-use botjournal::{Answer, Base, Entry, Ledger, LedgerError, Reply};
+use botjournal::{Base, Entry, Ledger, LedgerError, Reply, Verdict};
 use bytetext::{Failure, NoMemory, Seq, TryCopy};
 use disks::Disk;
 use std::alloc::Global;
@@ -250,7 +250,7 @@ impl HubState {
         let number = self.version() + 1;
         let entry = AcceptedChange::new(origin, request, change.copy(alloc)?);
         apply_next(alloc, &mut self.userfile, &mut self.tail, entry)?;
-        put_reply(&mut self.replies, origin, request, Answer::Taken(number));
+        put_reply(&mut self.replies, origin, request, Verdict::Taken(number));
         Ok(())
     }
 
@@ -270,7 +270,7 @@ impl HubState {
         if !is_next_of(self.replies_to(leaf), request) {
             return Err(Failure::Refused(StateFault::NotAJournal));
         }
-        put_reply(&mut self.replies, leaf, request, Answer::Refused(fault));
+        put_reply(&mut self.replies, leaf, request, Verdict::Refused(fault));
         Ok(())
     }
 
@@ -305,7 +305,7 @@ impl HubState {
             entry,
         ) {
             Ok(()) => {
-                put_reply(&mut self.replies, origin, request, Answer::Taken(number));
+                put_reply(&mut self.replies, origin, request, Verdict::Taken(number));
                 Ok(())
             }
             Err(error) => Err(error),
@@ -336,7 +336,7 @@ impl HubState {
         };
         match entry_journaled(alloc, ledger, &entry) {
             Ok(()) => {
-                put_reply(&mut self.replies, leaf, request, Answer::Refused(fault));
+                put_reply(&mut self.replies, leaf, request, Verdict::Refused(fault));
                 Ok(())
             }
             Err(error) => Err(error),

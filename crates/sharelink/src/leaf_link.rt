@@ -7,7 +7,7 @@ use crate::kept::Kept;
 use crate::leaf_packets::{again_note, hello_and_requests, request_packet};
 use crate::leaf_record::LeafRecord;
 use crate::leaf_state::LeafState;
-use crate::note::Note;
+use crate::note::LinkNote;
 use crate::parts::KeptParts;
 use crate::texts::{text_by, text_fault};
 use bytejournal::{Disks, Returned};
@@ -215,7 +215,7 @@ impl<D: Disk> LeafLink<D> {
         }
         know_change(&change);
         self.waiting.push_back_reserved(change);
-        Ok(Answer::only(alloc, Note::Queued))
+        Ok(Answer::only(alloc, LinkNote::Queued))
     }
 
     /// Sends the hub a hello, with the layout of the journal and the leaf's version, and then the leaf's requests. All
@@ -264,7 +264,7 @@ impl<D: Disk> LeafLink<D> {
             Ok(()) => {
                 let _ = self.waiting.pop_front();
                 Ok(Answer {
-                    note: Note::Sent(request),
+                    note: LinkNote::Sent(request),
                     packets: Seq::new(packets),
                 })
             }
@@ -325,7 +325,7 @@ impl<D: Disk> LeafLink<D> {
             return Err(Failure::Refused(LinkFault::NumbersSpent));
         }
         match self.kept.journal(alloc, LeafRecord::compact()) {
-            Ok(()) => Ok(Answer::only(alloc, Note::Compacted)),
+            Ok(()) => Ok(Answer::only(alloc, LinkNote::Compacted)),
             Err(error) => Err(error),
         }
     }
@@ -344,7 +344,7 @@ impl<D: Disk> LeafLink<D> {
             Ok(()) => {
                 self.waiting.clear();
                 self.parts = None;
-                Ok(Answer::only(alloc, Note::Restarted(self.kept.state().version())))
+                Ok(Answer::only(alloc, LinkNote::Restarted(self.kept.state().version())))
             }
             Err(error) => Err(error),
         }

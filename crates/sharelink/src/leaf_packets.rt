@@ -5,7 +5,7 @@ ghost use Rattle.sharelink.specs.Calls.{note_of as told_of};
 ghost use Rattle.sharelink.specs.LeafLinks.{hello_packet, request_packet, request_packets, again_note};
 
 use crate::answer::Outgoing;
-use crate::note::Note;
+use crate::note::LinkNote;
 use botjournal::{LAYOUT, Request};
 use bytetext::{NoMemory, TryCopy};
 use sharewire::Packet;
@@ -63,11 +63,11 @@ pub(crate) fn request_packet(
 }
 
 /// Returns the note for `requests` that go out again: the highest number, or that nothing waits. Allocates nothing.
-pub(crate) fn again_note(requests: &[Request]) -> Note
+pub(crate) fn again_note(requests: &[Request]) -> LinkNote
     ensures { told_of result ≡ again_note requests.now }
 {
     match requests.last() {
-        Some(request) => Note::Sent(request.number),
-        None => Note::Idle,
+        Some(request) => LinkNote::Sent(request.number),
+        None => LinkNote::Idle,
     }
 }

@@ -7,9 +7,9 @@ use crate::answer::Answer;
 use crate::error::{LinkError, LinkFault};
 use crate::leaf_link::LeafLink;
 use crate::leaf_record::LeafRecord;
-use crate::note::Note;
+use crate::note::LinkNote;
 use crate::parts::{is_behind, keep_part, whole_set};
-use botjournal::Answer as Outcome;
+use botjournal::Verdict as Outcome;
 use bytetext::{Failure, Seq, Text, TryCopy};
 use disks::Disk;
 use sharewire::Packet;
@@ -78,7 +78,10 @@ impl<D: Disk> LeafLink<D> {
                 count,
                 records,
             } => self.receive_part(alloc, *version, *part, *count, records),
-            Packet::Hello { .. } | Packet::Request { .. } => Ok(Answer::only(alloc, Note::Stray)),
+            Packet::Hello { .. } | Packet::Request { .. } => Ok(Answer::only(
+                alloc,
+                LinkNote::Stray,
+            )),
         }
     }
 
@@ -95,10 +98,10 @@ impl<D: Disk> LeafLink<D> {
     {
         let version = self.kept.state().version();
         if number <= version {
-            return Ok(Answer::only(alloc, Note::Old));
+            return Ok(Answer::only(alloc, LinkNote::Old));
         }
         if number - version > 1 {
-            return Ok(Answer::only(alloc, Note::Early));
+            return Ok(Answer::only(alloc, LinkNote::Early));
         }
         if self.kept.state().userfile().refusal_of(change).is_some() {
             self.parts = None;
@@ -106,7 +109,7 @@ impl<D: Disk> LeafLink<D> {
         }
         let next = LeafRecord::apply(change.copy(alloc)?);
         match self.kept.journal(alloc, next) {
-            Ok(()) => Ok(Answer::only(alloc, Note::Applied(number))),
+            Ok(()) => Ok(Answer::only(alloc, LinkNote::Applied(number))),
             Err(error) => Err(error),
         }
     }
@@ -124,10 +127,10 @@ impl<D: Disk> LeafLink<D> {
         ensures few { IfOk result (λ answer. answer.packets ≡ []) }
     {
         if is_no_reply(leaf, request, self.kept.who()) {
-            return Ok(Answer::only(alloc, Note::Stray));
+            return Ok(Answer::only(alloc, LinkNote::Stray));
         }
         if !self.kept.state().is_out(request) {
-            return Ok(Answer::only(alloc, Note::Old));
+            return Ok(Answer::only(alloc, LinkNote::Old));
         }
         match self.kept.journal(alloc, LeafRecord::done(request)) {
             Ok(()) => Ok(Answer::only(alloc, note_of(reply))),
@@ -150,10 +153,10 @@ impl<D: Disk> LeafLink<D> {
         ensures few { IfOk result (λ answer. answer.packets ≡ []) }
     {
         if is_no_part(part, count) {
-            return Ok(Answer::only(alloc, Note::Stray));
+            return Ok(Answer::only(alloc, LinkNote::Stray));
         }
         if self.is_old_part(version) {
-            return Ok(Answer::only(alloc, Note::Old));
+            return Ok(Answer::only(alloc, LinkNote::Old));
         }
         self.take_part(alloc, version, part, count, records)
     }
@@ -182,7 +185,7 @@ impl<D: Disk> LeafLink<D> {
     {
         let Some(whole) = whole_set(&self.parts, version, part, count, records.as_slice()) else {
             keep_part(alloc, &mut self.parts, version, part, count, records)?;
-            return Ok(Answer::only(alloc, Note::Kept(u32::from(part))));
+            return Ok(Answer::only(alloc, LinkNote::Kept(u32::from(part))));
         };
         if !whole.stand_together() {
             self.parts = None;
@@ -197,7 +200,7 @@ impl<D: Disk> LeafLink<D> {
         match self.kept.journal(alloc, records) {
             Ok(()) => {
                 self.parts = None;
-                Ok(Answer::only(alloc, Note::Installed(version)))
+                Ok(Answer::only(alloc, LinkNote::Installed(version)))
             }
             Err(error) => Err(error),
         }
@@ -215,20 +218,20 @@ impl<D: Disk> LeafLink<D> {
         ensures few { IfOk result (λ answer. answer.packets ≡ []) }
     {
         if is_no_text(from, to, self.kept.who(), self.leaves) {
-            return Ok(Answer::only(alloc, Note::Stray));
+            return Ok(Answer::only(alloc, LinkNote::Stray));
         }
         let text = text.copy(alloc)?;
-        Ok(Answer::only(alloc, Note::Text { from, text }))
+        Ok(Answer::only(alloc, LinkNote::Text { from, text }))
     }
 }
 
 // Returns the note of a reply.
-fn note_of(reply: Outcome) -> Note
+fn note_of(reply: Outcome) -> LinkNote
     ensures { told_of result ≡ reply_note reply }
 {
     match reply {
-        Outcome::Taken(number) => Note::Accepted(number),
-        Outcome::Refused(fault) => Note::Refused(fault),
+        Outcome::Taken(number) => LinkNote::Accepted(number),
+        Outcome::Refused(fault) => LinkNote::Refused(fault),
     }
 }
 

@@ -1,6 +1,6 @@
 //! What a call of either end of the sharing link returns.
 //!
-//! An [`Answer`] is a [`Note`], which says what the call did, and the packets that the caller is to send. A
+//! An [`Answer`] is a [`LinkNote`], which says what the call did, and the packets that the caller is to send. A
 //! [`LinkFault`] says why a call is rejected. The contracts of both ends use the words of `protocol`: `Meets`, in
 //! `specs/Meets`, says how a call's result matches its row there.
 //!
@@ -132,7 +132,7 @@ pub use crate::leaf_link::LeafLink;
 pub use crate::leaf_record::LeafRecord;
 pub use crate::leaf_replies::LeafReplies;
 pub use crate::leaf_state::LeafState;
-pub use crate::note::Note;
+pub use crate::note::LinkNote;
 pub use crate::records::userfile_of;
 pub use crate::state_fault::{StateError, StateFault};
 pub use crate::texts::{text_by, text_fault};

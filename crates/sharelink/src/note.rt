@@ -5,7 +5,7 @@ use userfile::ChangeFault;
 
 /// The outcome of a call.
 #[derive(Debug, Drop)]
-pub enum Note {
+pub enum LinkNote {
     /// The ask waits for a pump.
     Queued,
     /// Nothing waits.
@@ -49,30 +49,30 @@ pub enum Note {
     Restarted(u32),
 }
 
-impl TryCopy for Note {
-    fn copy(&self, alloc: Global) -> Result<Note, NoMemory> {
+impl TryCopy for LinkNote {
+    fn copy(&self, alloc: Global) -> Result<LinkNote, NoMemory> {
         match self {
-            Note::Queued => Ok(Note::Queued),
-            Note::Idle => Ok(Note::Idle),
-            Note::Sent(request) => Ok(Note::Sent(*request)),
-            Note::Accepted(number) => Ok(Note::Accepted(*number)),
-            Note::Refused(fault) => Ok(Note::Refused(*fault)),
-            Note::Served(count) => Ok(Note::Served(*count)),
-            Note::Old => Ok(Note::Old),
-            Note::Repeat => Ok(Note::Repeat),
-            Note::Gap => Ok(Note::Gap),
-            Note::Early => Ok(Note::Early),
-            Note::Applied(number) => Ok(Note::Applied(*number)),
-            Note::Kept(part) => Ok(Note::Kept(*part)),
-            Note::Installed(version) => Ok(Note::Installed(*version)),
-            Note::Compacted => Ok(Note::Compacted),
-            Note::Relayed => Ok(Note::Relayed),
-            Note::Text { from, text } => Ok(Note::Text {
+            LinkNote::Queued => Ok(LinkNote::Queued),
+            LinkNote::Idle => Ok(LinkNote::Idle),
+            LinkNote::Sent(request) => Ok(LinkNote::Sent(*request)),
+            LinkNote::Accepted(number) => Ok(LinkNote::Accepted(*number)),
+            LinkNote::Refused(fault) => Ok(LinkNote::Refused(*fault)),
+            LinkNote::Served(count) => Ok(LinkNote::Served(*count)),
+            LinkNote::Old => Ok(LinkNote::Old),
+            LinkNote::Repeat => Ok(LinkNote::Repeat),
+            LinkNote::Gap => Ok(LinkNote::Gap),
+            LinkNote::Early => Ok(LinkNote::Early),
+            LinkNote::Applied(number) => Ok(LinkNote::Applied(*number)),
+            LinkNote::Kept(part) => Ok(LinkNote::Kept(*part)),
+            LinkNote::Installed(version) => Ok(LinkNote::Installed(*version)),
+            LinkNote::Compacted => Ok(LinkNote::Compacted),
+            LinkNote::Relayed => Ok(LinkNote::Relayed),
+            LinkNote::Text { from, text } => Ok(LinkNote::Text {
                 from: *from,
                 text: text.copy(alloc)?,
             }),
-            Note::Stray => Ok(Note::Stray),
-            Note::Restarted(version) => Ok(Note::Restarted(*version)),
+            LinkNote::Stray => Ok(LinkNote::Stray),
+            LinkNote::Restarted(version) => Ok(LinkNote::Restarted(*version)),
         }
     }
 }

@@ -9,7 +9,7 @@ ghost use Rattle.protocol.specs.HubRules.{with_reply};
 ghost use Rattle.protocol.specs.Journals.{replies_among, replies_of, replies_in, is_next, is_next_of};
 
 use crate::leaf_replies::LeafReplies;
-use botjournal::{Answer, Reply};
+use botjournal::{Reply, Verdict};
 use bytetext::NoMemory;
 use std::alloc::Global;
 
@@ -89,7 +89,7 @@ pub(crate) fn is_next(held: &[LeafReplies], leaf: u16, request: u32) -> bool
 
 // Appends the reply to a leaf's next request to those that are kept; the hub's own changes have none. Allocates
 // nothing.
-pub(crate) fn put_reply(held: &mut Vec<LeafReplies>, leaf: u16, request: u32, answer: Answer)
+pub(crate) fn put_reply(held: &mut Vec<LeafReplies>, leaf: u16, request: u32, answer: Verdict)
     requires { is_next held.old.items leaf request ≡ true }
     ensures { held.new.items ≡ with_reply held.old.items leaf answer }
 {
@@ -127,13 +127,13 @@ fn know_reply(reply: &Reply)
     know_answer(&reply.answer);
 }
 
-fn know_answer(answer: &Answer)
+fn know_answer(answer: &Verdict)
     ensures { IsGoodAnswer answer.now }
 {
     match answer {
-        Answer::Taken(number) => {
+        Verdict::Taken(number) => {
             let _number = *number;
         }
-        Answer::Refused(_) => {}
+        Verdict::Refused(_) => {}
     }
 }

@@ -6,10 +6,10 @@ use Rattle.streams.proofs.ReadLemmas.{Reads-none, Reads-more, ReadsUntil-end, Re
 use Rattle.procstore.specs.Promises.{Promised}
 use Rattle.sharelink.specs.declared.answer.Outgoing.{Outgoing}
 use Rattle.botcore.specs.Bots.{Bot}
-use Rattle.botcore.specs.declared.event.Event.TheVariants.{Clock}
+use Rattle.botcore.specs.declared.event.BotEvent.TheVariants.{Clock}
 use Rattle.turns.specs.declared.driving.DriveEnd.{DriveEnd}
 use Rattle.turns.specs.declared.driving.DriveEnd.TheVariants.{Done, Read, Write, NoMemory}
-use Rattle.turns.specs.declared.outcome.Outcome.{Outcome}
+use Rattle.turns.specs.declared.outcome.DriveOutcome.{DriveOutcome}
 use Rattle.turns.specs.Driving.{Course, Makes, Hears, HearsPiece, HearsNoPiece, HearsAll, HearsSome, ReadsEnough, ReadsSome, TakesAll, TakesFirst, TakesSome, DrivesAll, DrivesTo, course_at, line_events, all_events}
 use Rattle.turns.proofs.DrivingLemmas.{Makes-then, MakesFirst-more, Hears-none, Hears-then, HearsFirst-then}
 
@@ -150,7 +150,7 @@ TakesSome-of promised names now old new held after before left NoMemory (bytes, 
 -- ---- and what is written
 
 pub DrivesAll-of : (Writes : Sink → List ℕ → Sink → Type 0) (promised : Promised)
-    (names : List (List ℕ)) (now : ℕ) (start : Course) (old new : Bot) (packets : List Outgoing) (outcomes : List Outcome) (text held after : List ℕ)
+    (names : List (List ℕ)) (now : ℕ) (start : Course) (old new : Bot) (packets : List Outgoing) (outcomes : List DriveOutcome) (text held after : List ℕ)
     (before between left : Source) (empty kept full : Sink) → start ≡ course_at old
     → TakesAll promised names now start held before (record { bot = new; packets = packets; text = text; outcomes = outcomes }) after between
     → kept ≡ empty → left ≡ between → Writes kept text full
@@ -167,7 +167,7 @@ DrivesAll-of Writes promised names now start old new packets outcomes text held 
 }
 
 pub DrivesTo-some : (end : DriveEnd) (promised : Promised)
-    (names : List (List ℕ)) (now : ℕ) (start : Course) (old new : Bot) (packets : List Outgoing) (outcomes : List Outcome) (text held after : List ℕ)
+    (names : List (List ℕ)) (now : ℕ) (start : Course) (old new : Bot) (packets : List Outgoing) (outcomes : List DriveOutcome) (text held after : List ℕ)
     (before left : Source) (empty kept : Sink) → start ≡ course_at old
     → TakesSome end promised names now start held before (record { bot = new; packets = packets; text = text; outcomes = outcomes }) after left
     → kept ≡ empty

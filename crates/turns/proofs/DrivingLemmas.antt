@@ -5,11 +5,11 @@ use Rattle.ircline.specs.declared.line.Line.{Line as ReadLine}
 use Rattle.ircline.specs.Stream.{lines_of, held_of}
 use Rattle.procstore.specs.Promises.{Promised}
 use Rattle.sharelink.specs.declared.answer.Outgoing.{Outgoing}
-use Rattle.botcore.specs.declared.event.Event.{Event}
-use Rattle.botcore.specs.declared.event.Event.TheVariants.{Line}
+use Rattle.botcore.specs.declared.event.BotEvent.{BotEvent}
+use Rattle.botcore.specs.declared.event.BotEvent.TheVariants.{Line}
 use Rattle.botcore.specs.declared.report.End.TheVariants.{NoMemory}
 use Rattle.botcore.specs.declared.report.Report.{Report}
-use Rattle.turns.specs.declared.outcome.Outcome.{Outcome}
+use Rattle.turns.specs.declared.outcome.DriveOutcome.{DriveOutcome}
 use Rattle.turns.specs.Driving.{Course, Makes, MakesFirst, MakesStep, Ends, Hears, HearsFirst, line_events, text_of, unless_silent, outcome_of}
 use Rattle.botcore.specs.Steps.{TakesStep}
 
@@ -21,13 +21,13 @@ unfolding Makes
 Makes-none promised names old = refl
 
 pub Makes-one : (promised : Promised) (names : List (List ℕ)) (old new : Course)
-    (event : Event) → MakesStep promised names old event new → Makes promised names old (event ∷ []) new
+    (event : BotEvent) → MakesStep promised names old event new → Makes promised names old (event ∷ []) new
 unfolding Makes
 Makes-one promised names old new event step = (new, step, refl)
 
 -- where a call that keeps a report succeeds, its step is made
 pub Makes-if : {E : Type 0} (promised : Promised) (names : List (List ℕ))
-    (old new : Course) (event : Event) (report : Report) (kept : Result Unit E) (packets : List Outgoing) (text : List ℕ) (outcomes : List Outcome)
+    (old new : Course) (event : BotEvent) (report : Report) (kept : Result Unit E) (packets : List Outgoing) (text : List ℕ) (outcomes : List DriveOutcome)
     → packets ≡ old.packets → text ≡ old.text → outcomes ≡ old.outcomes → TakesStep promised names old.bot event report new.bot
     → OnOk kept (report.end ≢ NoMemory) → OnOk kept (new.packets ≡ packets ++ report.packets)
     → OnOk kept (new.text ≡ text ++ text_of report.lines) → OnOk kept (new.outcomes ≡ outcomes ++ unless_silent (outcome_of report))
@@ -44,7 +44,7 @@ Makes-if promised names old new event report (Ok x) packets text outcomes p t o 
     })
 
 pub Makes-then : (promised : Promised) (names : List (List ℕ)) (old mid new : Course)
-    (first second : List Event) → Makes promised names old first mid → Makes promised names mid second new
+    (first second : List BotEvent) → Makes promised names old first mid → Makes promised names mid second new
     → Makes promised names old (first ++ second) new
 unfolding Makes
 Makes-then promised names old mid new [] second p q = subst (λ x. Makes promised names x second new) p q
@@ -53,7 +53,7 @@ Makes-then promised names old mid new (event ∷ first) second (next, step, p) q
 
 -- where all are made and then the first of more, the first of both are
 pub MakesFirst-then : (promised : Promised) (names : List (List ℕ)) (old mid new : Course)
-    (first second : List Event) → Makes promised names old first mid → MakesFirst promised names mid second new
+    (first second : List BotEvent) → Makes promised names old first mid → MakesFirst promised names mid second new
     → MakesFirst promised names old (first ++ second) new
 MakesFirst-then promised names old mid new first second p q = record {
   first = first ++ q.first;
@@ -64,7 +64,7 @@ MakesFirst-then promised names old mid new first second p q = record {
 
 -- the first of some events are the first where others come after
 pub MakesFirst-more : (promised : Promised) (names : List (List ℕ)) (old new : Course)
-    (events more : List Event) → MakesFirst promised names old events new → MakesFirst promised names old (events ++ more) new
+    (events more : List BotEvent) → MakesFirst promised names old events new → MakesFirst promised names old (events ++ more) new
 MakesFirst-more promised names old new events more p = record {
   first = p.first;
   rest = p.rest ++ more;
@@ -74,7 +74,7 @@ MakesFirst-more promised names old new events more p = record {
 
 -- no event is made
 pub MakesFirst-none : (promised : Promised) (names : List (List ℕ)) (old : Course)
-    (events : List Event) → MakesFirst promised names old events old
+    (events : List BotEvent) → MakesFirst promised names old events old
 MakesFirst-none promised names old events = record { first = []; rest = events; all = refl; makes = Makes-none promised names old }
 
 -- ---- lines of a stream

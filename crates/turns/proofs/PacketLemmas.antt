@@ -4,21 +4,21 @@ use Rattle.ircline.specs.declared.line.Line.{Line as ReadLine}
 use Rattle.procstore.specs.Promises.{Promised}
 use Rattle.sharelink.specs.declared.answer.Outgoing.{Outgoing}
 use Rattle.sharelink.specs.Shapes.{AreGood}
-use Rattle.botcore.specs.declared.event.Event.{Event}
-use Rattle.botcore.specs.declared.event.Event.TheVariants.{Line, Clock}
+use Rattle.botcore.specs.declared.event.BotEvent.{BotEvent}
+use Rattle.botcore.specs.declared.event.BotEvent.TheVariants.{Line, Clock}
 use Rattle.botcore.specs.declared.report.Report.{Report}
 use Rattle.botcore.specs.Bots.{Bot}
 use Rattle.botcore.specs.Steps.{TakesStep}
 use Rattle.botcore.proofs.GoodLemmas.{AreGood-append, line_good, clock_good}
 use Rattle.turns.specs.declared.driving.DriveEnd.{DriveEnd}
 use Rattle.turns.specs.declared.driving.DriveEnd.TheVariants.{Done, Read, Write, NoMemory}
-use Rattle.turns.specs.declared.outcome.Outcome.{Outcome}
+use Rattle.turns.specs.declared.outcome.DriveOutcome.{DriveOutcome}
 use Rattle.turns.specs.Driving.{Course, Connection, Makes, DrivesTo, line_events, all_events}
 
 module _ (promised : Promised) (names : List (List ℕ)) where
   -- nothing but lines and readings
-  abbrev AreHeard : List Event → Type 0
-  AreHeard events = (old new : Bot) (report : Report) (before : List Event) (event : Event) (after : List Event) → events ≡ before ++ event ∷ after
+  abbrev AreHeard : List BotEvent → Type 0
+  AreHeard events = (old new : Bot) (report : Report) (before : List BotEvent) (event : BotEvent) (after : List BotEvent) → events ≡ before ++ event ∷ after
       → TakesStep promised names old event report new → AreGood report.packets
 
   lines_heard : (lines : List ReadLine) → AreHeard (line_events lines)
@@ -41,23 +41,23 @@ module _ (promised : Promised) (names : List (List ℕ)) where
   all_heard (line ∷ lines) now old new report (b ∷ before) event after e takes = all_heard lines now old new report before event after (cc) takes
 
   -- the same of what comes after the first event, and of a front
-  rest_heard : (event : Event) (events : List Event) → AreHeard (event ∷ events) → AreHeard events
-  rest_heard event events heard = λ old new report before e after is. heard old new report (event ∷ before) e after (ap (λ (l : List Event). event ∷ l) is)
+  rest_heard : (event : BotEvent) (events : List BotEvent) → AreHeard (event ∷ events) → AreHeard events
+  rest_heard event events heard = λ old new report before e after is. heard old new report (event ∷ before) e after (ap (λ (l : List BotEvent). event ∷ l) is)
 
-  front_heard : (first rest events : List Event) → first ++ rest ≡ events → AreHeard events → AreHeard first
+  front_heard : (first rest events : List BotEvent) → first ++ rest ≡ events → AreHeard events → AreHeard first
   front_heard first rest events all heard = λ old new report before event after is.
       heard old new report before event (after ++ rest) (front_at first rest events before after event all is)
     where
-      append_front : (xs ys zs : List Event) (e : Event) → (xs ++ e ∷ ys) ++ zs ≡ xs ++ e ∷ (ys ++ zs)
+      append_front : (xs ys zs : List BotEvent) (e : BotEvent) → (xs ++ e ∷ ys) ++ zs ≡ xs ++ e ∷ (ys ++ zs)
       append_front [] ys zs e = refl
-      append_front (x ∷ xs) ys zs e = ap (λ (l : List Event). x ∷ l) (append_front xs ys zs e)
+      append_front (x ∷ xs) ys zs e = ap (λ (l : List BotEvent). x ∷ l) (append_front xs ys zs e)
 
-      front_at : (first rest events before after : List Event) (event : Event) → first ++ rest ≡ events → first ≡ before ++ event ∷ after
+      front_at : (first rest events before after : List BotEvent) (event : BotEvent) → first ++ rest ≡ events → first ≡ before ++ event ∷ after
           → events ≡ before ++ event ∷ (after ++ rest)
       front_at first rest events before after event all is =
-          sym all ∙ ap (λ (l : List Event). l ++ rest) is ∙ append_front before after rest event
+          sym all ∙ ap (λ (l : List BotEvent). l ++ rest) is ∙ append_front before after rest event
 
-  steps_good : (events : List Event) (old new : Course) → AreHeard events → Makes promised names old events new → AreGood old.packets
+  steps_good : (events : List BotEvent) (old new : Course) → AreHeard events → Makes promised names old events new → AreGood old.packets
       → AreGood new.packets
   unfolding Makes
   steps_good [] old new heard made good = subst (λ (c : Course). AreGood c.packets) (sym made) good
@@ -69,7 +69,7 @@ module _ (promised : Promised) (names : List (List ℕ)) where
 -- ---- a whole drive
 
 pub DrivesTo_good : (end : DriveEnd) (promised : Promised)
-    (names : List (List ℕ)) (now : ℕ) (old : Connection) (packets : List Outgoing) (outcomes : List Outcome) (new : Connection)
+    (names : List (List ℕ)) (now : ℕ) (old : Connection) (packets : List Outgoing) (outcomes : List DriveOutcome) (new : Connection)
     → DrivesTo end promised names now old packets outcomes new → AreGood packets
 DrivesTo_good Done promised names now old packets outcomes new d =
     steps_good promised names (all_events d.lines now) _ _ (all_heard promised names d.lines now) d.makes tt

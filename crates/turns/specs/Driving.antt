@@ -12,9 +12,9 @@ use Rattle.sharelink.specs.declared.answer.Outgoing.{Outgoing}
 use Rattle.turns.specs.declared.driving.DriveEnd.{DriveEnd}
 use Rattle.turns.specs.declared.driving.DriveEnd.TheVariants.{Done, Read, Write, NoMemory}
 use Rattle.turns.specs.declared.driving.DriveReport.{DriveReport}
-use Rattle.turns.specs.declared.outcome.Outcome.{Outcome}
-use Rattle.botcore.specs.declared.event.Event.{Event}
-use Rattle.botcore.specs.declared.event.Event.TheVariants.{Line, Clock}
+use Rattle.turns.specs.declared.outcome.DriveOutcome.{DriveOutcome}
+use Rattle.botcore.specs.declared.event.BotEvent.{BotEvent}
+use Rattle.botcore.specs.declared.event.BotEvent.TheVariants.{Line, Clock}
 use Rattle.botcore.specs.declared.report.End.TheVariants.{NoMemory as ends_no_memory}
 use Rattle.botcore.specs.declared.report.Report.{Report}
 use Rattle.botcore.specs.Bots.{Bot}
@@ -27,13 +27,13 @@ abbrev pub text_of : List (List ℕ) → List ℕ
 text_of lines = flat_map (λ line. line ++ 13 ∷ 10 ∷ []) lines
 
 -- the outcome of a step, if it has anything to report
-abbrev pub is_silent : Outcome → Bool
+abbrev pub is_silent : DriveOutcome → Bool
 is_silent outcome = is_none outcome.note && (length outcome.calls == 0 && length outcome.faults == 0)
 
-abbrev pub unless_silent : Outcome → List Outcome
+abbrev pub unless_silent : DriveOutcome → List DriveOutcome
 unless_silent outcome = if is_silent outcome then [] else outcome ∷ []
 
-abbrev pub outcome_of : Report → Outcome
+abbrev pub outcome_of : Report → DriveOutcome
 outcome_of report = record { note = report.note; calls = report.calls; faults = report.faults }
 
 -- a bot, the output of its steps so far, packets for the link and text for the server, and their outcomes
@@ -41,7 +41,7 @@ pub record Course : Type 0 where
   pub bot : Bot
   pub packets : List Outgoing
   pub text : List ℕ
-  pub outcomes : List Outcome
+  pub outcomes : List DriveOutcome
 
 -- before the first step
 abbrev pub course_at : Bot → Course
@@ -50,7 +50,7 @@ course_at bot = record { bot = bot; packets = []; text = []; outcomes = [] }
 -- The bot makes a step of this event, which does not run out of memory. Its packets, its lines and its outcome are
 -- appended.
 pub record MakesStep (promised : Promised) (names : List (List ℕ))
-    (old : Course) (event : Event) (new : Course) : Type 0 where
+    (old : Course) (event : BotEvent) (new : Course) : Type 0 where
   pub report : Report
   pub takes : TakesStep promised names old.bot event report new.bot
   pub made : report.end ≢ ends_no_memory
@@ -60,23 +60,23 @@ pub record MakesStep (promised : Promised) (names : List (List ℕ))
 
 -- it makes a step of each event, in order
 unfoldable pub Makes : Promised → List (List ℕ)
-    → Course → List Event → Course → Type 0
+    → Course → List BotEvent → Course → Type 0
 Makes promised names old [] new = new ≡ old
 Makes promised names old (event ∷ events) new =
     (mid : Course) × MakesStep promised names old event mid × Makes promised names mid events new
 
 -- it makes a step of each of the first events
 pub record MakesFirst (promised : Promised) (names : List (List ℕ))
-    (old : Course) (events : List Event) (new : Course) : Type 0 where
-  pub first : List Event
-  pub rest : List Event
+    (old : Course) (events : List BotEvent) (new : Course) : Type 0 where
+  pub first : List BotEvent
+  pub rest : List BotEvent
   pub all : first ++ rest ≡ events
   pub makes : Makes promised names old first new
 
 -- ---- lines that are read
 
 -- a step for each line
-abbrev pub line_events : List ReadLine → List Event
+abbrev pub line_events : List ReadLine → List BotEvent
 line_events lines = map (λ line. Line line) lines
 
 -- These bytes complete these lines when this much of a line is held before them, and then this much is held.
@@ -153,7 +153,7 @@ HearsSome NoMemory promised names old held before new after left =
 -- ---- all steps of a drive
 
 -- a step for each line, and then one for the reading of the clock
-abbrev pub all_events : List ReadLine → ℕ → List Event
+abbrev pub all_events : List ReadLine → ℕ → List BotEvent
 all_events lines now = line_events lines ++ Clock now ∷ []
 
 -- All that has arrived is read, or enough of it; each line that it completes is a step, and then the reading is one.
@@ -200,7 +200,7 @@ pub record Connection : Type 0 where
 -- all lines that were read and the reading are steps, and what the bot says is written as `Writes` says
 pub record DrivesAll (Writes : Sink → List ℕ → Sink → Type 0)
     (promised : Promised) (names : List (List ℕ)) (now : ℕ)
-    (old : Connection) (packets : List Outgoing) (outcomes : List Outcome) (new : Connection) : Type 0 where
+    (old : Connection) (packets : List Outgoing) (outcomes : List DriveOutcome) (new : Connection) : Type 0 where
   pub bytes : List ℕ
   pub lines : List ReadLine
   pub text : List ℕ
@@ -212,7 +212,7 @@ pub record DrivesAll (Writes : Sink → List ℕ → Sink → Type 0)
 
 -- a read of the stream failed: all lines that were read are steps, and nothing is written
 pub record DrivesLines (promised : Promised) (names : List (List ℕ))
-    (old : Connection) (packets : List Outgoing) (outcomes : List Outcome) (new : Connection) : Type 0 where
+    (old : Connection) (packets : List Outgoing) (outcomes : List DriveOutcome) (new : Connection) : Type 0 where
   pub bytes : List ℕ
   pub lines : List ReadLine
   pub text : List ℕ
@@ -224,7 +224,7 @@ pub record DrivesLines (promised : Promised) (names : List (List ℕ))
 
 -- memory ran out: only the first of all steps are made, and nothing is written
 pub record DrivesFirst (promised : Promised) (names : List (List ℕ))
-    (now : ℕ) (old : Connection) (packets : List Outgoing) (outcomes : List Outcome) (new : Connection) : Type 0 where
+    (now : ℕ) (old : Connection) (packets : List Outgoing) (outcomes : List DriveOutcome) (new : Connection) : Type 0 where
   pub bytes : List ℕ
   pub lost : List ℕ
   pub lines : List ReadLine
@@ -238,7 +238,7 @@ pub record DrivesFirst (promised : Promised) (names : List (List ℕ))
 
 -- what a drive with this end has done, what it sends over the link, and the outcomes of its steps
 abbrev pub DrivesTo : DriveEnd → Promised → List (List ℕ)
-    → ℕ → Connection → List Outgoing → List Outcome → Connection → Type 0
+    → ℕ → Connection → List Outgoing → List DriveOutcome → Connection → Type 0
 DrivesTo Done promised names now old packets outcomes new = DrivesAll WritesOut promised names now old packets outcomes new
 DrivesTo Read promised names now old packets outcomes new = DrivesLines promised names old packets outcomes new
 DrivesTo Write promised names now old packets outcomes new = DrivesAll WritesFront promised names now old packets outcomes new

@@ -65,7 +65,7 @@ impl Drop for DriveReport {
 /// bytes and its end separately: if that matters, put a `BufWriter` into a `streams::Duplex`.
 ///
 /// After `Done` the next drive continues where this one ended. After every other end, connect again: with a new
-/// [`LineReader`], and the bot by [`Event::Connect`](botcore::Event::Connect).
+/// [`LineReader`], and the bot by [`Event::Connect`](botcore::BotEvent::Connect).
 ///
 /// ```text
 /// let mut lines = LineReader::new(alloc);

@@ -2,12 +2,12 @@
 ghost use Rattle.std.specs.Prelude.{◌≡◌, ◌≢◌, ◌≤◌, ◌<◌, ◌+◌, ◌++◌, ◌∷◌, [], length, OnOk, OnErr, IfErr, vec_len, vec_capacity};
 ghost use Rattle.std.specs.List.{flat_map};
 ghost use Rattle.sharelink.specs.declared.TheConstants.{MAX_TEXTS as most_texts};
-ghost use Rattle.botcore.specs.declared.event.Event.TheVariants.{Line as line_event, Clock as clock_event};
+ghost use Rattle.botcore.specs.declared.event.BotEvent.TheVariants.{Line as line_event, Clock as clock_event};
 ghost use Rattle.botcore.specs.declared.report.End.TheVariants.{NoMemory as ends_no_memory};
 ghost use Rattle.turns.specs.Driving.{Makes, MakesFirst, line_events, outcome_of, text_of, unless_silent};
 ghost use Rattle.turns.specs.Outboxes.{course_of};
 
-use crate::outcome::Outcome;
+use crate::outcome::DriveOutcome;
 use botcore::{Bot, End, Report};
 use bytetext::{NoMemory, Texts};
 use disks::Disk;
@@ -22,7 +22,7 @@ use std::alloc::Global;
 pub(crate) struct Outbox {
     pub(crate) packets: Vec<Outgoing>,
     pub(crate) lines: Vec<Texts>,
-    pub(crate) outcomes: Vec<Outcome>,
+    pub(crate) outcomes: Vec<DriveOutcome>,
 }
 
 impl Outbox {
@@ -55,7 +55,7 @@ impl Outbox {
     }
 
     // Adds the output of a step. Does not allocate.
-    fn put(&mut self, packets: Outgoings, lines: Texts, outcome: Outcome)
+    fn put(&mut self, packets: Outgoings, lines: Texts, outcome: DriveOutcome)
         requires few { length packets ≤ most_texts }
         requires packets_room { vec_len self.old.packets + most_texts ≤ vec_capacity self.old.packets }
         requires lines_room { vec_len self.old.lines < vec_capacity self.old.lines }
@@ -93,7 +93,7 @@ impl Outbox {
             End::NoMemory => Err(NoMemory),
             End::Done | End::Refused(_) => {
                 let (note, calls, packets, lines, faults) = report.into_parts();
-                let outcome = Outcome {
+                let outcome = DriveOutcome {
                     note,
                     calls,
                     faults,

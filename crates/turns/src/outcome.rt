@@ -4,7 +4,7 @@ use botcore::{Faults, Note};
 use bytetext::Seq;
 
 /// What a step reports besides what it has to send.
-pub struct Outcome {
+pub struct DriveOutcome {
     /// For a line that is not a message, the rule that it breaks. A message and a reading of the clock have no note.
     pub note: Option<Note>,
     /// The calls that were made, in order.
@@ -14,9 +14,9 @@ pub struct Outcome {
 }
 
 // Written by hand, so that it is proved once and not in each function that drops one.
-impl Drop for Outcome {
+impl Drop for DriveOutcome {
     fn drop(self) {
-        let Outcome {
+        let DriveOutcome {
             note: _,
             calls: _,
             faults: _,
@@ -24,7 +24,7 @@ impl Drop for Outcome {
     }
 }
 
-impl Outcome {
+impl DriveOutcome {
     ghost use Rattle.std.specs.Prelude.{◌≡◌};
     ghost use Rattle.turns.specs.Driving.{is_silent};
 
@@ -37,4 +37,4 @@ impl Outcome {
 }
 
 /// The outcomes of steps, in order.
-pub type Outcomes = Seq<Outcome>;
+pub type Outcomes = Seq<DriveOutcome>;

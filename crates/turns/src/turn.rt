@@ -5,7 +5,7 @@ ghost use Rattle.sharelink.specs.Shapes.{HasGoodRecords};
 ghost use Rattle.turns.specs.Turns.{Turns, IsTold, IsTurnEvent, Steps, StepsFirst, Stops, AllGood};
 
 use crate::events::events_of;
-use botcore::{Bot, End, Event, Report};
+use botcore::{Bot, BotEvent, End, Report};
 use bytetext::{NoMemory, Seq};
 use disks::Disk;
 use ircline::LineReader;
@@ -102,7 +102,7 @@ fn step_all<P: Promise, D: Disk, B: Run>(
     alloc: Global,
     bot: &mut Bot<D>,
     store: &ProcStore<P, B>,
-    events: Vec<Event>,
+    events: Vec<BotEvent>,
     reports: &mut Vec<Report>,
 ) -> Result<(), NoMemory>
     requires none { reports.old.items ≡ [] }
@@ -123,7 +123,7 @@ fn step_one<P: Promise, D: Disk, B: Run>(
     alloc: Global,
     bot: &mut Bot<D>,
     store: &ProcStore<P, B>,
-    event: Event,
+    event: BotEvent,
     reports: &mut Vec<Report>,
 ) -> Result<(), NoMemory>
     requires good { IsTurnEvent event }

@@ -1,5 +1,5 @@
 // Which binds an event calls.
-use bindtable::{BindError, BindKind, BindTable, Event};
+use bindtable::{BindError, BindEvent, BindKind, BindTable};
 use bottimers::{CivilMinute, Zone, civil};
 use bytetext::Text;
 use caselines::{BAD_WORDS, CaseError, Sink, cut, number};
@@ -96,7 +96,7 @@ fn find(alloc: Global, table: &BindTable, rest: &[u8], out: &mut Sink) -> Result
     let (channel, rest) = cut(rest, b' ');
     let (bot, subject) = cut(rest, b' ');
     let kind = kind_of(kind)?;
-    let event = Event {
+    let event = BindEvent {
         kind,
         subject,
         minute: minute_of(kind, subject)?,

@@ -2,7 +2,7 @@
 use bytetext::{NoMemory, Text, TryCopy};
 use caselines::{BAD_WORDS, CaseError, Sink};
 use chanstate::{ChanState, Member};
-use ircline::{Fault, Line};
+use ircline::{Line, LineFault};
 use std::alloc::Global;
 
 // What is asked of the state.
@@ -41,7 +41,7 @@ pub fn read_all(
     alloc: Global,
     state: &mut ChanState,
     lines: &[Text],
-) -> Result<Option<Fault>, NoMemory> {
+) -> Result<Option<LineFault>, NoMemory> {
     for line in lines {
         let fault = read(alloc, state, line.as_bytes())?;
         if fault.is_some() {
@@ -51,7 +51,7 @@ pub fn read_all(
     Ok(None)
 }
 
-fn read(alloc: Global, state: &mut ChanState, line: &[u8]) -> Result<Option<Fault>, NoMemory> {
+fn read(alloc: Global, state: &mut ChanState, line: &[u8]) -> Result<Option<LineFault>, NoMemory> {
     match ircline::read_line(alloc, line)? {
         Line::Message(message) => {
             state.ready(alloc, &message)?.cancel();

@@ -2,7 +2,7 @@
 use crate::channels;
 use bytetext::{NoMemory, Text};
 use caselines::{BAD_WORDS, CaseError, Sink};
-use chanstate::{ChanState, Event, Kind};
+use chanstate::{ChanState, EventKind, IrcEvent};
 use ircline::Line;
 use std::alloc::Global;
 
@@ -32,7 +32,7 @@ fn last(alloc: Global, state: &ChanState, line: &[u8], out: &mut Sink) -> Result
     Ok(())
 }
 
-fn each_shown(events: &[Event], out: &mut Sink) {
+fn each_shown(events: &[IrcEvent], out: &mut Sink) {
     for (i, event) in events.iter().enumerate() {
         out.between(b" ; ", i);
         event_shown(event, out);
@@ -40,7 +40,7 @@ fn each_shown(events: &[Event], out: &mut Sink) {
 }
 
 // KIND 'SUBJECT' CHANNEL 'ARGUMENT'..
-fn event_shown(event: &Event, out: &mut Sink) {
+fn event_shown(event: &IrcEvent, out: &mut Sink) {
     out.put(name_of(event.kind).as_bytes());
     out.quoted(event.subject.as_bytes());
     out.put(b" ");
@@ -53,20 +53,20 @@ fn event_shown(event: &Event, out: &mut Sink) {
     }
 }
 
-fn name_of(kind: Kind) -> &'static str {
+fn name_of(kind: EventKind) -> &'static str {
     match kind {
-        Kind::Raw => "raw",
-        Kind::Msg => "msg",
-        Kind::Msgm => "msgm",
-        Kind::Notc => "notc",
-        Kind::Pub => "pub",
-        Kind::Pubm => "pubm",
-        Kind::Join => "join",
-        Kind::Part => "part",
-        Kind::Sign => "sign",
-        Kind::Kick => "kick",
-        Kind::Nick => "nick",
-        Kind::Mode => "mode",
-        Kind::Topc => "topc",
+        EventKind::Raw => "raw",
+        EventKind::Msg => "msg",
+        EventKind::Msgm => "msgm",
+        EventKind::Notc => "notc",
+        EventKind::Pub => "pub",
+        EventKind::Pubm => "pubm",
+        EventKind::Join => "join",
+        EventKind::Part => "part",
+        EventKind::Sign => "sign",
+        EventKind::Kick => "kick",
+        EventKind::Nick => "nick",
+        EventKind::Mode => "mode",
+        EventKind::Topc => "topc",
     }
 }

@@ -3,7 +3,7 @@ ghost use Rattle.std.specs.Prelude.{◌<◌, IfOk};
 
 use bytetext::{Text, TryCopy};
 use caselines::{BAD_NUMBER, BAD_WORDS, CaseError, Sink, cut, number};
-use outqueue::{PutError, Queue, QueueFault, Queues, Which};
+use outqueue::{PutError, Queue, QueueFault, QueueSet, Queues};
 use std::alloc::Global;
 
 /// Answers `queues STEP..` on `out`: what each step answers, with ` ; ` between. A step is one word.
@@ -41,11 +41,11 @@ const STEPS: [(&[u8], Step); 6] = [
     (b"take", Step::Take),
 ];
 
-const NAMES: [(&[u8], Which); 4] = [
-    (b"mode", Which::One(Queue::Mode)),
-    (b"server", Which::One(Queue::Server)),
-    (b"help", Which::One(Queue::Help)),
-    (b"all", Which::All),
+const NAMES: [(&[u8], QueueSet); 4] = [
+    (b"mode", QueueSet::One(Queue::Mode)),
+    (b"server", QueueSet::One(Queue::Server)),
+    (b"help", QueueSet::One(Queue::Help)),
+    (b"all", QueueSet::All),
 ];
 
 fn make(alloc: Global, queues: &mut Queues, step: &[u8], out: &mut Sink) -> Result<(), CaseError> {
@@ -64,7 +64,7 @@ fn make(alloc: Global, queues: &mut Queues, step: &[u8], out: &mut Sink) -> Resu
     Ok(())
 }
 
-fn which(name: &[u8]) -> Result<Which, CaseError> {
+fn which(name: &[u8]) -> Result<QueueSet, CaseError> {
     match NAMES.iter().find(|(word, _)| *word == name) {
         Some((_, which)) => Ok(*which),
         None => Err(BAD_WORDS),
@@ -106,7 +106,7 @@ fn drain(alloc: Global, queues: &mut Queues, now: u64, out: &mut Sink) -> Result
 fn put(alloc: Global, queues: &mut Queues, rest: &[u8], out: &mut Sink) -> Result<(), CaseError> {
     let (name, rest) = cut(rest, b' ');
     let (count, line) = cut(rest, b' ');
-    let Which::One(queue) = which(name)? else {
+    let QueueSet::One(queue) = which(name)? else {
         return Err(BAD_WORDS);
     };
     match put_often(alloc, queues, queue, number(count)?, line)? {
@@ -142,7 +142,7 @@ fn reserved(
     out: &mut Sink,
 ) -> Result<(), CaseError> {
     let (name, line) = cut(rest, b' ');
-    let Which::One(queue) = which(name)? else {
+    let QueueSet::One(queue) = which(name)? else {
         return Err(BAD_WORDS);
     };
     let line = Text::from_slice(alloc, line)?;

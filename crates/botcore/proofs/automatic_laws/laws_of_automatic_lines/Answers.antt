@@ -5,14 +5,14 @@ use Rattle.ircline.specs.declared.message.Message.{Message}
 use Rattle.ircline.specs.Sources.{source_of}
 use Rattle.userfile.specs.declared.ban.Ban.{Ban}
 use Rattle.chanstate.specs.declared.state.ChanState.{ChanState}
-use Rattle.chanstate.specs.declared.verb.Verb.{Verb}
-use Rattle.chanstate.specs.declared.verb.Verb.TheVariants as verb
+use Rattle.chanstate.specs.declared.channel_command.ChannelCommand.{ChannelCommand}
+use Rattle.chanstate.specs.declared.channel_command.ChannelCommand.TheVariants as verb
 use Rattle.chanstate.specs.Items.{items_by, verb_of}
 use Rattle.chanstate.specs.Steps.{after, steps}
 use Rattle.chanstate.proofs.FindLemmas.{pointwise-same}
 use Rattle.botcore.specs.declared.config.Config.{Config}
-use Rattle.botcore.specs.declared.cue.Cue.{Cue}
-use Rattle.botcore.specs.declared.cue.Cue.TheVariants as cue
+use Rattle.botcore.specs.declared.watched_command.WatchedCommand.{WatchedCommand}
+use Rattle.botcore.specs.declared.watched_command.WatchedCommand.TheVariants as cue
 use Rattle.botcore.specs.Automatic.{cue_of, watched, barred, lines_by}
 use Rattle.botcore.proofs.JoiningLemmas.{watched-after}
 use Rattle.botcore.proofs.automatic_laws.laws_of_automatic_lines.Goals as goal
@@ -31,14 +31,14 @@ second_of false false false false false is = cc
 join_verb : (command : List ℕ) → cue_of command ≡ cue.Join → verb_of command ≡ verb.Join
 join_verb command is = ap verb_of (pointwise-same command (codes "JOIN") (second_of _ _ _ _ _ is))
 
-alike : (c : Cue) (config : Config) (s : ChanState) (bans : List Ban) (last : Option ℕ) (welcomed : Bool) (message : Message)
+alike : (c : WatchedCommand) (config : Config) (s : ChanState) (bans : List Ban) (last : Option ℕ) (welcomed : Bool) (message : Message)
     → cue_of message.command ≡ c → c ≢ cue.Mode
     → lines_by c config (after message s) bans last welcomed message ≡ lines_by c config s bans last welcomed message
 alike cue.Ping config s bans last welcomed message is other = refl
 alike cue.Join config s bans last welcomed message is other =
     let from = source_of message.prefix in
     ap (flat_map (barred bans (unwrap_or last 0) from))
-    (ap (λ (v : Verb). watched from message.params (steps (items_by v from message.params) s)) (join_verb message.command is)
+    (ap (λ (v : ChannelCommand). watched from message.params (steps (items_by v from message.params) s)) (join_verb message.command is)
     ∙ watched-after from message.params s)
 alike cue.Mode config s bans last welcomed message is other = absurd (other refl)
 alike cue.RplWelcome config s bans last welcomed message is other = refl

@@ -1,4 +1,4 @@
-use Rattle.eggprocs.specs.declared.which.Which.TheVariants as which
+use Rattle.eggprocs.specs.declared.proc_name.ProcName.TheVariants as which
 use Rattle.std.specs.Prelude.{codes}
 use Rattle.eggprocs.specs.Args.{told_of}
 use Rattle.eggprocs.specs.Marks.{stick, unstick}

@@ -1,4 +1,4 @@
-use Rattle.eggprocs.specs.declared.which.Which.TheVariants as which
+use Rattle.eggprocs.specs.declared.proc_name.ProcName.TheVariants as which
 use Rattle.eggprocs.proofs.LawLemmas.{asks-no-change, is_master-lacks, plus_user-asks, minus_user-asks, plus_host-asks, minus_host-asks, chattr-asks, whois-asks, stick-asks, unstick-asks, bans-asks}
 use Rattle.eggprocs.proofs.laws.changes_want_a_master.Goals as goal
 

@@ -1,4 +1,4 @@
-use Rattle.eggprocs.specs.declared.which.Which.TheVariants as which
+use Rattle.eggprocs.specs.declared.proc_name.ProcName.TheVariants as which
 use Rattle.eggprocs.proofs.LawLemmas.{does-nothing, is_from_op-lacks, is_from_voice-lacks, autoop-lacks, op-refused, deop-refused, kick-refused, topic-refused, invite-refused, ban-refused, unban-refused, voice-refused, devoice-refused, opall-law}
 use Rattle.eggprocs.proofs.laws.commands_want_flags.Goals as goal
 

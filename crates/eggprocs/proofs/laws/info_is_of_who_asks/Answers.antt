@@ -1,4 +1,4 @@
-use Rattle.eggprocs.specs.declared.which.Which.TheVariants as which
+use Rattle.eggprocs.specs.declared.proc_name.ProcName.TheVariants as which
 use Rattle.eggprocs.proofs.LawLemmas.{asks-no-change, info-own, info-unknown}
 use Rattle.eggprocs.proofs.laws.info_is_of_who_asks.Goals as goal
 

@@ -1,7 +1,7 @@
 use Rattle.std.proofs.Common.{IsOk, sym, subst}
 use Rattle.sharewire.specs.declared.packet.Packet.{Packet}
 use Rattle.sharelink.specs.Shapes.{HasGoodRecords}
-use Rattle.botcore.specs.declared.event.Event.{Event}
+use Rattle.botcore.specs.declared.event.BotEvent.{BotEvent}
 use Rattle.botcore.specs.Steps.{IsGoodEvent}
 use Rattle.botworld.specs.declared.step.Step.{Step}
 use Rattle.botworld.specs.Net.{Net, part_of}
@@ -19,4 +19,4 @@ returns-in_ok-copy-in-Deliver-clause-good g c =
 pub returns-in_ok-copy-in-At-clause-good : goal.returns-in_ok-copy-in-At-clause-good
 returns-in_ok-copy-in-At-clause-good g c =
     let ok = subst (λ (step : Step). IsOk (part_of c.args.self.now step)) c.in-At.is c.requires in
-    subst (λ (e : Event). IsGoodEvent e) (sym c.in_ok-copy-in-At.ensures) (told_good c.args.self.now c.in-At.bot c.in-At.event ok)
+    subst (λ (e : BotEvent). IsGoodEvent e) (sym c.in_ok-copy-in-At.ensures) (told_good c.args.self.now c.in-At.bot c.in-At.event ok)

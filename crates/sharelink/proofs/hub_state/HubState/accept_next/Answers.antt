@@ -1,5 +1,5 @@
 use Rattle.std.proofs.Common.{◌∙◌, ◌+◌, ap, refl}
-use Rattle.botjournal.specs.declared.reply.Answer.TheVariants.{Taken}
+use Rattle.botjournal.specs.declared.reply.Verdict.TheVariants.{Taken}
 use Rattle.protocol.specs.HubRules.{with_reply}
 use Rattle.protocol.specs.Journals.{is_next}
 use Rattle.userfile.proofs.SoundLemmas.{first_none}

@@ -5,7 +5,7 @@ use Rattle.protocol.specs.Notes.Note.{Sent}
 use Rattle.protocol.specs.Journals.{leaf_meaning}
 use Rattle.protocol.specs.LeafRules.{LeafState, LeafRecord, LeafLoose, Out, may_go_out, with_request, leaf_folded}
 use Rattle.protocol.proofs.Requests.{out-next}
-use Rattle.sharelink.specs.declared.note.Note.TheVariants as told
+use Rattle.sharelink.specs.declared.note.LinkNote.TheVariants as told
 use Rattle.sharelink.specs.declared.answer.Answer.{Answer}
 use Rattle.sharelink.specs.Kept.{Journals, LeavesOwn}
 use Rattle.sharelink.specs.LeafLinks.{LeafEnd, Calls, leaf_end, pumped_up}

@@ -1,0 +1,135 @@
+// What is prepared for a message before it is taken in, so that taking it in allocates nothing.
+ghost use Rattle.std.specs.Prelude.{◌≡◌, ◌+◌, ◌≤◌, if◌then◌else◌, length, unwrap_or};
+ghost use Rattle.std.specs.Vec.{vec_len, vec_capacity};
+ghost use Rattle.chanstate.specs.Plans.{is_plain, settled};
+
+use crate::channel::Channel;
+use crate::channels::{Channels, put_each};
+use crate::state::ChanState;
+use crate::support::Support;
+use crate::take::Take;
+use bytetext::Text;
+use std::marker::Model;
+
+/// What is prepared for a message, by what the message changes.
+#[derive(Drop)]
+pub enum MessagePlan {
+    // Nothing has to be prepared.
+    Plain,
+    // The server has welcomed the bot under this nick.
+    Welcome(Text),
+    // A channel gets another topic.
+    Title {
+        channel: Text,
+        topic: Text,
+    },
+    // A member of a channel gets another address.
+    Address {
+        channel: Text,
+        nick: Text,
+        user: Text,
+        host: Text,
+    },
+    // The bot has joined channels.
+    Open(Opening),
+    // The members of channels change, and so does the bot's nick if `own` has one.
+    Seat {
+        own: Option<Text>,
+        takes: Vec<Take>,
+    },
+}
+
+/// Channels that were taken out of a state, with room for those that the bot joins. Contracts see the channels as they
+/// are, and as they will be.
+#[derive(Drop)]
+pub struct Opening {
+    pub(crate) held: Vec<Channel>,
+    pub(crate) opened: Vec<Channel>,
+}
+
+impl Model for Opening {
+    ghost use Rattle.std.specs.Prelude.{◌+◌, ◌≤◌, List, length};
+    ghost use Rattle.std.specs.Vec.{vec_len, vec_capacity};
+    ghost use Rattle.chanstate.specs.declared.channel.Channel.{Channel};
+    ghost use Rattle.chanstate.specs.Channels.{put_each_last};
+
+    ghost Value = { List Channel × List Channel };
+
+    ghost view = { λ o. (o.held.items, put_each_last o.opened.items o.held.items) };
+
+    ghost invariant = { λ o. vec_len o.held + length o.opened.items ≤ vec_capacity o.held };
+}
+
+impl Opening {
+    // Returns the channels as they will be if `done`, else as they are.
+    fn into_channels(self, done: bool) -> Channels
+        ensures { result ≡ (if done then self.1 else self.0) }
+    {
+        let Opening { mut held, opened } = self;
+        if done {
+            put_each(&mut held, opened);
+        }
+        Channels { items: held }
+    }
+}
+
+impl MessagePlan {
+    // Returns whether nothing had to be prepared.
+    pub(crate) fn is_plain(&self) -> bool
+        ensures { result ≡ is_plain self.now }
+    {
+        matches!(self, MessagePlan::Plain)
+    }
+}
+
+impl ChanState {
+    // Takes in what was prepared if `done`, else puts back what was taken out for it.
+    pub(crate) fn settle(&mut self, plan: MessagePlan, done: bool)
+        ensures { self.new ≡ settled done plan self.old }
+    {
+        match plan {
+            MessagePlan::Plain => {}
+            MessagePlan::Welcome(nick) => {
+                if done {
+                    self.nick = nick;
+                    self.channels.clear();
+                    self.support = Support::unannounced();
+                }
+            }
+            MessagePlan::Title { channel, topic } => {
+                if done {
+                    self.channels.set_topic(channel.as_bytes(), topic);
+                }
+            }
+            MessagePlan::Address {
+                channel,
+                nick,
+                user,
+                host,
+            } => {
+                if done {
+                    self.channels
+                        .place_at(channel.as_bytes(), nick.as_bytes(), user, host);
+                }
+            }
+            MessagePlan::Open(opening) => self.channels = opening.into_channels(done),
+            MessagePlan::Seat { own, takes } => {
+                self.channels.give(takes, done);
+                if done {
+                    self.rename_own(own);
+                }
+            }
+        }
+    }
+
+    // Gives the bot this nick, if there is one.
+    fn rename_own(&mut self, own: Option<Text>)
+        ensures nick { self.new.nick ≡ unwrap_or own self.old.nick }
+        ensures channels { self.new.channels ≡ self.old.channels }
+        ensures support { self.new.support ≡ self.old.support }
+    {
+        if let Some(nick) = own {
+            self.nick = nick;
+        }
+    }
+}

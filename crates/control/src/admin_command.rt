@@ -1,0 +1,38 @@
+// What a command asks for.
+use bytetext::Text;
+use settings::BindWords;
+use userfile::Change;
+
+/// What an operator asks a running bot for.
+#[derive(Drop)]
+pub enum AdminCommand {
+    /// To change the userfile. Nothing has checked that the handles, masks and channels are well formed.
+    Change(Change),
+    /// To show the version and the records.
+    Show,
+    /// To show the bot's status.
+    Status,
+    /// To add a bind. Nothing has checked that such a type exists, or that flags and mask are well formed.
+    Bind(BindWords),
+    /// To remove a bind.
+    Unbind(UnbindWords),
+    /// To send the server a line of 1 to 510 bytes.
+    Say(Text),
+    /// To rewrite the journal.
+    Compact,
+    /// To leave the server for the next.
+    Jump,
+    /// To end, and to send the server this text, which may be empty.
+    Die(Text),
+}
+
+/// The words of a bind to remove. None is empty.
+#[derive(Debug, Drop)]
+pub struct UnbindWords {
+    /// The type, as the table of binds names it.
+    pub kind: Text,
+    /// The proc that is called.
+    pub proc: Text,
+    /// The mask or keyword.
+    pub mask: Text,
+}

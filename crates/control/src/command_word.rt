@@ -1,0 +1,107 @@
+// The first words of commands.
+ghost use Rattle.std.specs.Prelude.{◌≡◌};
+ghost use Rattle.control.specs.Vocabulary.{spelling_of, word_named};
+
+/// The first word of a command.
+#[derive(Clone, Copy, Debug, PartialEq, Eq)]
+pub enum CommandWord {
+    /// A ban is added.
+    AddBan,
+    /// A hostmask is added to a user.
+    AddHost,
+    /// A user is added.
+    AddUser,
+    /// A bind is made.
+    Bind,
+    /// A user's flags as a bot are set.
+    Bot,
+    /// A user's flags on a channel are set.
+    Chan,
+    /// The journal is rewritten.
+    Compact,
+    /// A ban is removed.
+    DelBan,
+    /// A hostmask is removed from a user.
+    DelHost,
+    /// A user is removed.
+    DelUser,
+    /// The bot ends.
+    Die,
+    /// A user's global flags are set.
+    Global,
+    /// A user's info line is set.
+    Info,
+    /// The bot leaves its server for the next.
+    Jump,
+    /// The bot sends the server a line.
+    Say,
+    /// The records are shown.
+    Show,
+    /// The bot's status is shown.
+    Status,
+    /// A ban is made sticky, or no longer sticky.
+    Sticky,
+    /// A bind is removed.
+    Unbind,
+}
+
+// Every word.
+const ALL: [CommandWord; 19] = [
+    CommandWord::AddBan,
+    CommandWord::AddHost,
+    CommandWord::AddUser,
+    CommandWord::Bind,
+    CommandWord::Bot,
+    CommandWord::Chan,
+    CommandWord::Compact,
+    CommandWord::DelBan,
+    CommandWord::DelHost,
+    CommandWord::DelUser,
+    CommandWord::Die,
+    CommandWord::Global,
+    CommandWord::Info,
+    CommandWord::Jump,
+    CommandWord::Say,
+    CommandWord::Show,
+    CommandWord::Status,
+    CommandWord::Sticky,
+    CommandWord::Unbind,
+];
+
+impl CommandWord {
+    /// Returns the word as operators spell it.
+    pub fn spelling(self) -> &'static str
+        ensures { result.now ≡ spelling_of self }
+    {
+        match self {
+            CommandWord::AddBan => "addban",
+            CommandWord::AddHost => "addhost",
+            CommandWord::AddUser => "adduser",
+            CommandWord::Bind => "bind",
+            CommandWord::Bot => "bot",
+            CommandWord::Chan => "chan",
+            CommandWord::Compact => "compact",
+            CommandWord::DelBan => "delban",
+            CommandWord::DelHost => "delhost",
+            CommandWord::DelUser => "deluser",
+            CommandWord::Die => "die",
+            CommandWord::Global => "global",
+            CommandWord::Info => "info",
+            CommandWord::Jump => "jump",
+            CommandWord::Say => "say",
+            CommandWord::Show => "show",
+            CommandWord::Status => "status",
+            CommandWord::Sticky => "sticky",
+            CommandWord::Unbind => "unbind",
+        }
+    }
+
+    /// Returns the word that `spelling` spells, byte for byte.
+    pub fn named(spelling: &[u8]) -> Option<CommandWord>
+        ensures { result ≡ word_named spelling.now }
+    {
+        ALL.iter()
+            .copied()
+            .find(|word| word.spelling().as_bytes() == spelling)
+    }
+}

@@ -1,0 +1,186 @@
+// The names of the procs.
+ghost use Rattle.std.specs.Prelude.{◌≡◌};
+ghost use Rattle.eggprocs.specs.Procs.{name_of, code_by};
+
+use procstore::Code;
+
+/// The number of procs.
+pub const PROC_COUNT: usize = 30;
+
+/// Every proc, in the order in which [`store`](crate::store) adds them.
+pub const EVERY: [ProcName; PROC_COUNT] = [
+    ProcName::Quiet,
+    ProcName::Stop,
+    ProcName::AddUser,
+    ProcName::Tick,
+    ProcName::Tell,
+    ProcName::Echo,
+    ProcName::Op,
+    ProcName::Deop,
+    ProcName::Voice,
+    ProcName::Devoice,
+    ProcName::AutoOp,
+    ProcName::Kick,
+    ProcName::Topic,
+    ProcName::Invite,
+    ProcName::Ban,
+    ProcName::Unban,
+    ProcName::Lift,
+    ProcName::PlusUser,
+    ProcName::MinusUser,
+    ProcName::PlusHost,
+    ProcName::MinusHost,
+    ProcName::Chattr,
+    ProcName::Whois,
+    ProcName::Info,
+    ProcName::Greet,
+    ProcName::Stick,
+    ProcName::Unstick,
+    ProcName::Bans,
+    ProcName::Seen,
+    ProcName::OpAll,
+];
+
+/// A proc of the programs. The crate's first page says what each is for.
+#[derive(Clone, Copy, Debug)]
+pub enum ProcName {
+    /// `quiet`: requests nothing.
+    Quiet,
+    /// `stop`: requests nothing, and answers 1.
+    Stop,
+    /// `adduser`: requests a new user.
+    AddUser,
+    /// `tick`: requests a call of `quiet`.
+    Tick,
+    /// `tell`: sends a text to the hub.
+    Tell,
+    /// `echo`: repeats a text.
+    Echo,
+    /// `op`: makes somebody an operator of a channel.
+    Op,
+    /// `deop`: the reverse of `op`.
+    Deop,
+    /// `voice`: gives somebody voice on a channel.
+    Voice,
+    /// `devoice`: the reverse of `voice`.
+    Devoice,
+    /// `autoop`: gives op or voice to a person who joins.
+    AutoOp,
+    /// `kick`: kicks somebody from a channel.
+    Kick,
+    /// `topic`: sets a channel's topic.
+    Topic,
+    /// `invite`: invites somebody to a channel.
+    Invite,
+    /// `ban`: bans a mask from a channel.
+    Ban,
+    /// `unban`: the reverse of `ban`.
+    Unban,
+    /// `lift`: ends a ban on its channel, for the timer that `ban` requests.
+    Lift,
+    /// `+user`: requests a new user.
+    PlusUser,
+    /// `-user`: requests the end of a user.
+    MinusUser,
+    /// `+host`: requests a new hostmask of a user.
+    PlusHost,
+    /// `-host`: requests the end of a user's hostmask.
+    MinusHost,
+    /// `chattr`: requests other flags of a user.
+    Chattr,
+    /// `whois`: says who a user is.
+    Whois,
+    /// `info`: says the caller's info line, or requests another one.
+    Info,
+    /// `greet`: says the info line of a person who joins.
+    Greet,
+    /// `stick`: requests that a ban is sticky.
+    Stick,
+    /// `unstick`: the reverse of `stick`.
+    Unstick,
+    /// `bans`: lists the bans.
+    Bans,
+    /// `seen`: says whether somebody is here.
+    Seen,
+    /// `opall`: gives op and voice to the members of a channel when the bot gets op there.
+    OpAll,
+}
+
+impl ProcName {
+    /// Returns the name under which a store has the proc.
+    pub fn name(self) -> &'static [u8]
+        ensures { result.now ≡ name_of self }
+    {
+        match self {
+            ProcName::Quiet => b"quiet",
+            ProcName::Stop => b"stop",
+            ProcName::AddUser => b"adduser",
+            ProcName::Tick => b"tick",
+            ProcName::Tell => b"tell",
+            ProcName::Echo => b"echo",
+            ProcName::Op => b"op",
+            ProcName::Deop => b"deop",
+            ProcName::Voice => b"voice",
+            ProcName::Devoice => b"devoice",
+            ProcName::AutoOp => b"autoop",
+            ProcName::Kick => b"kick",
+            ProcName::Topic => b"topic",
+            ProcName::Invite => b"invite",
+            ProcName::Ban => b"ban",
+            ProcName::Unban => b"unban",
+            ProcName::Lift => b"lift",
+            ProcName::PlusUser => b"+user",
+            ProcName::MinusUser => b"-user",
+            ProcName::PlusHost => b"+host",
+            ProcName::MinusHost => b"-host",
+            ProcName::Chattr => b"chattr",
+            ProcName::Whois => b"whois",
+            ProcName::Info => b"info",
+            ProcName::Greet => b"greet",
+            ProcName::Stick => b"stick",
+            ProcName::Unstick => b"unstick",
+            ProcName::Bans => b"bans",
+            ProcName::Seen => b"seen",
+            ProcName::OpAll => b"opall",
+        }
+    }
+
+    // The code of the proc's answers.
+    #[tactic(auto, unfolding(crate::specs::Procs::code_by))]
+    pub(crate) fn code(self) -> Code
+        ensures { result ≡ code_by self }
+    {
+        match self {
+            ProcName::Stop => Code::One,
+            ProcName::Quiet
+            | ProcName::AddUser
+            | ProcName::Tick
+            | ProcName::Tell
+            | ProcName::Echo
+            | ProcName::Op
+            | ProcName::Deop
+            | ProcName::Voice
+            | ProcName::Devoice
+            | ProcName::AutoOp
+            | ProcName::Kick
+            | ProcName::Topic
+            | ProcName::Invite
+            | ProcName::Ban
+            | ProcName::Unban
+            | ProcName::Lift
+            | ProcName::PlusUser
+            | ProcName::MinusUser
+            | ProcName::PlusHost
+            | ProcName::MinusHost
+            | ProcName::Chattr
+            | ProcName::Whois
+            | ProcName::Info
+            | ProcName::Greet
+            | ProcName::Stick
+            | ProcName::Unstick
+            | ProcName::Bans
+            | ProcName::Seen
+            | ProcName::OpAll => Code::Zero,
+        }
+    }
+}

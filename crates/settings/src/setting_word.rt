@@ -1,0 +1,87 @@
+// The first words of lines.
+ghost use Rattle.std.specs.Prelude.{◌≡◌};
+ghost use Rattle.settings.specs.Vocabulary.{spelling_of, word_named};
+
+/// The first word of a line with a setting.
+#[derive(Clone, Copy, Debug, PartialEq, Eq)]
+pub enum SettingWord {
+    /// The account that the bot authenticates as.
+    Account,
+    /// A bind.
+    Bind,
+    /// Which bot it is.
+    Bot,
+    /// A channel to join.
+    Channel,
+    /// The bot's own folder.
+    Data,
+    /// Whether `msg` and `pub` binds ignore a text for which a `msgm` or `pubm` proc was called.
+    Exclusive,
+    /// Where the hub listens.
+    Hub,
+    /// Where the bot listens.
+    Listen,
+    /// What is logged.
+    Log,
+    /// The bot's nick.
+    Nick,
+    /// A line for the server.
+    Perform,
+    /// The file of the secret that both ends of the link know.
+    Secret,
+    /// A server to try.
+    Server,
+    /// How far its clock is ahead of UTC at each moment.
+    Zone,
+}
+
+// Every word.
+const ALL: [SettingWord; 14] = [
+    SettingWord::Account,
+    SettingWord::Bind,
+    SettingWord::Bot,
+    SettingWord::Channel,
+    SettingWord::Data,
+    SettingWord::Exclusive,
+    SettingWord::Hub,
+    SettingWord::Listen,
+    SettingWord::Log,
+    SettingWord::Nick,
+    SettingWord::Perform,
+    SettingWord::Secret,
+    SettingWord::Server,
+    SettingWord::Zone,
+];
+
+impl SettingWord {
+    /// Returns the word as files spell it.
+    pub fn spelling(self) -> &'static str
+        ensures { result.now ≡ spelling_of self }
+    {
+        match self {
+            SettingWord::Account => "account",
+            SettingWord::Bind => "bind",
+            SettingWord::Bot => "bot",
+            SettingWord::Channel => "channel",
+            SettingWord::Data => "data",
+            SettingWord::Exclusive => "exclusive",
+            SettingWord::Hub => "hub",
+            SettingWord::Listen => "listen",
+            SettingWord::Log => "log",
+            SettingWord::Nick => "nick",
+            SettingWord::Perform => "perform",
+            SettingWord::Secret => "secret",
+            SettingWord::Server => "server",
+            SettingWord::Zone => "zone",
+        }
+    }
+
+    /// Returns the word that `spelling` spells, byte for byte.
+    pub fn named(spelling: &[u8]) -> Option<SettingWord>
+        ensures { result ≡ word_named spelling.now }
+    {
+        ALL.iter()
+            .copied()
+            .find(|word| word.spelling().as_bytes() == spelling)
+    }
+}
