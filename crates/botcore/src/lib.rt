@@ -18,9 +18,9 @@
 //! ```text
 //! let mut bot = Bot::create(alloc, config, first, second)?;
 //! let asked = NewBind { kind: BindKind::Msg, flags, mask, proc };
-//! bot.step(alloc, &store, Event::Bind(asked));            // Done, Bound(1)
+//! bot.step(alloc, &store, BotEvent::Bind(asked));            // Done, Bound(1)
 //! let line = read_line(alloc, b":a!b@c PRIVMSG egg0 :hi dave")?;
-//! let report = bot.step(alloc, &store, Event::Line(line));
+//! let report = bot.step(alloc, &store, BotEvent::Line(line));
 //! report.calls.as_slice()                                  // the calls that were made, each with its reply
 //! ```
 #![tactic(auto)]
