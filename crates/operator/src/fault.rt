@@ -1,9 +1,8 @@
 // Why a bot did not answer, or has nothing to show.
 use botfolder::{FolderError, FolderFault};
 use bytejournal::JournalFault;
-use bytetext::{Failure, NoMemory};
+use bytetext::Failure;
 use control::{CommandAdvice, CommandError};
-use std::alloc::AllocError;
 use std::io;
 use std::io::ErrorKind;
 use thiserror::Error;

@@ -7,7 +7,7 @@ use crate::seen::{Seen, done, yes};
 use botfolder::{Begun, BotFolder, FolderError, FolderFault, Stopped, read_stopped};
 use bytejournal::Journal;
 use bytetext::Failure;
-use disks::{FileDisk, Pair};
+use disks::Pair;
 use std::fs;
 use std::fs::{DirBuilder, File};
 use std::os::unix::fs::DirBuilderExt;

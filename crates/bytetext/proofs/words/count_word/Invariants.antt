@@ -1,5 +1,5 @@
 use Rattle.std.proofs.Common.{◌≡◌, ◌≤◌, ◌-◌, ◌<◌, ℕ, false, eqb, length, get_or}
-use Rattle.botcalls.proofs.words.count_word.Given as goal
+use Rattle.bytetext.proofs.words.count_word.Given as goal
 
 -- no byte so far is a space
 abbrev pub invariant-loop-count : goal.invariant-loop-count

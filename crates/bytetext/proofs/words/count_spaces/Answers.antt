@@ -1,7 +1,7 @@
 use Rattle.std.proofs.Common.{◌≡◌, false, eqb, get_or, not, ap, sym, arith}
 use Rattle.std.proofs.lemmas.List.Sums.{position_or_len_is}
 use Rattle.std.proofs.lemmas.Bool.Decides.{nat_tests}
-use Rattle.eggprocs.proofs.args.count_spaces.Goals as goal
+use Rattle.bytetext.proofs.words.count_spaces.Goals as goal
 
 pub returns-else-text-count-eq32-clause-value : goal.returns-else-text-count-eq32-clause-value
 returns-else-text-count-eq32-clause-value c =

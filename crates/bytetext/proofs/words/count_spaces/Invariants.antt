@@ -1,5 +1,5 @@
 use Rattle.std.proofs.Common.{◌≡◌, ◌≤◌, ◌-◌, ◌<◌, ℕ, true, eqb, length, get_or}
-use Rattle.eggprocs.proofs.args.count_spaces.Given as goal
+use Rattle.bytetext.proofs.words.count_spaces.Given as goal
 
 -- each byte so far is a space
 abbrev pub invariant-loop-count : goal.invariant-loop-count

@@ -1,7 +1,7 @@
 use Rattle.std.proofs.Common.{◌≡◌, true, eqb, get_or, sym, arith}
 use Rattle.std.proofs.lemmas.List.Sums.{position_or_len_is}
 use Rattle.std.proofs.lemmas.Bool.Decides.{nat_tests}
-use Rattle.chanstate.proofs.speech.count_word.Goals as goal
+use Rattle.bytetext.proofs.words.count_word.Goals as goal
 
 pub returns-else-text-count-ne32-clause-value : goal.returns-else-text-count-ne32-clause-value
 returns-else-text-count-ne32-clause-value c =
