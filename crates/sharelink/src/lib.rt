@@ -102,6 +102,7 @@ mod hub_record;
 mod hub_state;
 mod journaled;
 mod kept;
+mod laws;
 mod leaf_link;
 mod leaf_packets;
 mod leaf_receiving;
@@ -118,24 +119,11 @@ mod state_fault;
 mod texts;
 mod walk;
 
-pub use crate::accepted::AcceptedChange;
 pub use crate::answer::{Answer, Outgoing, Outgoings};
 pub use crate::bot_link::BotLink;
-pub use crate::end_state::EndState;
 pub use crate::error::{LinkError, LinkFault};
-pub use crate::fields::know_change;
-pub use crate::hub_link::HubLink;
-pub use crate::hub_record::HubRecord;
-pub use crate::hub_state::HubState;
-pub use crate::kept::Kept;
-pub use crate::leaf_link::LeafLink;
-pub use crate::leaf_record::LeafRecord;
-pub use crate::leaf_replies::LeafReplies;
-pub use crate::leaf_state::LeafState;
+pub use crate::laws::law_of_left_disks;
 pub use crate::note::LinkNote;
-pub use crate::records::userfile_of;
-pub use crate::state_fault::{StateError, StateFault};
-pub use crate::texts::{text_by, text_fault};
 pub use sharewire::Packet;
 
 /// The most leaves that a hub has.
