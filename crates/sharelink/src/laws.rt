@@ -6,10 +6,11 @@ ghost use Rattle.sharelink.specs.BotOpening.{FindsNone};
 
 use disks::Disk;
 
-/// The law of a bot whose process ends at any moment. The function does nothing: its clause holds for any disks.
+/// The law of a bot whose process ended between two calls, or during a call of the open bot. The function does nothing:
+/// its clause holds for any disks.
 ///
 /// The clauses `left` of [`know_disks`](crate::BotLink::know_disks) and [`into_disks`](crate::BotLink::into_disks), and
-/// those of each call that uses a disk, say that whatever a crash leaves is the bot's.
+/// `row` of each call that uses a disk, say that whatever a crash leaves is the bot's.
 pub fn law_of_left_disks<D: Disk>()
     // Opening the disks that a bot left, as that bot, never returns `NotAJournal`.
     ensures { (link : BotEnd) (first second first' second' : D) → AreOf link (D.state first).seen (D.state second).seen
