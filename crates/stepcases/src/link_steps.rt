@@ -14,6 +14,21 @@ use recordtext::change_of;
 use sharewire::{Packet, WireReader};
 use std::alloc::Global;
 
+/// Plays the step `line` with `net`, and appends what it answers to `out`.
+///
+/// # Errors
+/// `Refused` if `line` is no step of a net, and `NoMemory` if an allocation fails.
+pub fn play(alloc: Global, net: &mut Net, line: &[u8], out: &mut Vec<u8>) -> Result<(), CaseError> {
+    let (word, rest) = cut(line, b' ');
+    let (first, rest) = cut(rest, b' ');
+    match step_of(word)? {
+        Step::AtBot(step) => play_at(alloc, net, number(first)?, step, rest, out),
+        Step::Check => check(net, out),
+        Step::Deliver => deliver(alloc, net, number(first)?, out),
+        Step::Leaves => begin(alloc, net, number(first)?),
+    }
+}
+
 // What a step does.
 #[derive(Clone, Copy)]
 enum Step {
@@ -55,21 +70,6 @@ const STEPS: [(&[u8], Step); 14] = [
     (b"show", Step::AtBot(AtBot::Show)),
     (b"stop", Step::AtBot(AtBot::Stop)),
 ];
-
-/// Plays the step `line` with `net`, and appends what it answers to `out`.
-///
-/// # Errors
-/// `Refused` if `line` is no step of a net, and `NoMemory` if an allocation fails.
-pub fn play(alloc: Global, net: &mut Net, line: &[u8], out: &mut Vec<u8>) -> Result<(), CaseError> {
-    let (word, rest) = cut(line, b' ');
-    let (first, rest) = cut(rest, b' ');
-    match step_of(word)? {
-        Step::AtBot(step) => play_at(alloc, net, number(first)?, step, rest, out),
-        Step::Check => check(net, out),
-        Step::Deliver => deliver(alloc, net, number(first)?, out),
-        Step::Leaves => begin(alloc, net, number(first)?),
-    }
-}
 
 fn step_of(word: &[u8]) -> Result<Step, CaseError> {
     match STEPS.iter().find(|(name, _)| *name == word) {
