@@ -84,7 +84,7 @@ fn begin<R>(
     key: Option<Key>,
 ) -> Result<Process, RunError>
 where
-    R: AllocGlobal + Net + Files<File = File> + RandomSource,
+    R: AllocGlobal + Net + Files<File = File> + RandomSource + Clock,
     requires some { 0 < length settings.now.servers }
     requires known { IsKnownWhereWanted settings.now.station key }
     ensures station { IfOk result (λ process. IsLinkedAs settings.now.station process.others.links) }
