@@ -7,7 +7,7 @@ ghost use Rattle.botrun.specs.Askers.{answered, askers_after, noted, operator_if
 use crate::answers::of_change;
 use crate::asks::{Asker, Asks};
 use crate::entry::Entry;
-use crate::log::log;
+use net::log;
 use crate::netting::requests_in;
 use crate::noticing::notice;
 use crate::operators::Operators;

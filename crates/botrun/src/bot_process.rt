@@ -7,7 +7,7 @@ use crate::bases::Bases;
 use crate::checking::check;
 use crate::ending::{RunError, of_folder};
 use crate::entry::Entry;
-use crate::log::log;
+use net::log;
 use crate::netting::{count_out, keep_net, links_of, secret_of};
 use crate::operators::Operators;
 use crate::others::Others;

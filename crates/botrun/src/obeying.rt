@@ -5,7 +5,7 @@ ghost use Rattle.bytetext.specs.declared.moment.TheConstants.{MOMENTS_END};
 use crate::answers::of_advice;
 use crate::ending::RunError;
 use crate::entry::Entry;
-use crate::log::log;
+use net::log;
 use crate::process::Process;
 use bytetext::Failure;
 use control::AdminCommand;

@@ -3,7 +3,7 @@ ghost use Rattle.std.specs.Prelude.{◌<◌, length, vec_len, IfSome};
 
 use crate::asks::Asks;
 use crate::entry::Entry;
-use crate::log::log;
+use net::log;
 use bytetext::NoMemory;
 use control::MAX_COMMAND;
 use net::{Bounds, DoorFault, Registry, UnixDoor, UnixSocket, Wire};

@@ -4,7 +4,7 @@ ghost use Rattle.serverlink.specs.Talks.{talk_in};
 ghost use Rattle.botrun.specs.Passing.{told_all, told_of};
 
 use crate::entry::Entry;
-use crate::log::log;
+use net::log;
 use botcore::{Faults, Report};
 use bytetext::NoMemory;
 use serverlink::IrcConnection;

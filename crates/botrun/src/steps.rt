@@ -8,7 +8,7 @@ ghost use Rattle.botrun.specs.Taking.{Hears, TakesTurn, TakesChanges};
 
 use crate::ending::RunError;
 use crate::entry::Entry;
-use crate::log::log;
+use net::log;
 use crate::outcome::{Outcome, outcome_of};
 use crate::passing::pass_all;
 use crate::process::Process;

@@ -3,7 +3,7 @@ ghost use Rattle.std.specs.Prelude.{◌≡◌};
 ghost use Rattle.botrun.specs.Sums.{is_due, told_at, untold};
 
 use crate::entry::Entry;
-use crate::log::log;
+use net::log;
 use crate::process::Process;
 use crate::record_sum::sum_of;
 use bytetext::NoMemory;

@@ -34,20 +34,22 @@
 //!
 //! A connection: a stream, the bytes heard from it and not taken yet, and the bytes still to be sent to it.
 //!
-//! A [`Wire`] stands between a stream that never blocks and a bot. [`read`](Wire::read) hears a piece of what the
-//! stream gives, and [`take_heard`](Wire::take_heard) hands on what was heard. [`tell`](Wire::tell) queues bytes for
-//! the stream, and [`send`](Wire::send) offers it the unsent bytes. Neither side grows above its bound: if the peer
-//! gives more, the wire is not read until what was heard is taken; if the peer takes too little, the wire is over.
+//! A [`Connection`] stands between a stream that never blocks and a bot. [`read`](Connection::read) hears pieces of what
+//! the stream gives, and [`take_heard`](Connection::take_heard) hands on what was heard. [`tell`](Connection::tell)
+//! queues bytes for the stream, and [`send`](Connection::send) offers it the unsent bytes. Neither side grows above its
+//! bound: if the peer gives more, the connection is not read until what was heard is taken; if the peer takes too
+//! little, the connection is over. A read that would block is not repeated until [`wake`](Connection::wake) says that
+//! the poll has named the connection.
 //!
 //! Whatever the stream does, each byte that it gave is handed on once and in order, and what it took is a prefix of
 //! what was told. A [`Stream`](streams::Stream) keeps account of both, so the promise covers a socket too.
 //!
 //! ```text
-//! let mut wire = Wire::new(alloc, stream, Bounds { heard: 65_536, unsent: 65_536 });
-//! wire.read()?;                                    // Given::Bytes(12)
-//! let bytes = wire.take_heard(alloc);
-//! wire.tell(b"PONG :a\r\n")?;
-//! wire.send();                                     // Taken::Bytes(9)
+//! let mut connection = Connection::new(alloc, stream, Bounds { heard: 65_536, unsent: 65_536 });
+//! connection.read(16)?;                            // true: bytes arrived
+//! let bytes = connection.take_heard(alloc);
+//! connection.tell(b"PONG :a", b"\r\n")?;           // true: they fit
+//! connection.send();                               // true: the stream took some
 //! ```
 //!
 //! Sockets that never block: connections as streams, listeners, and the wait for any of them.
@@ -98,25 +100,27 @@
 #![tactic(auto)]
 
 mod address;
-mod answers;
+mod answer;
+mod connection;
 mod dialling;
 mod door;
+mod logging;
 mod redial;
 mod socket;
 mod tcp;
 mod timeline;
 mod unix;
 mod watch;
-mod wire;
 
 pub use crate::address::{DialFault, MAX_ADDRESSES, literal};
+pub use crate::connection::{Bounds, Connection};
 pub use crate::dialling::{Dialled, Dialling, law_of_turns};
 pub use crate::door::DoorFault;
+pub use crate::logging::log;
 pub use crate::redial::{FIRST_WAIT, Redial};
 pub use crate::socket::Socket;
 pub use crate::tcp::{TcpDoor, TcpSocket};
 pub use crate::timeline::Timeline;
 pub use crate::unix::{UnixDoor, UnixSocket};
 pub use crate::watch::Watch;
-pub use crate::wire::{Bounds, Wire};
 pub use mio::Registry;

@@ -14,7 +14,7 @@ use crate::inbox::Inbox;
 use crate::key::Key;
 use crate::leaf_side::LeafSide;
 use crate::link_wire::LinkWire;
-use crate::log::log;
+use net::log;
 use crate::meeting::{Hub, Stage};
 use crate::net_number::NetNumber;
 use crate::nonce::Nonce;

@@ -15,7 +15,7 @@ use crate::inbox::Inbox;
 use crate::key::Key;
 use crate::link_wire::LinkWire;
 use crate::links::FIRST_TOKEN;
-use crate::log::log;
+use net::log;
 use crate::net_number::NetNumber;
 use crate::nonce::Nonce;
 use crate::seat::{Seat, tell_place};

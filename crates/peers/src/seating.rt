@@ -7,7 +7,7 @@ use crate::entry::Entry;
 use crate::gone::Gone;
 use crate::guest::Heeded;
 use crate::hub_links::{HubLinks, Who};
-use crate::log::log;
+use net::log;
 use crate::seat::Seat;
 use bytetext::NoMemory;
 use std::alloc::Global;
