@@ -1,13 +1,12 @@
 //! Sockets of this machine that never block: the small IRC server with its clients, and the sharing link.
 //!
-//! A [`Peer`] is a connection with the bytes that were read and the bytes that are still to be written. [`House`] is
-//! the server of [`miniircd`] on a port, with its connections and with guests that are held in memory. A [`FramePeer`]
+//! A [`Peer`] is one side of a [`Connection`](net::Connection) over TCP. [`House`] is the server of [`miniircd`] on a port, with its connections and with guests that are held in memory. A [`FramePeer`]
 //! is a connection that carries packets as frames ([`peers`]). A [`LinkHouse`] is the hub's side of the link, with
 //! its listener, and an [`HubSocket`] is a leaf's side.
 //!
 //! A program drives each of them in turns: accept new connections, read what has arrived, process it, and send what
 //! waits. Only [`House::wait`] waits for sockets. A program calls it between two turns, and it waits for all sockets of
-//! its [`Waiting`] at once. A peer that is slow, gone or sends garbage is disconnected, and the others go on. If both
+//! its [`Watch`](net::Watch) at once. A peer that is slow, gone or sends garbage is disconnected, and the others go on. If both
 //! sides of a connection are in one program, [`Peer::is_even_with`] returns whether nothing is on its way between them.
 //!
 //! No contract says what sockets give and take, since the system decides that. But each packet that arrives was read
@@ -70,7 +69,6 @@ mod running;
 mod saying;
 mod socket_fault;
 mod turn;
-mod waiting;
 
 pub use crate::addresses::local;
 pub use crate::error::LiveError;
@@ -86,7 +84,6 @@ pub use crate::reading::LiveScript;
 pub use crate::reason::{LiveReason, LiveVerb};
 pub use crate::running::live;
 pub use crate::socket_fault::SocketFault;
-pub use crate::waiting::Waiting;
 
 /// The maximum number of leaves of a live script.
 pub const MAX_LEAVES: u16 = 8;
