@@ -52,7 +52,6 @@ mod checking;
 mod deeds;
 mod ending;
 mod entry;
-mod log;
 mod netting;
 mod noticing;
 mod obeying;

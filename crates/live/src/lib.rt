@@ -12,8 +12,8 @@
 //!   one.
 //! - [`House`] is the server of [`miniircd`] on a port, with its connections and with guests that are held in memory.
 //! - [`LinkHouse`] is the hub's side of the link, with its listener, and a [`HubSocket`] is a leaf's side.
-//! - A [`Peer`] is a connection with the bytes that were read and the bytes that are still to be written. A
-//!   [`FramePeer`] is a connection that carries packets as frames ([`peers`]).
+//! - A [`Peer`] is one side of a [`Connection`](net::Connection) over TCP. A [`FramePeer`] is a connection that
+//!   carries packets as frames ([`peers`]).
 //!
 //! # Commands
 //!
@@ -43,7 +43,7 @@
 //! After a turn that moved nothing, the next one would move nothing either until the system has carried something or a
 //! pump is due. So while something is on its way between two sockets, one wait for all sockets comes before the next
 //! turn: until one of them has something to do, or for 100 milliseconds. [`House::wait`] waits for all sockets of its
-//! [`Waiting`] at once, and nothing else waits. [`Peer::is_even_with`] returns whether nothing is on its way between
+//! [`Watch`](net::Watch) at once, and nothing else waits. [`Peer::is_even_with`] returns whether nothing is on its way between
 //! two sides of a connection. If nothing is on its way, or the wait timed out, the turns before the next pump count as
 //! made. So an idle botnet makes one turn in 64.
 //!
@@ -73,7 +73,6 @@ mod running;
 mod saying;
 mod socket_fault;
 mod turn;
-mod waiting;
 
 pub use crate::addresses::local;
 pub use crate::error::LiveError;
@@ -89,7 +88,6 @@ pub use crate::reading::LiveScript;
 pub use crate::reason::{LiveReason, LiveVerb};
 pub use crate::running::live;
 pub use crate::socket_fault::SocketFault;
-pub use crate::waiting::Waiting;
 
 /// The maximum number of leaves of a live script.
 pub const MAX_LEAVES: u16 = 8;

@@ -4,7 +4,7 @@
 //! - A [`TcpSocket`] is a connection over TCP, and a [`UnixSocket`] one at a path of this machine; each is a
 //!   [`Stream`](streams::Stream). A [`TcpDoor`] and a [`UnixDoor`] accept connections. A [`Watch`] waits until one of
 //!   them is ready, and names it by the token under which it was opened.
-//! - A [`Wire`] is a connection with the bytes that it heard and the bytes still to be sent, each within a bound.
+//! - A [`Connection`] holds a stream with the bytes heard from it and the bytes still to be sent, each within a bound.
 //! - A [`Redial`] decides when a lost connection is tried again.
 //! - A [`Dialling`] decides which server of a list is tried next, at which of its addresses, and when.
 //! - A [`Timeline`] reads the clocks, and its readings never go back.
@@ -14,12 +14,13 @@
 //! let mut dialling = Dialling::new(0, 300, servers.len());    // bot 0, which waits at most 300 seconds
 //! let server = &servers[dialling.place()];
 //! let dialled = dialling.connect(&rt, watch.registry(), 1, server.host, server.port)?;
-//! let mut wire = Wire::new(alloc, dialled.socket, Bounds { heard: 65_536, unsent: 65_536 });
+//! let mut server = Connection::new(alloc, dialled.socket, Bounds { heard: 65_536, unsent: 65_536 });
 //! watch.wait(1_000)?;                                         // at most a second
-//! wire.read()?;                                               // Given::Bytes(12)
-//! let bytes = wire.take_heard(alloc);
-//! wire.tell(b"PONG :a\r\n")?;
-//! wire.send();                                                // Taken::Bytes(9)
+//! server.wake();                                              // if a token of the wait names it
+//! server.read(16)?;                                           // true: bytes arrived
+//! let bytes = server.take_heard(alloc);
+//! server.tell(b"PONG :a", b"\r\n")?;                          // true: they fit
+//! server.send();                                              // true: the stream took some
 //! dialling.lost(now);                                         // it is over: the next server, in two seconds
 //! ```
 //!
@@ -33,10 +34,12 @@
 //!
 //! # Buffers
 //!
-//! A [`Wire`] stands between a stream and a bot. [`read`](Wire::read) hears a piece of what the stream gives, and
-//! [`take_heard`](Wire::take_heard) hands on what was heard. [`tell`](Wire::tell) queues bytes for the stream, and
-//! [`send`](Wire::send) offers it the unsent bytes. Neither side grows above its bound: if the peer gives more, the
-//! wire is not read until the caller takes what was heard; if the peer takes too little, the wire is over.
+//! A [`Connection`] stands between a stream and a bot. [`read`](Connection::read) hears pieces of what the stream
+//! gives, and [`take_heard`](Connection::take_heard) hands on what was heard. [`tell`](Connection::tell) queues bytes
+//! for the stream, and [`send`](Connection::send) offers it the unsent bytes. Neither side grows above its bound: if
+//! the peer gives more, the connection is not read until the caller takes what was heard; if the peer takes too little,
+//! the connection is over. A read that would block is not repeated until [`wake`](Connection::wake) says that the poll
+//! has named the connection.
 //!
 //! Whatever the stream does, each byte that it gave is handed on once and in order, and what it took is a prefix of
 //! what was queued.
@@ -65,25 +68,27 @@
 #![tactic(auto)]
 
 mod address;
-mod answers;
+mod answer;
+mod connection;
 mod dialling;
 mod door;
+mod logging;
 mod redial;
 mod socket;
 mod tcp;
 mod timeline;
 mod unix;
 mod watch;
-mod wire;
 
 pub use crate::address::{DialFault, MAX_ADDRESSES, literal};
+pub use crate::connection::{Bounds, Connection};
 pub use crate::dialling::{Dialled, Dialling, law_of_turns};
 pub use crate::door::DoorFault;
+pub use crate::logging::log;
 pub use crate::redial::{FIRST_WAIT, Redial};
 pub use crate::socket::Socket;
 pub use crate::tcp::{TcpDoor, TcpSocket};
 pub use crate::timeline::Timeline;
 pub use crate::unix::{UnixDoor, UnixSocket};
 pub use crate::watch::Watch;
-pub use crate::wire::{Bounds, Wire};
 pub use mio::Registry;

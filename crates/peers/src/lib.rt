@@ -97,7 +97,6 @@ mod late;
 mod leaf_side;
 mod link_wire;
 mod links;
-mod log;
 mod meeting;
 mod net_number;
 mod nonce;

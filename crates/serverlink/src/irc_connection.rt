@@ -4,12 +4,11 @@ ghost use Rattle.bytetext.specs.declared.moment.TheConstants.{MOMENTS_END};
 
 use crate::configured_channels::ConfiguredChannels;
 use crate::entry::{Entry, Fact};
-use crate::log::log;
 use crate::own_lines::OwnLines;
 use crate::session::Session;
 use crate::why::Why;
 use bytetext::{NoMemory, TryCopy};
-use net::{Dialled, Dialling, Registry};
+use net::{Dialled, Dialling, Registry, log};
 use settings::{Server, Settings};
 use std::alloc::Global;
 use std::net::Net;
@@ -46,7 +45,8 @@ impl IrcConnection {
     ghost use Rattle.std.specs.Prelude.{◌≡◌, ◌==◌, true, Some, [], option_map, OnOk, MatchOption};
     ghost use Rattle.std.specs.List.{list_any};
     ghost use Rattle.net.specs.Dials.{lost};
-    ghost use Rattle.serverlink.specs.Talks.{MayReadAll, MaySend, handed, heard_in, held, told, woken, talk_in};
+    ghost use Rattle.net.specs.Connections.{handed};
+    ghost use Rattle.serverlink.specs.Talks.{MayReadAll, MaySend, heard_in, held, told, woken, talk_in};
 
     /// Creates an uplink from `settings` without a connection; an attempt to connect is due at once.
     ///
@@ -156,7 +156,7 @@ impl IrcConnection {
         let mut session = Session::new(alloc, dialled.socket, settings.nick.copy(alloc)?, now);
         if let Some(pass) = &server.pass {
             let line = joined(alloc, b"PASS :", pass.as_bytes())?;
-            session.tell(alloc, line.as_slice(), now)?;
+            session.tell(line.as_slice(), now)?;
         }
         self.session = Some(session);
         Ok(())
@@ -169,7 +169,7 @@ impl IrcConnection {
     {
         if let Some(session) = &mut self.session {
             if tokens.contains(&TOKEN) {
-                session.wake();
+                session.wire.connection.wake();
             }
         }
     }
@@ -195,7 +195,7 @@ impl IrcConnection {
         ensures none { talk_in self.new.session ≡ option_map handed (talk_in self.old.session) }
     {
         match &mut self.session {
-            Some(session) => session.take_heard(alloc),
+            Some(session) => session.wire.connection.take_heard(alloc),
             None => Vec::new(alloc),
         }
     }
@@ -220,7 +220,7 @@ impl IrcConnection {
         let Some(session) = &mut self.session else {
             return Ok(());
         };
-        session.tell(rt.alloc(), line, now)?;
+        session.tell(line, now)?;
         if settings.log_lines {
             log(rt, now, &Entry::Plain(Fact::Told, line));
         }
@@ -232,7 +232,10 @@ impl IrcConnection {
         ensures { MaySend (talk_in self.old.session) result (talk_in self.new.session) }
     {
         match &mut self.session {
-            Some(session) => session.send(),
+            Some(session) => {
+                let connection = &mut session.wire.connection;
+                connection.send() && !connection.unsent.is_empty()
+            }
             None => false,
         }
     }
@@ -243,7 +246,7 @@ impl IrcConnection {
         ensures { self.new.session ≡ held self.old.session }
     {
         if let Some(session) = &self.session {
-            if session.is_over() {
+            if session.wire.connection.is_over {
                 self.lose(rt, Why::Over, now);
             }
         }

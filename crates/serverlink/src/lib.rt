@@ -59,7 +59,6 @@ mod hearing;
 mod irc_connection;
 mod keeping;
 mod line;
-mod log;
 mod nicks;
 mod own_lines;
 mod pace;

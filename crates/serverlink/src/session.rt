@@ -1,7 +1,9 @@
 // One connection to a server.
-ghost use Rattle.std.specs.Prelude.{◌≡◌, ◌&&◌, not, true, List, [], length, OnOk, OnErr, IfOk};
-ghost use Rattle.streams.specs.declared.stream.Given.{Given};
-ghost use Rattle.serverlink.specs.Talks.{HearsAll, ReadsAll, SendsOn, handed, named, told};
+ghost use Rattle.std.specs.Prelude.{◌≡◌, ◌&&◌, not, Bool, length, OnOk, OnErr, IfOk};
+ghost use Rattle.net.specs.Connections.{Reads, ReadsFewer};
+ghost use Rattle.serverlink.specs.Talks.{told};
+ghost use Rattle.serverlink.specs.declared.server_wire.TheConstants.{MOST};
+ghost use Rattle.serverlink.specs.declared.session.TheConstants.{PIECES};
 
 use crate::pace::Pace;
 use crate::server_wire::ServerWire;
@@ -16,7 +18,7 @@ const PIECES: usize = 16;
 
 /// A connection to a server, and what is known about it.
 pub struct Session {
-    wire: ServerWire<TcpSocket>,
+    pub(crate) wire: ServerWire<TcpSocket>,
     vigil: Vigil,
     pace: Pace,
     // Reads the lines that the process looks at.
@@ -58,42 +60,25 @@ impl Session {
         }
     }
 
-    // Notes that an event has named the connection.
-    pub(crate) fn wake(&mut self)
-        ensures { self.new.wire ≡ named self.old.wire }
-    {
-        self.wire.wake();
-    }
-
     // Reads what has arrived. Returns whether there may be more at once: false after a read that would block.
+    #[tactic(auto, using(crate::proofs::ToldLemmas::tells_on))]
     pub(crate) fn read(&mut self, now: u64) -> Result<bool, NoMemory>
-        ensures reads { OnOk result (ReadsAll self.old.wire self.new.wire) }
-        ensures err { OnErr result ((answers : List Given) × HearsAll answers self.old.wire self.new.wire) }
+        ensures reads { OnOk result ((came : Bool) × Reads PIECES MOST self.old.wire came self.new.wire) }
+        ensures err { OnErr result (ReadsFewer PIECES MOST self.old.wire self.new.wire) }
         ensures more { IfOk result (λ more. more ≡ (self.new.wire.gives && not self.new.wire.over)) }
     {
-        for _ in 0..PIECES {
-            if !self.wire.read()? {
-                break;
-            }
+        if self.wire.connection.read(PIECES)? {
             self.vigil.hear(now);
         }
-        Ok(self.wire.may_give())
-    }
-
-    // Takes the bytes that were read and not taken yet. Allocates nothing.
-    pub(crate) fn take_heard(&mut self, alloc: Global) -> Vec<u8>
-        ensures all { result.items ≡ self.old.wire.heard }
-        ensures none { self.new.wire ≡ handed self.old.wire }
-    {
-        self.wire.take_heard(alloc)
+        Ok(self.wire.connection.may_give())
     }
 
     // Queues `line` for the server, and counts it as sent at second `now`. Ignores bytes that are not a line.
-    pub(crate) fn tell(&mut self, alloc: Global, line: &[u8], now: u64) -> Result<(), NoMemory>
+    pub(crate) fn tell(&mut self, line: &[u8], now: u64) -> Result<(), NoMemory>
         ensures told { OnOk result (self.new.wire ≡ told line.now self.old.wire) }
         ensures err { OnErr result (self.new.wire ≡ self.old.wire) }
     {
-        self.wire.tell(alloc, line)?;
+        self.wire.tell(line)?;
         self.pace.count(now);
         Ok(())
     }
@@ -124,24 +109,10 @@ impl Session {
         self.is_welcomed && self.vigil.is_good(now)
     }
 
-    // Whether to close the connection.
-    pub(crate) fn is_over(&self) -> bool
-        ensures { result ≡ self.now.wire.over }
-    {
-        self.wire.is_over()
-    }
-
     /// Returns the number of unsent bytes.
     pub fn unsent(&self) -> usize
         ensures { result ≡ length self.now.wire.unsent }
     {
-        self.wire.unsent()
-    }
-
-    // Offers the server the unsent bytes, once. Returns whether it may take more at once: it took some, and not all.
-    pub(crate) fn send(&mut self) -> bool
-        ensures { SendsOn self.old.wire result self.new.wire }
-    {
-        self.wire.send() && self.wire.unsent() > 0
+        self.wire.connection.unsent.len()
     }
 }

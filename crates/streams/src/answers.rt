@@ -8,8 +8,10 @@ use crate::stream::{Given, Taken};
 use std::io;
 use std::io::{ErrorKind, Read, Write};
 
-// Asks `reader` until a call is not interrupted. Answers `Fault` if 2 ^ 64 - 1 calls are interrupted.
-pub(crate) fn ask<R: Read>(reader: &mut R, buffer: &mut [u8]) -> Given
+/// Asks `reader` for bytes, again after each interruption, and puts them at the front of `buffer`. Returns `Stall` if
+/// the call would block, or if `reader` is a socket that is still connecting, and `Fault` after any other error or
+/// 2 ^ 64 - 1 interruptions. For implementers of [`Stream`](crate::Stream).
+pub fn ask<R: Read>(reader: &mut R, buffer: &mut [u8]) -> Given
     requires { 0 < length buffer.old }
     ensures fits { FitsIn buffer.new result }
     ensures left { Consumes (R.remaining reader.old) (R.remaining reader.new) (bytes_given result buffer.new) }
@@ -44,14 +46,16 @@ fn given_by(answer: io::Result<usize>) -> Option<Given>
         Ok(count) => Some(Given::Bytes(count)),
         Err(error) => match error.kind() {
             ErrorKind::Interrupted => None,
-            ErrorKind::WouldBlock => Some(Given::Stall),
+            ErrorKind::WouldBlock | ErrorKind::NotConnected => Some(Given::Stall),
             _ => Some(Given::Fault),
         },
     }
 }
 
-// Offers `bytes` to `writer` until a call is not interrupted. Answers `Fault` if 2 ^ 64 - 1 calls are interrupted.
-pub(crate) fn offer<W: Write>(writer: &mut W, bytes: &[u8]) -> Taken
+/// Offers `bytes` to `writer`, again after each interruption. Returns `Nothing` if the call would block, or if `writer`
+/// is a socket that is still connecting, and `Fault` after any other error or 2 ^ 64 - 1 interruptions. For implementers
+/// of [`Stream`](crate::Stream).
+pub fn offer<W: Write>(writer: &mut W, bytes: &[u8]) -> Taken
     requires { 0 < length bytes.now }
     ensures front { IsFrontOf bytes.now result }
     ensures holds { Appends (W.contents writer.old) (W.contents writer.new) (bytes_taken result bytes.now) }
@@ -84,7 +88,7 @@ fn taken_by(answer: io::Result<usize>) -> Option<Taken>
         Ok(count) => Some(Taken::Bytes(count)),
         Err(error) => match error.kind() {
             ErrorKind::Interrupted => None,
-            ErrorKind::WouldBlock => Some(Taken::Nothing),
+            ErrorKind::WouldBlock | ErrorKind::NotConnected => Some(Taken::Nothing),
             _ => Some(Taken::Fault),
         },
     }
