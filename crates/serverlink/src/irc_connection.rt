@@ -8,7 +8,7 @@ use crate::log::log;
 use crate::own_lines::OwnLines;
 use crate::session::Session;
 use crate::why::Why;
-use bytetext::{NoMemory, TryCopy};
+use bytetext::NoMemory;
 use net::{Dialled, Dialling, Registry};
 use settings::{Server, Settings};
 use std::alloc::Global;
@@ -107,7 +107,7 @@ impl IrcConnection {
             return Ok(false);
         }
         match settings.servers.as_slice().get(self.dialling.place()) {
-            Some(server) => self.dial(rt, registry, settings, server, now),
+            Some(server) => self.dial(rt, registry, server, now),
             None => Ok(false),
         }
     }
@@ -116,7 +116,6 @@ impl IrcConnection {
         &mut self,
         rt: &R,
         registry: &Registry,
-        settings: &Settings,
         server: &Server,
         now: u64,
     ) -> Result<bool, NoMemory>
@@ -129,7 +128,7 @@ impl IrcConnection {
         {
             Ok(dialled) => {
                 log(rt, now, &Entry::Dialled(host, dialled.address));
-                self.begin(rt.alloc(), settings, server, dialled, now)?;
+                self.begin(rt.alloc(), server, dialled, now)?;
                 Ok(true)
             }
             Err(fault) => {
@@ -148,12 +147,11 @@ impl IrcConnection {
     fn begin(
         &mut self,
         alloc: Global,
-        settings: &Settings,
         server: &Server,
         dialled: Dialled,
         now: u64,
     ) -> Result<(), NoMemory> {
-        let mut session = Session::new(alloc, dialled.socket, settings.nick.copy(alloc)?, now);
+        let mut session = Session::new(alloc, dialled.socket, now);
         if let Some(pass) = &server.pass {
             let line = joined(alloc, b"PASS :", pass.as_bytes())?;
             session.tell(alloc, line.as_slice(), now)?;
@@ -169,7 +167,7 @@ impl IrcConnection {
     {
         if let Some(session) = &mut self.session {
             if tokens.contains(&TOKEN) {
-                session.wake();
+                session.wire.wake();
             }
         }
     }
@@ -195,7 +193,7 @@ impl IrcConnection {
         ensures none { talk_in self.new.session ≡ option_map handed (talk_in self.old.session) }
     {
         match &mut self.session {
-            Some(session) => session.take_heard(alloc),
+            Some(session) => session.wire.take_heard(alloc),
             None => Vec::new(alloc),
         }
     }
@@ -232,7 +230,7 @@ impl IrcConnection {
         ensures { MaySend (talk_in self.old.session) result (talk_in self.new.session) }
     {
         match &mut self.session {
-            Some(session) => session.send(),
+            Some(session) => session.wire.send() && session.wire.unsent() > 0,
             None => false,
         }
     }
@@ -243,7 +241,7 @@ impl IrcConnection {
         ensures { self.new.session ≡ held self.old.session }
     {
         if let Some(session) = &self.session {
-            if session.is_over() {
+            if session.wire.is_over() {
                 self.lose(rt, Why::Over, now);
             }
         }

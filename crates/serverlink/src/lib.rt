@@ -22,8 +22,9 @@
 //! sent.
 //!
 //! An [`IrcConnection`] connects to the servers of a configuration in turn ([`net`]), reads what the connected one says,
-//! and sends it lines. A [`Session`] is one connection of it. [`serverlink`] decides what is due when. What the bot itself
-//! makes of the server's messages is not looked at here; the bot's lines come in by [`IrcConnection::tell`].
+//! and sends it lines. A [`Session`] is one connection of it. The bytes that the server sent go to the bot, which reads
+//! their lines; [`IrcConnection::look`] then sees each line, with the bot's nick before it and whether to log it. What the bot itself makes of the
+//! server's messages is not looked at here; the bot's lines come in by [`IrcConnection::tell`].
 //!
 //! Besides those lines, an uplink sends:
 //!
@@ -40,13 +41,13 @@
 //! and what happened. A log that cannot be written ends nothing. Seconds are read from the bot's clock.
 //!
 //! ```text
-//! let mut uplink = Uplink::new(alloc, settings)?;
+//! let mut uplink = IrcConnection::new(alloc, settings)?;
 //! // each turn, at the second now
 //! uplink.wake(watch.tokens());
 //! let connected = uplink.connect(rt, watch.registry(), settings, now)?;
 //! uplink.read(now)?;
-//! let bytes = uplink.take_heard(alloc);
-//! uplink.look(rt, settings, bytes.as_slice(), now)?;       // and then the bot takes them
+//! let bytes = uplink.take_heard(alloc);                    // the bot takes them in
+//! uplink.look(rt, settings, &line, logged, nick, now)?;    // each line of them, after the bot's step
 //! uplink.tell(rt, settings, b"PRIVMSG #chan :hi", now)?;   // each line of the bot's
 //! uplink.keep(rt, settings, now)?;
 //! uplink.send();
@@ -73,7 +74,7 @@ mod vigil;
 mod why;
 
 pub use crate::configured_channels::ConfiguredChannels;
-pub use crate::cue::{Cue, cue_of, param};
+pub use crate::cue::{Cue, cue_of, new_nick, param};
 pub use crate::irc_connection::IrcConnection;
 pub use crate::line::{A_BASE, MAX_LINE, is_base_due, is_line};
 pub use crate::nicks::{SHORT_NICK, other_nick};

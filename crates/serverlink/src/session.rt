@@ -1,13 +1,12 @@
 // One connection to a server.
-ghost use Rattle.std.specs.Prelude.{◌≡◌, ◌&&◌, not, true, List, [], length, OnOk, OnErr, IfOk};
+ghost use Rattle.std.specs.Prelude.{◌≡◌, ◌&&◌, not, List, length, OnOk, OnErr, IfOk};
 ghost use Rattle.streams.specs.declared.stream.Given.{Given};
-ghost use Rattle.serverlink.specs.Talks.{HearsAll, ReadsAll, SendsOn, handed, named, told};
+ghost use Rattle.serverlink.specs.Talks.{HearsAll, ReadsAll, told};
 
 use crate::pace::Pace;
 use crate::server_wire::ServerWire;
 use crate::vigil::{Care, Vigil};
-use bytetext::{NoMemory, Text};
-use ircline::LineReader;
+use bytetext::NoMemory;
 use net::TcpSocket;
 use std::alloc::Global;
 
@@ -16,13 +15,9 @@ const PIECES: usize = 16;
 
 /// A connection to a server, and what is known about it.
 pub struct Session {
-    wire: ServerWire<TcpSocket>,
+    pub(crate) wire: ServerWire<TcpSocket>,
     vigil: Vigil,
     pace: Pace,
-    // Reads the lines that the process looks at.
-    pub(crate) cues: LineReader,
-    /// The bot's nick on the server: that of its configuration until the server says another.
-    pub nick: Text,
     /// Whether the server has welcomed the bot (001).
     pub is_welcomed: bool,
     // How many other nicks the bot has asked for.
@@ -36,8 +31,6 @@ impl Drop for Session {
             wire: _,
             vigil: _,
             pace: _,
-            cues: _,
-            nick: _,
             is_welcomed: _,
             tried: _,
         } = self;
@@ -45,24 +38,15 @@ impl Drop for Session {
 }
 
 impl Session {
-    // A connection that begins at second `now`, under `nick`. Allocates nothing.
-    pub(crate) fn new(alloc: Global, socket: TcpSocket, nick: Text, now: u64) -> Session {
+    // A connection that begins at second `now`. Allocates nothing.
+    pub(crate) fn new(alloc: Global, socket: TcpSocket, now: u64) -> Session {
         Session {
             wire: ServerWire::new(alloc, socket),
             vigil: Vigil::new(now),
             pace: Pace::new(),
-            cues: LineReader::new(alloc),
-            nick,
             is_welcomed: false,
             tried: 0,
         }
-    }
-
-    // Notes that an event has named the connection.
-    pub(crate) fn wake(&mut self)
-        ensures { self.new.wire ≡ named self.old.wire }
-    {
-        self.wire.wake();
     }
 
     // Reads what has arrived. Returns whether there may be more at once: false after a read that would block.
@@ -78,14 +62,6 @@ impl Session {
             self.vigil.hear(now);
         }
         Ok(self.wire.may_give())
-    }
-
-    // Takes the bytes that were read and not taken yet. Allocates nothing.
-    pub(crate) fn take_heard(&mut self, alloc: Global) -> Vec<u8>
-        ensures all { result.items ≡ self.old.wire.heard }
-        ensures none { self.new.wire ≡ handed self.old.wire }
-    {
-        self.wire.take_heard(alloc)
     }
 
     // Queues `line` for the server, and counts it as sent at second `now`. Ignores bytes that are not a line.
@@ -124,24 +100,10 @@ impl Session {
         self.is_welcomed && self.vigil.is_good(now)
     }
 
-    // Whether to close the connection.
-    pub(crate) fn is_over(&self) -> bool
-        ensures { result ≡ self.now.wire.over }
-    {
-        self.wire.is_over()
-    }
-
     /// Returns the number of unsent bytes.
     pub fn unsent(&self) -> usize
         ensures { result ≡ length self.now.wire.unsent }
     {
         self.wire.unsent()
-    }
-
-    // Offers the server the unsent bytes, once. Returns whether it may take more at once: it took some, and not all.
-    pub(crate) fn send(&mut self) -> bool
-        ensures { SendsOn self.old.wire result self.new.wire }
-    {
-        self.wire.send() && self.wire.unsent() > 0
     }
 }
