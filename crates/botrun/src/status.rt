@@ -34,7 +34,7 @@ fn put_server(text: &mut Vec<u8>, process: &Process, settings: &Settings) -> Res
     match process.uplink.session() {
         Some(session) => {
             put_name(text, process.uplink.place(), settings)?;
-            put_session(text, session)
+            put_session(text, session, process.bot.own_nick())
         }
         None => put_count(text, b"no server, next try at ", process.uplink.due()),
     }
@@ -50,11 +50,11 @@ fn put_name(text: &mut Vec<u8>, place: usize, settings: &Settings) -> Result<(),
     Ok(())
 }
 
-// Appends the connection.
-fn put_session(text: &mut Vec<u8>, session: &Session) -> Result<(), NoMemory> {
+// Appends the connection, on which the bot's nick is `nick`.
+fn put_session(text: &mut Vec<u8>, session: &Session, nick: &[u8]) -> Result<(), NoMemory> {
     put_count(text, b"since ", session.began())?;
     put(text, b"nick ")?;
-    put(text, session.nick.as_bytes())?;
+    put(text, nick)?;
     put(text, b"\n")?;
     if !session.is_welcomed {
         put(text, b"not welcomed yet\n")?;

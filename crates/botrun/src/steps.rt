@@ -4,6 +4,9 @@ ghost use Rattle.std.specs.List.{AllByRecursion};
 ghost use Rattle.sharelink.specs.Shapes.{HasGoodRecords};
 ghost use Rattle.bytetext.specs.declared.moment.TheConstants.{MOMENTS_END};
 ghost use Rattle.serverlink.specs.Talks.{heard_in, talk_in};
+ghost use Rattle.turns.specs.Turns.{AllGood};
+ghost use Rattle.botrun.specs.Outcomes.{outcome_of};
+ghost use Rattle.botrun.specs.Passing.{told_of};
 ghost use Rattle.botrun.specs.Taking.{Hears, TakesTurn, TakesChanges};
 
 use crate::ending::RunError;
@@ -11,12 +14,14 @@ use crate::entry::Entry;
 use crate::outcome::{Outcome, outcome_of};
 use crate::passing::pass_all;
 use crate::process::Process;
+use bytetext::{NoMemory, Text, TryCopy};
 use net::log;
 use procstore::{ProcStore, Promise, Run};
+use serverlink::new_nick;
 use settings::Settings;
 use sharelink::MAX_ASKS;
 use std::alloc::Global;
-use turns::{Heard, TurnEnd, take_turn};
+use turns::{Heard, HeardLine, Told, TurnEnd, take_turn};
 use userfile::Change;
 
 impl Process {
@@ -37,11 +42,13 @@ impl Process {
     {
         let alloc = rt.alloc();
         let bytes = self.uplink.take_heard(alloc);
-        self.uplink.look(rt, settings, bytes.as_slice(), now)?;
         let heard = self.others.hear(alloc, connected, bytes, now)?;
         let said = !heard.packets.is_empty();
         let pumped = heard.pump;
-        let outcome = self.take(rt, store, settings, heard)?;
+        let nick = self.nick_before(alloc, connected)?;
+        let told = take_turn(alloc, &mut self.bot, store, &mut self.lines, heard);
+        self.look(rt, settings, nick, told.lines.as_slice(), now)?;
+        let outcome = self.pass(rt, settings, &told, pumped, now)?;
         if !self.others.links.is_leaf() {
             self.pump(rt, store, settings, outcome, now)?;
         }
@@ -127,6 +134,60 @@ impl Process {
         let now = heard.now;
         let pumped = heard.pump && !heard.compact;
         let told = take_turn(rt.alloc(), &mut self.bot, store, &mut self.lines, heard);
+        self.pass(rt, settings, &told, pumped, now)
+    }
+
+    // The bot's nick before the lines of a turn. On a new connection it is that of the configuration.
+    fn nick_before(&self, alloc: Global, connected: bool) -> Result<Text, NoMemory> {
+        if connected {
+            self.bot.config().nick.copy(alloc)
+        } else {
+            Text::from_slice(alloc, self.bot.own_nick())
+        }
+    }
+
+    // Has the connection to the server see the lines of a turn, in order, each with whether the bot's step logs it.
+    // The bot's nick before them is `nick`.
+    fn look<R: AllocGlobal + Print>(
+        &mut self,
+        rt: &R,
+        settings: &Settings,
+        nick: Text,
+        lines: &[HeardLine],
+        now: u64,
+    ) -> Result<(), NoMemory>
+        requires moment { now < MOMENTS_END }
+        ensures bot { self.new.bot ≡ self.old.bot }
+        ensures held { self.new.lines ≡ self.old.lines }
+    {
+        let mut nick = nick;
+        for HeardLine { line, logged } in lines {
+            self.uplink
+                .look(rt, settings, line, *logged, nick.as_bytes(), now)?;
+            if let Some(given) = new_nick(line, nick.as_bytes()) {
+                nick = Text::from_slice(rt.alloc(), given)?;
+            }
+        }
+        Ok(())
+    }
+
+    // Queues the lines of a turn for the server, and sends its packets and answers. Returns what the turn says about
+    // changes.
+    fn pass<R: AllocGlobal + Print>(
+        &mut self,
+        rt: &R,
+        settings: &Settings,
+        told: &Told,
+        pumped: bool,
+        now: u64,
+    ) -> Result<Outcome, RunError>
+        requires good { AllGood told.now.reports }
+        ensures outcome { IfOk result (λ outcome. outcome ≡ outcome_of told.now.reports) }
+        ensures server { OnOk result (talk_in self.new.uplink.session
+            ≡ told_of told.now.reports (talk_in self.old.uplink.session)) }
+        ensures bot { self.new.bot ≡ self.old.bot }
+        ensures held { self.new.lines ≡ self.old.lines }
+    {
         let outcome = outcome_of(told.reports.as_slice());
         pass_all(rt, &mut self.uplink, settings, told.reports.as_slice(), now)?;
         self.others.pass_all(

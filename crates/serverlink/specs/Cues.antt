@@ -1,7 +1,9 @@
 -- What a message means for a bot's registration and its channels.
-use Rattle.std.specs.Prelude.{ℕ, ◌==◌, ◌&&◌, ◌||◌, Bool, false, List, [], length, slice_get, slice_index, unwrap_or, if◌then◌else◌, codes}
+use Rattle.std.specs.Prelude.{ℕ, ◌==◌, ◌&&◌, ◌||◌, Bool, false, List, [], length, slice_get, slice_index, unwrap_or, if◌then◌else◌, codes, Option, None, Some}
 use Rattle.std.specs.Str.{bytes_eq}
 use Rattle.rfccase.specs.Casemapping.{is_same}
+use Rattle.ircline.specs.declared.line.Line.{Line}
+use Rattle.ircline.specs.declared.line.Line.TheVariants.{Message as a_message, Bad as a_bad_line}
 use Rattle.ircline.specs.declared.message.Message.{Message}
 use Rattle.ircline.specs.Sources.{Source, Nobody, Server, Person, source_of}
 use Rattle.serverlink.specs.declared.cue.Cue.{Cue}
@@ -39,6 +41,18 @@ numeric_cue command =
     else if is_numeric_fault command then Refused
     else Nothing
 
+-- a welcome and a change of the bot's own nick give it the nick that is the first parameter
+abbrev pub nick_by : Cue → Message → Option (List ℕ)
+nick_by Welcomed message = Some (param message 0)
+nick_by Renamed message = Some (param message 0)
+nick_by Joined message = None
+nick_by Parted message = None
+nick_by Kicked message = None
+nick_by Barred message = None
+nick_by NickRefused message = None
+nick_by Refused message = None
+nick_by Nothing message = None
+
 abbrev pub cue_of : Message → List ℕ → Cue
 cue_of message own =
     if is_command (codes "JOIN") message.command && is_by message own then Joined
@@ -47,3 +61,8 @@ cue_of message own =
     else if is_command (codes "KICK") message.command && is_to message own then Kicked
     else if is_command (codes "ERROR") message.command then Refused
     else numeric_cue message.command
+
+-- the nick that the bot has after a line, if the line gives it one
+abbrev pub new_nick : Line → List ℕ → Option (List ℕ)
+new_nick (a_message message) own = nick_by (cue_of message own) message
+new_nick (a_bad_line fault) own = None

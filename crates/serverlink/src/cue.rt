@@ -1,8 +1,8 @@
 // What a message means for a bot's registration and its channels.
-ghost use Rattle.std.specs.Prelude.{◌≡◌};
-ghost use Rattle.serverlink.specs.Cues.{cue_of, is_by, is_numeric_fault, is_to, numeric_cue, param};
+ghost use Rattle.std.specs.Prelude.{◌≡◌, None, Some, MatchOption};
+ghost use Rattle.serverlink.specs.Cues.{cue_of, is_by, is_numeric_fault, is_to, new_nick, numeric_cue, param};
 
-use ircline::{Message, Source, source};
+use ircline::{Line, Message, Source, source};
 use rfccase::same;
 
 /// What a message means for a bot with a given nick.
@@ -45,6 +45,26 @@ pub fn cue_of(message: &Message, own: &[u8]) -> Cue
         Cue::Refused
     } else {
         numeric_cue(command)
+    }
+}
+
+/// Returns the nick that the bot has after `line`, if the line gives it one. Its nick before the line is `own`.
+/// Allocates nothing.
+pub fn new_nick<'a>(line: &'a Line, own: &[u8]) -> Option<&'a [u8]>
+    ensures { MatchOption result (new_nick line.now own.now ≡ None) (λ nick. new_nick line.now own.now ≡ Some nick.now) }
+{
+    match line {
+        Line::Message(message) => match cue_of(message, own) {
+            Cue::Welcomed | Cue::Renamed => Some(param(message, 0)),
+            Cue::Joined
+            | Cue::Parted
+            | Cue::Kicked
+            | Cue::Barred
+            | Cue::NickRefused
+            | Cue::Refused
+            | Cue::Nothing => None,
+        },
+        Line::Bad(_) => None,
     }
 }
 

@@ -1,44 +1,47 @@
 // What a server says, for the registration and the channels.
-ghost use Rattle.std.specs.Prelude.{◌≢◌, ◌<◌, None, OnErr};
+ghost use Rattle.std.specs.Prelude.{◌≡◌, ◌≢◌, ◌<◌, None, OnErr};
 ghost use Rattle.bytetext.specs.declared.moment.TheConstants.{MOMENTS_END};
 
 use crate::cue::{Cue, cue_of, param};
 use crate::entry::{Entry, Fact};
 use crate::irc_connection::{IrcConnection, joined};
 use crate::nicks::other_nick;
-use bytetext::{NoMemory, Text, TryCopy};
+use bytetext::{NoMemory, TryCopy};
 use ircline::{Line, Message};
 use net::log;
 use settings::Settings;
 
 impl IrcConnection {
-    /// Processes `bytes`, which the server sent by second `now`, for the registration and the channels. Notes the
-    /// bot's nick, and asks for another one if the server rejects it. Puts the lines `perform` of `settings` once
-    /// after a welcome, and queues those that may go. `bytes` are those of [`IrcConnection::take_heard`], each once and in
-    /// order.
+    /// Processes `line`, which the server sent by second `now` and whose step the bot has made, for the registration
+    /// and the channels. `own` is the bot's nick before the line. Asks for another nick if the server rejects it. Puts
+    /// the lines `perform` of `settings` once after a welcome, and queues those that may go. Call this for each line
+    /// once, in order, before the bot's lines for it are queued.
+    ///
+    /// If `settings` have lines logged, the line is logged, but only if `logged`: the bot's step of the line says so.
     ///
     /// # Errors
-    /// `NoMemory` if an allocation fails: never without a connection. Earlier lines may have been processed by then.
+    /// `NoMemory` if an allocation fails: never without a connection.
     pub fn look<R: AllocGlobal + Print>(
         &mut self,
         rt: &R,
         settings: &Settings,
-        bytes: &[u8],
+        line: &Line,
+        logged: bool,
+        own: &[u8],
         now: u64,
     ) -> Result<(), NoMemory>
         requires moment { now < MOMENTS_END }
         ensures memory { OnErr result (self.old.session ≢ None) }
     {
-        let lines = match &mut self.session {
-            Some(session) => session.cues.feed(rt.alloc(), bytes)?,
-            None => return Ok(()),
-        };
-        for line in lines {
-            if let Line::Message(message) = line {
-                self.look_at(rt, settings, &message, now)?;
+        match line {
+            Line::Message(message) => {
+                if settings.log_lines && logged {
+                    log_message(rt, message, now);
+                }
+                self.look_at(rt, settings, message, own, now)
             }
+            Line::Bad(_) => Ok(()),
         }
-        Ok(())
     }
 
     fn look_at<R: AllocGlobal + Print>(
@@ -46,19 +49,17 @@ impl IrcConnection {
         rt: &R,
         settings: &Settings,
         message: &Message,
+        own: &[u8],
         now: u64,
     ) -> Result<(), NoMemory>
         requires moment { now < MOMENTS_END }
+        ensures memory { OnErr result (self.old.session ≢ None) }
     {
-        if settings.log_lines {
-            log_message(rt, message, now);
-        }
-        let Some(session) = &self.session else {
+        if self.session.is_none() {
             return Ok(());
-        };
-        match cue_of(message, session.nick.as_bytes()) {
+        }
+        match cue_of(message, own) {
             Cue::Welcomed => self.welcome(rt, settings, param(message, 0), now),
-            Cue::Renamed => self.rename(rt, param(message, 0), now),
             Cue::NickRefused => self.ask_nick(rt, settings, now),
             cue => {
                 self.note(rt, cue, message, now);
@@ -79,7 +80,6 @@ impl IrcConnection {
         let Some(session) = &mut self.session else {
             return Ok(());
         };
-        session.nick = Text::from_slice(rt.alloc(), nick)?;
         if session.is_welcomed {
             return Ok(());
         }
@@ -88,20 +88,6 @@ impl IrcConnection {
             self.own.put(line.copy(rt.alloc())?)?;
         }
         self.tell_own(rt, settings, now)
-    }
-
-    // The bot has another nick.
-    fn rename<R: AllocGlobal + Print>(
-        &mut self,
-        rt: &R,
-        nick: &[u8],
-        now: u64,
-    ) -> Result<(), NoMemory> {
-        log(rt, now, &Entry::Plain(Fact::Renamed, nick));
-        if let Some(session) = &mut self.session {
-            session.nick = Text::from_slice(rt.alloc(), nick)?;
-        }
-        Ok(())
     }
 
     // The server rejects a nick. Until it has welcomed the bot, the bot asks for another one.
@@ -132,13 +118,14 @@ impl IrcConnection {
         }
     }
 
-    // Notes what a message means for the channels, and logs what the server rejects.
+    // Notes what a message means for the channels, and logs a new nick of the bot and what the server rejects.
     fn note<R: Print>(&mut self, rt: &R, cue: Cue, message: &Message, now: u64)
         requires moment { now < MOMENTS_END }
     {
         let first = param(message, 0);
         let second = param(message, 1);
         match cue {
+            Cue::Renamed => log(rt, now, &Entry::Plain(Fact::Renamed, first)),
             Cue::Joined => {
                 self.channels.join(first, now);
                 log(rt, now, &Entry::Plain(Fact::Joined, first));
@@ -161,7 +148,7 @@ impl IrcConnection {
                 &Entry::Refused(message.command.as_bytes(), message.rest.as_bytes()),
             ),
             Cue::Nothing => note_case(rt, message, now),
-            Cue::Welcomed | Cue::Renamed | Cue::NickRefused => {}
+            Cue::Welcomed | Cue::NickRefused => {}
         }
     }
 }

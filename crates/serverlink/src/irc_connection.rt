@@ -107,7 +107,7 @@ impl IrcConnection {
             return Ok(false);
         }
         match settings.servers.as_slice().get(self.dialling.place()) {
-            Some(server) => self.dial(rt, registry, settings, server, now),
+            Some(server) => self.dial(rt, registry, server, now),
             None => Ok(false),
         }
     }
@@ -116,7 +116,6 @@ impl IrcConnection {
         &mut self,
         rt: &R,
         registry: &Registry,
-        settings: &Settings,
         server: &Server,
         now: u64,
     ) -> Result<bool, NoMemory>
@@ -129,7 +128,7 @@ impl IrcConnection {
         {
             Ok(dialled) => {
                 log(rt, now, &Entry::Dialled(host, dialled.address));
-                self.begin(rt.alloc(), settings, server, dialled, now)?;
+                self.begin(rt.alloc(), server, dialled, now)?;
                 Ok(true)
             }
             Err(fault) => {
@@ -148,12 +147,11 @@ impl IrcConnection {
     fn begin(
         &mut self,
         alloc: Global,
-        settings: &Settings,
         server: &Server,
         dialled: Dialled,
         now: u64,
     ) -> Result<(), NoMemory> {
-        let mut session = Session::new(alloc, dialled.socket, settings.nick.copy(alloc)?, now);
+        let mut session = Session::new(alloc, dialled.socket, now);
         if let Some(pass) = &server.pass {
             let line = joined(alloc, b"PASS :", pass.as_bytes())?;
             session.tell(line.as_slice(), now)?;

@@ -12,7 +12,7 @@
 //! let connected = irc.connect(rt, watch.registry(), settings, now)?;
 //! irc.read(now)?;
 //! let bytes = irc.take_heard(alloc);
-//! irc.look(rt, settings, bytes.as_slice(), now)?;       // and then the bot takes them
+//! irc.look(rt, settings, &line, logged, nick, now)?;    // each line of them, after the bot's step
 //! irc.tell(rt, settings, b"PRIVMSG #chan :hi", now)?;   // each line of the bot's
 //! irc.keep(rt, settings, now)?;
 //! irc.send();
@@ -70,7 +70,7 @@ mod vigil;
 mod why;
 
 pub use crate::configured_channels::ConfiguredChannels;
-pub use crate::cue::{Cue, cue_of, param};
+pub use crate::cue::{Cue, cue_of, new_nick, param};
 pub use crate::irc_connection::IrcConnection;
 pub use crate::line::{A_BASE, MAX_LINE, is_base_due, is_line};
 pub use crate::nicks::{SHORT_NICK, other_nick};

@@ -8,8 +8,7 @@ ghost use Rattle.serverlink.specs.declared.session.TheConstants.{PIECES};
 use crate::pace::Pace;
 use crate::server_wire::ServerWire;
 use crate::vigil::{Care, Vigil};
-use bytetext::{NoMemory, Text};
-use ircline::LineReader;
+use bytetext::NoMemory;
 use net::TcpSocket;
 use std::alloc::Global;
 
@@ -21,10 +20,6 @@ pub struct Session {
     pub(crate) wire: ServerWire<TcpSocket>,
     vigil: Vigil,
     pace: Pace,
-    // Reads the lines that the process looks at.
-    pub(crate) cues: LineReader,
-    /// The bot's nick on the server: that of its configuration until the server says another.
-    pub nick: Text,
     /// Whether the server has welcomed the bot (001).
     pub is_welcomed: bool,
     // How many other nicks the bot has asked for.
@@ -38,8 +33,6 @@ impl Drop for Session {
             wire: _,
             vigil: _,
             pace: _,
-            cues: _,
-            nick: _,
             is_welcomed: _,
             tried: _,
         } = self;
@@ -47,14 +40,12 @@ impl Drop for Session {
 }
 
 impl Session {
-    // A connection that begins at second `now`, under `nick`. Allocates nothing.
-    pub(crate) fn new(alloc: Global, socket: TcpSocket, nick: Text, now: u64) -> Session {
+    // A connection that begins at second `now`. Allocates nothing.
+    pub(crate) fn new(alloc: Global, socket: TcpSocket, now: u64) -> Session {
         Session {
             wire: ServerWire::new(alloc, socket),
             vigil: Vigil::new(now),
             pace: Pace::new(),
-            cues: LineReader::new(alloc),
-            nick,
             is_welcomed: false,
             tried: 0,
         }

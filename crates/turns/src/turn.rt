@@ -1,14 +1,16 @@
 // One turn of a bot.
-ghost use Rattle.std.specs.Prelude.{◌≡◌, [], OnOk, OnErr};
+ghost use Rattle.std.specs.Prelude.{◌≡◌, ◌≢◌, ◌<◌, ◌++◌, ◌∷◌, [], OnOk, OnErr, vec_len, vec_capacity};
 ghost use Rattle.std.specs.List.{AllByRecursion};
 ghost use Rattle.sharelink.specs.Shapes.{HasGoodRecords};
-ghost use Rattle.turns.specs.Turns.{Turns, IsTold, IsTurnEvent, Steps, StepsFirst, Stops, AllGood};
+ghost use Rattle.botcore.specs.declared.event.BotEvent.TheVariants.{Line as line_event};
+ghost use Rattle.botcore.specs.declared.report.End.TheVariants.{NoMemory as ends_no_memory};
+ghost use Rattle.turns.specs.Turns.{Turns, IsTold, IsTurnEvent, IsNoLine, StepsTo, StepsFirstTo, Stops, AllGood};
 
 use crate::events::events_of;
 use botcore::{Bot, BotEvent, End, Report};
 use bytetext::{NoMemory, Seq};
 use disks::Disk;
-use ircline::LineReader;
+use ircline::{Line, LineReader};
 use procstore::{ProcStore, Promise, Run};
 use sharewire::Packet;
 use std::alloc::Global;
@@ -43,10 +45,22 @@ pub enum TurnEnd {
     NoMemory,
 }
 
+/// A line of the server whose step is made.
+#[derive(Drop)]
+pub struct HeardLine {
+    /// The line.
+    pub line: Line,
+    /// Whether to log the line, as the report of its step says ([`Report::logged`]): false if a proc keeps it out of
+    /// the log.
+    pub logged: bool,
+}
+
 /// The result of a turn.
 pub struct Told {
     /// How it ended.
     pub end: TurnEnd,
+    /// The lines that the turn's bytes complete, in order. Out of memory, only those whose steps are made.
+    pub lines: Seq<HeardLine>,
     /// The reports of its steps, in order.
     pub reports: Seq<Report>,
 }
@@ -54,19 +68,26 @@ pub struct Told {
 // Written by hand, so that it is proved once and not in each function that drops one.
 impl Drop for Told {
     fn drop(self) {
-        let Told { end: _, reports: _ } = self;
+        let Told {
+            end: _,
+            lines: _,
+            reports: _,
+        } = self;
     }
 }
 
 /// Makes the steps of what `bot` has `heard` in a turn, with the procs of `store`, in this order: a new connection,
 /// each line that its bytes complete, the reading, each packet, each change, a pump and a compaction.
 ///
+/// Nobody else needs to read the bytes: the call returns their lines, each with whether its step has it logged. The
+/// report of a line is at the line's place in the reports, or one later after a new connection.
+///
 /// A new connection also starts a new line: the call discards the part of a line that `lines` held before. If the
 /// reading is after the year 2999, its report has the refusal, as with every refusal, and the turn continues.
 ///
-/// Out of memory, only the first of these steps are made, and the call returns their reports. The step at which memory
-/// ran out leaves the bot as it was, except for what happened to its disks. `lines` may have taken the bytes in or
-/// not: connect again, or end the process.
+/// Out of memory, only the first of these steps are made, and the call returns their reports, and the lines among
+/// them. The step at which memory ran out leaves the bot as it was, except for what happened to its disks. `lines` may
+/// have taken the bytes in or not: connect again, or end the process.
 pub fn take_turn<P: Promise, D: Disk, B: Run>(
     alloc: Global,
     bot: &mut Bot<D>,
@@ -78,22 +99,74 @@ pub fn take_turn<P: Promise, D: Disk, B: Run>(
     ensures turn { Turns P.promised store.now bot.old lines.old heard result bot.new lines.new }
     ensures good { AllGood result.reports }
 {
-    let mut reports = Vec::new(alloc);
+    let mut stepped = Stepped::new(alloc);
     match events_of(alloc, lines, heard) {
-        Ok(events) => match step_all(alloc, bot, store, events, &mut reports) {
-            Ok(()) => Told {
-                end: TurnEnd::Done,
-                reports: Seq::new(reports),
-            },
-            Err(NoMemory) => Told {
-                end: TurnEnd::NoMemory,
-                reports: Seq::new(reports),
-            },
+        Ok(events) => match step_all(alloc, bot, store, events, &mut stepped) {
+            Ok(()) => stepped.into_told(TurnEnd::Done),
+            Err(NoMemory) => stepped.into_told(TurnEnd::NoMemory),
         },
-        Err(NoMemory) => Told {
-            end: TurnEnd::NoMemory,
+        Err(NoMemory) => stepped.into_told(TurnEnd::NoMemory),
+    }
+}
+
+// The lines and the reports of the steps so far.
+struct Stepped {
+    lines: Vec<HeardLine>,
+    reports: Vec<Report>,
+}
+
+// Written by hand, so that it is proved once and not in each function that drops one.
+impl Drop for Stepped {
+    fn drop(self) {
+        let Stepped {
+            lines: _,
+            reports: _,
+        } = self;
+    }
+}
+
+impl Stepped {
+    // No step is made yet. Does not allocate.
+    fn new(alloc: Global) -> Stepped
+        ensures lines { result.lines.items ≡ [] }
+        ensures reports { result.reports.items ≡ [] }
+    {
+        Stepped {
+            lines: Vec::new(alloc),
+            reports: Vec::new(alloc),
+        }
+    }
+
+    // The result of a turn of these steps.
+    fn into_told(self, end: TurnEnd) -> Told
+        ensures end { result.end ≡ end }
+        ensures lines { result.lines ≡ self.lines.items }
+        ensures reports { result.reports ≡ self.reports.items }
+    {
+        let Stepped { lines, reports } = self;
+        Told {
+            end,
+            lines: Seq::new(lines),
             reports: Seq::new(reports),
-        },
+        }
+    }
+
+    // Keeps the report of a step, unless the step ran out of memory. Does not allocate.
+    fn put(&mut self, report: Report) -> Result<(), NoMemory>
+        requires room { vec_len self.old.reports < vec_capacity self.old.reports }
+        ensures made { OnOk result (report.end ≢ ends_no_memory) }
+        ensures reports { OnOk result (self.new.reports.items ≡ self.old.reports.items ++ report ∷ []) }
+        ensures not_made { OnErr result (report.end ≡ ends_no_memory) }
+        ensures same { OnErr result (self.new.reports.items ≡ self.old.reports.items) }
+        ensures lines { self.new.lines ≡ self.old.lines }
+    {
+        match report.end {
+            End::NoMemory => Err(NoMemory),
+            End::Done | End::Refused(_) => {
+                self.reports.push_reserved(report);
+                Ok(())
+            }
+        }
     }
 }
 
@@ -103,41 +176,94 @@ fn step_all<P: Promise, D: Disk, B: Run>(
     bot: &mut Bot<D>,
     store: &ProcStore<P, B>,
     events: Vec<BotEvent>,
-    reports: &mut Vec<Report>,
+    stepped: &mut Stepped,
 ) -> Result<(), NoMemory>
-    requires none { reports.old.items ≡ [] }
+    requires no_lines { stepped.old.lines.items ≡ [] }
+    requires none { stepped.old.reports.items ≡ [] }
     requires good { AllByRecursion IsTurnEvent events.items }
-    ensures ok { OnOk result (Steps P.promised store.now bot.old events.items reports.new.items bot.new) }
-    ensures err { OnErr result (StepsFirst P.promised store.now bot.old events.items reports.new.items bot.new) }
-    ensures good { AllGood reports.new.items }
+    ensures ok { OnOk result (StepsTo P.promised store.now bot.old events.items
+        stepped.new.lines.items stepped.new.reports.items bot.new) }
+    ensures err { OnErr result (StepsFirstTo P.promised store.now bot.old events.items
+        stepped.new.lines.items stepped.new.reports.items bot.new) }
+    ensures good { AllGood stepped.new.reports.items }
 {
     for event in events {
-        step_one(alloc, bot, store, event, reports)?;
+        step_one(alloc, bot, store, event, stepped)?;
     }
     Ok(())
 }
 
-// Makes a step, and keeps its report. Out of memory, it keeps nothing, and the bot is as it was, since no step is a
-// restart.
+// Makes a step, and keeps its report, and its line if it has one. Out of memory, it keeps nothing, and the bot is as
+// it was, since no step is a restart.
 fn step_one<P: Promise, D: Disk, B: Run>(
     alloc: Global,
     bot: &mut Bot<D>,
     store: &ProcStore<P, B>,
     event: BotEvent,
-    reports: &mut Vec<Report>,
+    stepped: &mut Stepped,
 ) -> Result<(), NoMemory>
     requires good { IsTurnEvent event }
-    ensures ok { OnOk result (IsTold P.promised store.now bot.old event reports.old.items reports.new.items bot.new) }
+    ensures ok { OnOk result (IsTold P.promised store.now bot.old event stepped.old.lines.items stepped.new.lines.items
+        stepped.old.reports.items stepped.new.reports.items bot.new) }
     ensures stops { OnErr result (Stops P.promised store.now bot.old event bot.new) }
-    ensures err { OnErr result (reports.new.items ≡ reports.old.items) }
+    ensures lines { OnErr result (stepped.new.lines.items ≡ stepped.old.lines.items) }
+    ensures reports { OnErr result (stepped.new.reports.items ≡ stepped.old.reports.items) }
 {
-    reports.reserve(1)?;
-    let report = bot.step(alloc, store, event);
-    match report.end {
-        End::NoMemory => Err(NoMemory),
-        End::Done | End::Refused(_) => {
-            reports.push_reserved(report);
-            Ok(())
-        }
+    match event {
+        BotEvent::Line(line) => step_line(alloc, bot, store, line, stepped),
+        BotEvent::Connect
+        | BotEvent::Ask(_)
+        | BotEvent::Pump
+        | BotEvent::Receive(_)
+        | BotEvent::Clock(_)
+        | BotEvent::Bind(_)
+        | BotEvent::Unbind(_)
+        | BotEvent::Compact
+        | BotEvent::Restart => step_other(alloc, bot, store, event, stepped),
     }
+}
+
+// Makes the step of a line, which the bot borrows, and keeps the line with its report.
+fn step_line<P: Promise, D: Disk, B: Run>(
+    alloc: Global,
+    bot: &mut Bot<D>,
+    store: &ProcStore<P, B>,
+    line: Line,
+    stepped: &mut Stepped,
+) -> Result<(), NoMemory>
+    ensures ok { OnOk result (IsTold P.promised store.now bot.old (line_event line)
+        stepped.old.lines.items stepped.new.lines.items
+        stepped.old.reports.items stepped.new.reports.items bot.new) }
+    ensures stops { OnErr result (Stops P.promised store.now bot.old (line_event line) bot.new) }
+    ensures lines { OnErr result (stepped.new.lines.items ≡ stepped.old.lines.items) }
+    ensures reports { OnErr result (stepped.new.reports.items ≡ stepped.old.reports.items) }
+{
+    stepped.lines.reserve(1)?;
+    stepped.reports.reserve(1)?;
+    let report = bot.take_line(alloc, store, &line);
+    let logged = report.logged;
+    stepped.put(report)?;
+    stepped.lines.push_reserved(HeardLine { line, logged });
+    Ok(())
+}
+
+// Makes the step of an event that is not a line, and keeps its report.
+fn step_other<P: Promise, D: Disk, B: Run>(
+    alloc: Global,
+    bot: &mut Bot<D>,
+    store: &ProcStore<P, B>,
+    event: BotEvent,
+    stepped: &mut Stepped,
+) -> Result<(), NoMemory>
+    requires good { IsTurnEvent event }
+    requires other { IsNoLine event }
+    ensures ok { OnOk result (IsTold P.promised store.now bot.old event stepped.old.lines.items stepped.new.lines.items
+        stepped.old.reports.items stepped.new.reports.items bot.new) }
+    ensures stops { OnErr result (Stops P.promised store.now bot.old event bot.new) }
+    ensures lines { OnErr result (stepped.new.lines.items ≡ stepped.old.lines.items) }
+    ensures reports { OnErr result (stepped.new.reports.items ≡ stepped.old.reports.items) }
+{
+    stepped.reports.reserve(1)?;
+    let report = bot.step(alloc, store, event);
+    stepped.put(report)
 }
