@@ -11,11 +11,11 @@ use crate::paths::{
     control_of,
 };
 use bytetext::Failure;
-use disks::{Disk, FileDisk, Pair, make_folder, rename_folder};
+use disks::{Disk as _, FileDisk, Pair, make_folder, rename_folder};
 use std::fs;
 use std::fs::File;
 use std::io::ErrorKind;
-use std::os::unix::fs::MetadataExt;
+use std::os::unix::fs::MetadataExt as _;
 use std::rt::Files;
 
 /// A bot's folder that this program has taken. No other program can take it while this value lives. It must live as

@@ -6,8 +6,8 @@ use crate::fault::{FolderError, FolderFault, folder_error, system_error};
 use crate::paths::{NET, NEW_NET, below};
 use disks::sync_folder;
 use std::fs::{File, OpenOptions};
-use std::io::{ErrorKind, Write};
-use std::os::unix::fs::{FileExt, OpenOptionsExt};
+use std::io::{ErrorKind, Write as _};
+use std::os::unix::fs::{FileExt as _, OpenOptionsExt as _};
 use std::rt::Files;
 use std::{fs, io};
 

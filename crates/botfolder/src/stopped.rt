@@ -11,7 +11,7 @@ use std::alloc::Global;
 use std::fs::{File, OpenOptions, TryLockError};
 use std::io;
 use std::io::ErrorKind;
-use std::os::unix::fs::FileExt;
+use std::os::unix::fs::FileExt as _;
 use std::rt::Files;
 
 /// Copies in memory of the two disks of a journal.

@@ -26,7 +26,7 @@ use crate::stop::Stop;
 use crate::talk::Talk;
 use std::alloc::Global;
 use std::io;
-use std::io::{Read, Write};
+use std::io::{Read as _, Write as _};
 use std::process::ExitCode;
 
 /// How much of standard input is read at most, in bytes.

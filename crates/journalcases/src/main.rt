@@ -41,7 +41,7 @@ mod words;
 use crate::play::play_all;
 use crate::stop::Stop;
 use std::io;
-use std::io::{Read, Write};
+use std::io::{Read as _, Write as _};
 use std::process::ExitCode;
 
 /// How much of standard input is read at most, in bytes.

@@ -9,7 +9,7 @@ use crate::stop::{CaseError, CaseFault};
 use botjournal::BotJournal;
 use bytejournal::Disks;
 use bytetext::Failure;
-use disks::{Disk, MemDisk};
+use disks::{Disk as _, MemDisk};
 
 /// Where the journal of a case is.
 #[derive(Drop)]

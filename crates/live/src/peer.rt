@@ -5,7 +5,7 @@ use crate::waiting::Waiting;
 use bytetext::NoMemory;
 use mio::net::TcpStream;
 use std::alloc::Global;
-use std::io::{ErrorKind, Read, Write};
+use std::io::{ErrorKind, Read as _, Write as _};
 use std::net::{Net, SocketAddr};
 use std::{io, mem};
 

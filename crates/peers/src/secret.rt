@@ -3,7 +3,7 @@ ghost use Rattle.std.specs.Prelude.{◌<◌, ◌≤◌, IfOk, IfSome, length};
 
 use crate::key::Key;
 use std::fs::File;
-use std::os::unix::fs::FileExt;
+use std::os::unix::fs::FileExt as _;
 use std::rt::Files;
 use thiserror::Error;
 
