@@ -8,8 +8,8 @@ use crate::folders::sync_folder;
 use crate::paths::below;
 use bytetext::Failure;
 use std::fs::{File, OpenOptions};
-use std::io::{ErrorKind, Write};
-use std::os::unix::fs::{FileExt, OpenOptionsExt};
+use std::io::{ErrorKind, Write as _};
+use std::os::unix::fs::{FileExt as _, OpenOptionsExt as _};
 use std::rt::Files;
 use std::{fs, io};
 

@@ -5,7 +5,7 @@ use crate::words::words_of;
 use bytetext::Text;
 use std::alloc::Global;
 use std::io;
-use std::io::{Read, Write};
+use std::io::{Read as _, Write as _};
 use std::process::ExitCode;
 
 /// The most bytes of standard input that are read.

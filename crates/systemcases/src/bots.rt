@@ -10,7 +10,7 @@ use bytetext::Failure;
 use disks::Pair;
 use std::fs;
 use std::fs::{DirBuilder, File};
-use std::os::unix::fs::DirBuilderExt;
+use std::os::unix::fs::DirBuilderExt as _;
 use std::rt::Files;
 use std::time::Clock;
 

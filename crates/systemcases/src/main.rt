@@ -41,7 +41,7 @@ use crate::stops::stops;
 use crate::writes::writes;
 use std::fs::File;
 use std::io;
-use std::io::Write;
+use std::io::Write as _;
 use std::net::Net;
 use std::rt::Files;
 use std::time::Clock;

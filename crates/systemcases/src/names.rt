@@ -3,7 +3,7 @@ use crate::seen::{Seen, done, word_of, yes};
 use disks::{FileDisk, Pair};
 use std::fs;
 use std::fs::File;
-use std::os::unix::fs::MetadataExt;
+use std::os::unix::fs::MetadataExt as _;
 use std::rt::Files;
 
 /// Opens files that are missing, makes them, and opens them while they are in use.
