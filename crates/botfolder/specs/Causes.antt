@@ -1,5 +1,5 @@
 -- What the errors of Linux mean for a bot's folder.
-use Rattle.std.specs.Prelude.{ℕ, List, [], ◌∷◌, ◌×◌, if◌then◌else◌, ◌==◌}
+use Rattle.std.specs.Prelude.{ℕ, List, [], ◌∷◌, if◌then◌else◌, ◌==◌}
 use Rattle.botfolder.specs.declared.fault.FolderFault.{FolderFault}
 use Rattle.botfolder.specs.declared.fault.FolderFault.TheVariants.{Unusable, DiskFails, NotAFolder, MachineFiles, ProcessFiles, Full, ReadOnly, System}
 

@@ -1,5 +1,5 @@
 // Why a folder can't be used.
-ghost use Rattle.std.specs.Prelude.{◌≡◌, ◌≢◌, ◌×◌};
+ghost use Rattle.std.specs.Prelude.{◌≡◌, ◌≢◌};
 ghost use Rattle.bytetext.specs.declared.failure.Failure.TheVariants.{Refused};
 ghost use Rattle.botfolder.specs.declared.fault.FolderFault.TheVariants.{LongName};
 ghost use Rattle.botfolder.specs.Causes.{cause_of};

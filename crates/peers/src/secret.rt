@@ -1,6 +1,6 @@
 // The secret that both ends of a link know.
-ghost use Rattle.std.specs.Prelude.{◌≡◌, ◌≢◌, ◌<◌, ◌≤◌, ◌++◌, ◌∷◌, [], List, ℕ, IfOk, IfErr, IfSome, length};
-ghost use Rattle.peers.specs.Secrets.{secret_cause};
+ghost use Rattle.std.specs.Prelude.{◌≡◌, ◌≢◌, ◌<◌, ◌≤◌, ◌==◌, IfOk, IfErr, IfSome, length, position};
+ghost use Rattle.peers.specs.Secrets.{secret_cause, secret_line, without_cr};
 ghost use Rattle.peers.specs.declared.secret.SecretFault.TheVariants.{Length as too_short};
 
 use crate::key::Key;
@@ -123,7 +123,7 @@ fn fault_of_code(code: u32) -> SecretFault
 
 // The bytes of the first line, without its LF or CR LF.
 fn first_line(bytes: &[u8]) -> &[u8]
-    ensures { length result.now ≤ length bytes.now }
+    ensures { result.now ≡ secret_line bytes.now }
 {
     match line_end(bytes) {
         Some(end) => without_cr(&bytes[..end]),
@@ -133,16 +133,17 @@ fn first_line(bytes: &[u8]) -> &[u8]
 
 // A line without the CR at its end, if it has one.
 fn without_cr(line: &[u8]) -> &[u8]
-    ensures cut { (front : List ℕ) → line.now ≡ front ++ 13 ∷ [] → result.now ≡ front }
+    ensures { result.now ≡ without_cr line.now }
 {
-    match line {
-        [front @ .., b'\r'] => front,
-        _ => line,
+    match line.strip_suffix(b"\r") {
+        Some(front) => front,
+        None => line,
     }
 }
 
 // The place of the first line feed.
 fn line_end(bytes: &[u8]) -> Option<usize>
+    ensures place { result ≡ position (λ b. b == 10) bytes.now }
     ensures within { IfSome result (λ end. end < length bytes.now) }
 {
     bytes.iter().position(|byte| *byte == b'\n')

@@ -26,6 +26,7 @@ pub fn bot_folders<R: AllocGlobal + Files<File = File> + Clock>(rt: &R, seen: &m
     later_starts(rt, seen);
     controls(rt, seen);
     missing_files(rt, seen);
+    other_files(rt, seen);
 }
 
 // Tries folders that a bot can't use.
@@ -38,6 +39,13 @@ fn refused_folders<R: AllocGlobal + Files<File = File> + Clock>(rt: &R, seen: &m
     seen.note("a folder that others may enter", done(made));
     seen.note("taken", taken(rt, BOT));
     seen.note("removed", done(fs::remove_dir(rt, BOT).is_ok()));
+    let made = DirBuilder::new().mode(0o500).create(rt, BOT).is_ok();
+    seen.note("one in which its owner may write nothing", done(made));
+    seen.note("taken", taken(rt, BOT));
+    seen.note("removed", done(fs::remove_dir(rt, BOT).is_ok()));
+    seen.note("a file", done(fs::write(rt, BOT, "").is_ok()));
+    seen.note("taken", taken(rt, BOT));
+    seen.note("removed", done(remove(rt, BOT)));
 }
 
 // Stops starts while they make the journal; after each, the next start begins from the beginning.
@@ -138,6 +146,42 @@ fn missing_files<R: AllocGlobal + Files<File = File> + Clock>(rt: &R, seen: &mut
         "the file is there",
         yes(fs::metadata(rt, "bot/journal/second").is_ok()),
     );
+}
+
+// Starts with a folder that has the name of a file, and reads a number of a net that is too short.
+fn other_files<R: AllocGlobal + Files<File = File> + Clock>(rt: &R, seen: &mut Seen) {
+    let made = DirBuilder::new().create(rt, "bot/journal/second").is_ok();
+    seen.note("a folder with its name", done(made));
+    seen.note("a later start", started(rt));
+    seen.note("a bot is read", read(rt));
+    seen.note(
+        "removed",
+        done(fs::remove_dir(rt, "bot/journal/second").is_ok()),
+    );
+    seen.note(
+        "a net's number of 3 bytes",
+        done(fs::write(rt, "bot/net", "123").is_ok()),
+    );
+    seen.note("it is read", net_read(rt));
+    seen.note(
+        "16 bytes",
+        done(fs::write(rt, "bot/net", "0123456789abcdef").is_ok()),
+    );
+    seen.note("they are read", net_read(rt));
+    seen.note("removed", done(remove(rt, "bot/net")));
+    seen.note("none is read", net_read(rt));
+}
+
+// Reads the number of the net, and returns what is found.
+fn net_read<R: AllocGlobal + Files<File = File> + Clock>(rt: &R) -> &'static str {
+    match BotFolder::take(rt, BOT) {
+        Ok(folder) => match folder.net(rt) {
+            Ok(Some(digits)) => done(&digits == b"0123456789abcdef"),
+            Ok(None) => "no number",
+            Err(error) => word_of(error),
+        },
+        Err(error) => word_of(error),
+    }
 }
 
 // Takes the folder, and returns how that ends.

@@ -76,11 +76,12 @@ pub fn tidy<R: Files>(rt: &R) {
         "bot/new/first",
         "bot/new/second",
         "bot/lock",
+        "bot/net",
         "bot/control",
     ] {
         let _ = fs::remove_file(rt, file);
     }
-    for folder in ["bot/journal", "bot/new", "bot"] {
+    for folder in ["bot/journal/second", "bot/journal", "bot/new", "bot"] {
         let _ = fs::remove_dir(rt, folder);
     }
 }
