@@ -7,7 +7,7 @@ pub returns-in_err-ask-clause-fewer : goal.returns-in_err-ask-clause-fewer
 returns-in_err-ask-clause-fewer g c =
     let asked = asks_at c.args.self.now.bounds.heard c.loop.self.bounds.heard (talk_of c.loop.self) (search rules) (search rules) (search rules) (search rules) in
     let fewer = reads_fewer c.args.pieces c.args.self.now.bounds.heard c.loop.counter (talk_of c.args.self.now) (talk_of c.loop.self) (talk_of c.ask.new.self)
-        c.loop.came c.loop.invariant.reads (search rules) asked (search rules) in
+    c.loop.came c.loop.invariant.reads (search rules) asked (search rules) in
     search (rules, fewer)
 
 pub loop-preserved : goal.loop-preserved
