@@ -55,10 +55,12 @@ impl<S: Stream + Drop> Drop for Connection<S> {
 }
 
 impl<S: Stream + Drop> Connection<S> {
-    ghost use Rattle.std.specs.Prelude.{◌≡◌, ◌≤◌, ◌<◌, ◌+◌, ◌++◌, ◌||◌, ◌&&◌, ◌↔◌, not, true, false, [], length, drop, IfOk, OnErr, vec_len};
+    ghost use Rattle.std.specs.Prelude.{◌≡◌, ◌≤◌, ◌<◌, ◌+◌, ◌++◌, ◌||◌, ◌&&◌, ◌↔◌, not, true, false};
+    ghost use Rattle.std.specs.Prelude.{[], length, take, drop, IfOk, OnErr, vec_len};
     ghost use Rattle.std.specs.Vec.{vec_capacity};
     ghost use Rattle.streams.specs.Transfers.{ReadsPiece};
-    ghost use Rattle.net.specs.Connections.{Grows, Ledger, Holds, Reads, ReadsFewer, Sends, begun, ends_hearing, more_handed, more_told, stalls, talk_of, told_bytes};
+    ghost use Rattle.net.specs.Connections.{Grows, Ledger, Holds, Reads, ReadsFewer, Sends};
+    ghost use Rattle.net.specs.Connections.{begun, ends_hearing, more_handed, more_told, stalls, talk_of, told_bytes};
 
     /// Creates a connection over `stream` that holds at most `bounds`; nothing is heard or told on it yet. Does not
     /// allocate.
@@ -115,10 +117,8 @@ impl<S: Stream + Drop> Connection<S> {
     /// # Errors
     /// `NoMemory` if an allocation fails: never if the stream is not asked. What was read before stays.
     pub fn read(&mut self, pieces: usize) -> Result<bool, NoMemory>
-        ensures reads { IfOk result (λ came. Reads pieces self.old.bounds.heard
-            (talk_of self.old) came (talk_of self.new)) }
-        ensures fewer { OnErr result (ReadsFewer pieces self.old.bounds.heard
-            (talk_of self.old) (talk_of self.new)) }
+        ensures reads { IfOk result (λ came. Reads pieces self.old.bounds.heard (talk_of self.old) came (talk_of self.new)) }
+        ensures fewer { OnErr result (ReadsFewer pieces self.old.bounds.heard (talk_of self.old) (talk_of self.new)) }
         ensures grows { Grows self.old.heard.items self.new.heard.items }
         ensures bounds { self.new.bounds ≡ self.old.bounds }
         ensures holds { (ledger : Ledger)
@@ -197,6 +197,10 @@ impl<S: Stream + Drop> Connection<S> {
         ensures bounds { self.new.bounds ≡ self.old.bounds }
         ensures over { self.new.is_over ≡ self.old.is_over }
         ensures ready { self.new.is_ready ≡ self.old.is_ready }
+        ensures holds { (ledger : Ledger)
+            → Holds ledger (S.source self.old.stream) (S.sink self.old.stream) self.old.heard.items self.old.unsent.items
+            → Holds (more_handed ledger (take count self.old.heard.items)) (S.source self.new.stream) (S.sink self.new.stream)
+            self.new.heard.items self.new.unsent.items }
     {
         let count = count.min(self.heard.len());
         let _taken = self.heard.drain(..count);
@@ -206,13 +210,16 @@ impl<S: Stream + Drop> Connection<S> {
     /// Returns whether they fit. If they don't fit, none of them is queued, and the connection is over.
     ///
     /// # Errors
-    /// `NoMemory` if an allocation fails; it doesn't allocate if there is room already. Nothing is queued then.
+    /// `NoMemory` if an allocation fails; it doesn't allocate if there is room already, or if they don't fit. Nothing is
+    /// queued then.
     pub fn tell(&mut self, bytes: &[u8], end: &[u8]) -> Result<bool, NoMemory>
         // All of them or none.
         ensures told { self.new.unsent.items ≡ self.old.unsent.items ++ told_bytes result (bytes.now ++ end.now) }
-        ensures fits { IfOk result (λ fits. (fits ≡ true) ↔ (vec_len self.old.unsent + length (bytes.now ++ end.now) ≤ self.old.bounds.unsent)) }
+        ensures fits { IfOk result
+            (λ fits. (fits ≡ true) ↔ (vec_len self.old.unsent + length (bytes.now ++ end.now) ≤ self.old.bounds.unsent)) }
         ensures over { IfOk result (λ fits. self.new.is_over ≡ (self.old.is_over || not fits)) }
         ensures memory { OnErr result (vec_capacity self.old.unsent < vec_len self.old.unsent + length (bytes.now ++ end.now)) }
+        ensures memory_fits { OnErr result (vec_len self.old.unsent + length (bytes.now ++ end.now) ≤ self.old.bounds.unsent) }
         ensures memory_over { OnErr result (self.new.is_over ≡ self.old.is_over) }
         ensures heard { self.new.heard.items ≡ self.old.heard.items }
         ensures stream { self.new.stream ≡ self.old.stream }
