@@ -1,5 +1,5 @@
 //! Packets as bytes, as `sharewire` spells and reads them, in plain Rust: the packets and the stream of
-//! `crates/timings/src/frames.rt`, fed in pieces of the same size, with the same tests of what is read.
+//! `benchmarks/timings/src/frames.rt`, fed in pieces of the same size, with the same tests of what is read.
 
 use std::hint::black_box;
 use std::time::Instant;

@@ -1,4 +1,4 @@
-//! A stream of IRC lines, as `ircline` reads it, in plain Rust: the same stream as `crates/timings/src/lines.rt`, fed in
+//! A stream of IRC lines, as `ircline` reads it, in plain Rust: the same stream as `benchmarks/timings/src/lines.rt`, fed in
 //! pieces of the same size, and the same messages.
 
 use std::time::Instant;

@@ -1,5 +1,5 @@
 //! Masks on a text each, as `wildmask` matches them, in plain Rust: the same masks and texts as
-//! `crates/timings/src/masks.rt`, but for those with `%` or `~`.
+//! `benchmarks/timings/src/masks.rt`, but for those with `%` or `~`.
 //!
 //! The match is a loop that goes back to the last star, over the mask's text.
 

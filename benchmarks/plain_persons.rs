@@ -1,5 +1,5 @@
 //! Who a person is, as `userfile` answers it, in plain Rust: the same users, hostmasks and persons as
-//! `crates/timings/src/persons.rt`, and the same rules.
+//! `benchmarks/timings/src/persons.rt`, and the same rules.
 //!
 //! Of all hostmasks that match, the one with most literals decides, then the earlier user, then the earlier mask. In a
 //! hostmask `?` is one byte, `*` any bytes, a backslash takes the meaning of one of `? * % ~ \` away, and every other

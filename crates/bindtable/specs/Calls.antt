@@ -22,7 +22,7 @@ pub record Occurrence : Type 0 where
   pub channel : ℕ
   pub bot : ℕ
 
--- an `BindEvent`, as binds see it
+-- a `BindEvent`, as binds see it
 abbrev pub seen : BindEvent → Occurrence
 seen event =
     record {

@@ -23,7 +23,7 @@
 //! same kind, mask and proc only changes the flags. The order by age is our own choice.
 //!
 //! [`BindTable`] holds up to [`MAX_BINDS`] binds. [`bind`](BindTable::bind) and [`unbind`](BindTable::unbind) change
-//! it, [`called`](BindTable::called) iterates over the binds that an [`BindEvent`] calls without allocating,
+//! it, [`called`](BindTable::called) iterates over the binds that a [`BindEvent`] calls without allocating,
 //! [`find`](BindTable::find) returns their numbers, [`get`](BindTable::get) the bind with a number, and
 //! [`list`](BindTable::list) all of them.
 //!

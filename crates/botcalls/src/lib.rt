@@ -9,7 +9,7 @@
 //! ```text
 //! let view = View::new(&userfile, &channels, Some(1_000_000_000));
 //! let scene = Scene { store: &store, binds: &binds, view: &view, exclusive: false };
-//! let made = call_procs(alloc, &scene, &[Occasion::Heard(event)])?;
+//! let made = call_procs(alloc, &scene, &[Trigger::Heard(event)])?;
 //! let (calls, unbound) = made.into_parts();
 //! ```
 #![tactic(auto)]

@@ -1,7 +1,7 @@
 //! One bot: the events that it handles, the procs that they call, and what it does with the answers.
 //!
 //! A [`Config`] says who a bot is. [`Bot::create`] makes a bot over a new journal on two disks, [`Bot::open`] opens it
-//! from its disks again, and [`Bot::step`] makes one step: it takes an [`BotEvent`] and returns a [`Report`]. A message
+//! from its disks again, and [`Bot::step`] makes one step: it takes a [`BotEvent`] and returns a [`Report`]. A message
 //! of the server, a text of another bot and a reading of the clock call procs of the store that the caller lends. No
 //! other event calls procs.
 //!
@@ -18,9 +18,9 @@
 //! ```text
 //! let mut bot = Bot::create(alloc, config, first, second)?;
 //! let asked = NewBind { kind: BindKind::Msg, flags, mask, proc };
-//! bot.step(alloc, &store, Event::Bind(asked));            // Done, Bound(1)
+//! bot.step(alloc, &store, BotEvent::Bind(asked));            // Done, Bound(1)
 //! let line = read_line(alloc, b":a!b@c PRIVMSG egg0 :hi dave")?;
-//! let report = bot.step(alloc, &store, Event::Line(line));
+//! let report = bot.step(alloc, &store, BotEvent::Line(line));
 //! report.calls.as_slice()                                  // the calls that were made, each with its reply
 //! ```
 #![tactic(auto)]

@@ -102,7 +102,14 @@ module _ (s : State) (sound : IsSound s) where
   all_hold = holds links s.links sound.links.stands sound.links.sound
 
   pub keeps_promises : KeepsPromises s
-  keeps_promises = record { links = links; ends = sound.links.ends_are; packets = sound.links.packets_are; holds = all_hold }
+  keeps_promises =
+      record {
+        links = links;
+        ends = sound.links.ends_are;
+        packets = sound.links.packets_are;
+        sent = sound.links.stands.packets;
+        holds = all_hold;
+      }
 
   pub version_is : (i : ℕ) → shown_version s.net i ≡ link_shows_version links i
   version_is i =

@@ -108,7 +108,9 @@ IsTruePacket s sent = IsTrue s.links.hub.kept (asked_of s.links.leaves) (from_wi
 pub record KeepsPromises (s : State) : Type 0 where
   pub links : LinkNet
   pub ends : ends_of s.net.bots ≡ ends_in links
+  -- the packets of the world are those of the links, and of the history of which `Holds` speaks
   pub packets : all_sent s.net.packets ≡ links.packets
+  pub sent : links.packets ≡ s.links.packets
   pub holds : Holds links s.links
 
 -- ---- what holds of each step

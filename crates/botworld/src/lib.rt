@@ -22,8 +22,8 @@
 //! let hub = Bot::create(alloc, config(0), disk(), disk())?;      // each with `leaves: 1`
 //! let leaf = Bot::create(alloc, config(1), disk(), disk())?;
 //! let mut world = World::new(alloc, vec![in alloc; hub, leaf]?, store)?;
-//! let ask = Step::At { bot: 0, event: Event::Ask(change) };
-//! let pump = Step::At { bot: 0, event: Event::Pump };
+//! let ask = Step::At { bot: 0, event: BotEvent::Ask(change) };
+//! let pump = Step::At { bot: 0, event: BotEvent::Pump };
 //! let transcript = world.run(alloc, &[ask, pump, Step::Deliver { packet: 1 }]);
 //! assert!(world.version(1) == world.version(0));
 //! ```

@@ -11,8 +11,8 @@ use Rattle.miniircd.specs.declared.channel_edit.ChannelEdit.{ChannelEdit}
 use Rattle.miniircd.specs.declared.channel_edit.ChannelEdit.TheVariants as edit
 use Rattle.miniircd.specs.declared.entrance.Entrance.{Entrance}
 use Rattle.miniircd.specs.declared.entrance.Entrance.TheVariants as entrance
-use Rattle.miniircd.specs.declared.undo.Undo.{Undo}
-use Rattle.miniircd.specs.declared.undo.Undo.TheVariants as entry
+use Rattle.miniircd.specs.declared.undo_step.UndoStep.{UndoStep}
+use Rattle.miniircd.specs.declared.undo_step.UndoStep.TheVariants as entry
 
 -- a client that creates a channel by joining it is its operator
 abbrev pub founder : ℕ → ServerMember
@@ -183,7 +183,7 @@ joined_each client source [] channels = channels
 joined_each client source (name ∷ names) channels = joined_each client source names (joined client source name channels)
 
 -- the channels as they were before an entry
-abbrev pub undone : Undo → List ServerChannel → List ServerChannel
+abbrev pub undone : UndoStep → List ServerChannel → List ServerChannel
 undone entry.Nowhere channels = channels
 undone entry.Made channels = take (length channels - 1) channels
 undone (entry.Came place old) channels = slice_set channels place old

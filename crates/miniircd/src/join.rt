@@ -3,7 +3,7 @@ ghost use Rattle.std.specs.Prelude.{◌≡◌, ◌∷◌, [], IfOk, OnErr, OnOk,
 ghost use Rattle.std.specs.Option.{option_copied};
 ghost use Rattle.miniircd.specs.Mail.{posted};
 ghost use Rattle.miniircd.specs.Rooms.{room, entered, joined, joined_each, undone};
-ghost use Rattle.miniircd.specs.declared.undo.Undo.TheVariants.{Nowhere};
+ghost use Rattle.miniircd.specs.declared.undo_step.UndoStep.TheVariants.{Nowhere};
 ghost use Rattle.miniircd.specs.Lines.{told, repeated, source_of, relayed, spread, titling, arrival, join_letters, join_letters_each};
 
 use crate::client_identity::ClientIdentity;
@@ -13,7 +13,7 @@ use crate::member::{ServerChannel, ServerMember, channel_of};
 use crate::names::tell_names;
 use crate::post::Post;
 use crate::replies::{Sender, spread, tell_of};
-use crate::undo::{Undo, enter, undo};
+use crate::undo_step::{UndoStep, enter, undo};
 use bytetext::{NoMemory, Text};
 use slab::Slab;
 use std::alloc::Global;
@@ -81,7 +81,7 @@ fn come_in(
     me: &Sender<'_>,
     name: &[u8],
     channels: &mut Vec<ServerChannel>,
-) -> Result<Undo, NoMemory>
+) -> Result<UndoStep, NoMemory>
     ensures joined { OnOk result (channels.new.items ≡ entered name.now me.now.key channels.old.items) }
     ensures back { IfOk result (λ entry. undone entry channels.new.items ≡ channels.old.items) }
     ensures told { OnOk result (post.new
@@ -108,13 +108,13 @@ fn keep_out(
     code: &[u8],
     name: &[u8],
     why: &[u8],
-) -> Result<Undo, NoMemory>
+) -> Result<UndoStep, NoMemory>
     ensures nowhere { IfOk result (λ entry. entry ≡ Nowhere) }
     ensures told { OnOk result (post.new
         ≡ posted (told me.now.key me.now.person.now code.now (repeated name.now) why.now ∷ []) post.old) }
 {
     tell_of(alloc, post, me, code, name, why)?;
-    Ok(Undo::Nowhere)
+    Ok(UndoStep::Nowhere)
 }
 
 // Lets a client join the channel of one name, if it may.
@@ -126,7 +126,7 @@ fn join(
     me: &Sender<'_>,
     name: &[u8],
     channels: &mut Vec<ServerChannel>,
-) -> Result<Undo, NoMemory>
+) -> Result<UndoStep, NoMemory>
     ensures joined { OnOk result (channels.new.items ≡ joined me.now.key (source_of me.now.person.now) name.now channels.old.items) }
     ensures back { IfOk result (λ entry. undone entry channels.new.items ≡ channels.old.items) }
     ensures told { OnOk result (post.new
@@ -136,7 +136,7 @@ fn join(
     let source = source_of(alloc, me.person)?;
     match find_entrance(channels.as_slice(), name, me.key, source.as_slice()) {
         Entrance::Open => come_in(alloc, post, clients, me, name, channels),
-        Entrance::Inside => Ok(Undo::Nowhere),
+        Entrance::Inside => Ok(UndoStep::Nowhere),
         Entrance::Nameless => keep_out(alloc, post, me, b"403", name, b"No such channel"),
         Entrance::TooMany => {
             let why = b"You have joined too many channels";

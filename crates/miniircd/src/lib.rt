@@ -51,7 +51,7 @@ mod standing;
 mod talk;
 mod texts;
 mod turn;
-mod undo;
+mod undo_step;
 mod who;
 mod whois;
 

@@ -8,7 +8,8 @@ use Rattle.protocol.specs.Packets.{Sent as LinkSent, from_wire}
 use Rattle.protocol.specs.Bots.{How, Works, Fails, Counts, Row}
 use Rattle.protocol.specs.Network.{posted as link_posted}
 use Rattle.protocol.specs.Network.Event.{Pump as pumps, Compact as compacts, Restart as restarts}
-use Rattle.protocol.specs.History.{History}
+use Rattle.protocol.specs.History.{History, Grows}
+use Rattle.botworld.specs.Network.{GrowsByNote}
 use Rattle.protocol.proofs.Growing.{Grows-trans}
 use Rattle.sharelink.specs.Calls.{outgoings_of}
 use Rattle.protocol.specs.Ends.{End as LinkEnd, end_received}
@@ -82,6 +83,22 @@ module _ (w : Net) (h : History) (st : Stands w h) where
       (subst (λ (ps : List LinkSent). AreAmong (w.packets ++ posted bot step.report.packets) (st.packets ++ ps))
       (all_sent-posted bot step.report.packets)
       (AreAmong-out w.packets (posted bot step.report.packets) st.packets st.told))
+
+  pub made_told : (promised : Promised) (bot : ℕ) (step : Step) → Makes promised w bot step
+      → (after : History) × Stands (after_deed w (Made bot step)) after × Grows h after
+      × GrowsByNote bot step.report.note h.hub.kept.accepted after.hub.kept.accepted
+  unfolding moves
+  made_told promised bot step m =
+      let among = (running bot step.was m.running).among in
+      let g = bot_goes promised step.names h st.ends st.packets bot step.was among step.event step.report step.after
+      (was_sent w.packets st.packets st.told bot step.event m.told) m.takes in
+      let r = moves w h st bot step.was.link among.at (Runs step.after) (w.packets ++ posted bot step.report.packets)
+      (st.packets ++ link_posted bot (outgoings_of step.report.packets)) step.after.link g.after g.sound g.grows g.count
+      (g.number ∙ among.number) (g.leaves ∙ among.leaves) refl
+      (subst (λ (ps : List LinkSent). AreAmong (w.packets ++ posted bot step.report.packets) (st.packets ++ ps))
+      (all_sent-posted bot step.report.packets)
+      (AreAmong-out w.packets (posted bot step.report.packets) st.packets st.told)) in
+      (g.after, r.stands, g.grows, g.accepted)
 
   -- ---- a death
 

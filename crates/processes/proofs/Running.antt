@@ -7,13 +7,13 @@ use Rattle.sharewire.specs.declared.packet.Packet.{Packet}
 use Rattle.procstore.specs.Promises.{Promised}
 use Rattle.protocol.specs.Numbers.{item_at}
 use Rattle.protocol.specs.Packets.{AcceptedChange, Sent as LinkSent, from_wire}
-use Rattle.protocol.specs.History.{History, start}
+use Rattle.protocol.specs.History.{History, start, records_of}
 use Rattle.protocol.specs.Claims.{Holds, WasSent}
 use Rattle.protocol.proofs.Growing.{Grows-refl, Grows-trans}
 use Rattle.protocol.proofs.Holding.{holds}
 use Rattle.protocol.specs.Ends.{End as LinkEnd, new_end, end_version, end_records}
 use Rattle.protocol.specs.Nets.{Keeps}
-use Rattle.protocol.proofs.Moments.{begins, keeps}
+use Rattle.protocol.proofs.Moments.{begins, keeps, shows}
 use Rattle.sharelink.specs.BotLinks.{BotEnd}
 use Rattle.botcore.specs.Bots.{Bot}
 use Rattle.botcore.specs.Links.{link_version}
@@ -141,6 +141,13 @@ shown w h st bot version shows = by (slice_get w.processes bot) refl shows
           version_is = let v : link_version b.link ≡ version = cc in v;
           records_are = ap records_in at;
         }
+
+pub stands_at_version : (w : Net) (h : History) → Stands w h → (bot version : ℕ) → shown_version w bot ≡ Some version
+    → shown_records w bot ≡ Some (records_of h.hub.kept.accepted version)
+stands_at_version w h st bot version is =
+    let a = shown w h st bot version is in
+    a.records_are ∙ ap (λ (r : Records). Some r)
+    ((shows st.ends st.packets h st.moment).records bot a.end a.at ∙ ap (records_of h.hub.kept.accepted) a.version_is)
 
 module _ (promised : Promised) (count : ℕ) (w : Net)
     (first more : List Deed) (is : IsFirst count w) (run : Run promised w (first ++ more)) where

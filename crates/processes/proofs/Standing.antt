@@ -18,7 +18,7 @@ use Rattle.protocol.proofs.Lists.{slice_set-other}
 module _ (w : Net) (h : History) (st : Stands w h) (place : ℕ) (old : BotEnd)
     (at : slice_get st.ends place ≡ Some old.end) where
   -- the other processes have their ends, the one that moved has this one
-  pub moves : (process : Process) (told : List Sent) (packets : List LinkSent) (new : BotEnd) (after : History)
+  unfoldable pub moves : (process : Process) (told : List Sent) (packets : List LinkSent) (new : BotEnd) (after : History)
       → IsMoment (slice_set st.ends place new.end) packets after → Grows h after → after.count ≡ h.count
       → new.number ≡ place → new.leaves ≡ h.count → HasEnd new process → AreAmong told packets
       → Reaches h (record { processes = slice_set w.processes place process; packets = told })

@@ -1,6 +1,6 @@
 // The laws of the deeds of bots in processes of their own.
 ghost use Rattle.std.specs.Prelude.{◌≡◌, ◌⊎◌, ◌≤◌, ◌+◌, ◌++◌, ℕ, suc, true, List, slice_get, Some, Ok};
-ghost use Rattle.protocol.specs.History.{History, start};
+ghost use Rattle.protocol.specs.History.{Grows, History, start, records_of};
 ghost use Rattle.disks.specs.State.{may_leave, moment, left_since};
 ghost use Rattle.botjournal.specs.Ledger.{Device};
 ghost use Rattle.sharelink.specs.BotLinks.{BotEnd, MayLeave};
@@ -11,6 +11,8 @@ ghost use Rattle.botcore.specs.declared.report.Report.{Report};
 ghost use Rattle.botcore.specs.Making.{Finds, LeavesFound};
 ghost use Rattle.botcore.specs.Steps.{TakesStep};
 ghost use Rattle.botworld.specs.Calling.{Calling, IsAlike, IsAlikeButChannels, IgnoresChannels};
+ghost use Rattle.botworld.specs.Network.{GrowsByNote};
+ghost use Rattle.processes.specs.Deeds.{Happens, after_deed};
 ghost use Rattle.processes.specs.Deeds.{Net, Step, Deed, Made, Nothing, Telling, IsOpened, IsUnopened, CrashesIn, LeavesIn, Run, IsFirst, net_after};
 ghost use Rattle.processes.specs.Deeds.{shown_version, shown_records};
 ghost use Rattle.processes.specs.Standing.{Stands, Reaches};
@@ -27,6 +29,9 @@ pub fn laws_of_processes<P: Promise, D: Disk>()
     // Deeds lead to a moment into which history has grown.
     ensures goes { (w : Net) (h : History) (deeds : List Deed)
         → Stands w h → Run P.promised w deeds → Reaches h (net_after w deeds) }
+    // A bot at version v shows the records that the first v changes make that the hub has accepted.
+    ensures at_version { (w : Net) (h : History) → Stands w h → (bot version : ℕ) → shown_version w bot ≡ Some version
+        → shown_records w bot ≡ Some (records_of h.hub.kept.accepted version) }
     // At any two moments, bots at one version hold the same records.
     ensures same_records { (count : ℕ) (w : Net) (first more : List Deed)
         → IsFirst count w → Run P.promised w (first ++ more) → (one other version : ℕ)
@@ -38,6 +43,10 @@ pub fn laws_of_processes<P: Promise, D: Disk>()
         → IsFirst count w → Run P.promised w (first ++ more) → (bot before after : ℕ)
         → shown_version (net_after w first) bot ≡ Some before
         → shown_version (net_after w (first ++ more)) bot ≡ Some after → before ≤ after }
+    // The list of accepted changes grows as the hub's step reports, and at no other step.
+    ensures grows_as_told { (w : Net) (h : History) (bot : ℕ) (step : Step) → Stands w h → Happens P.promised w (Made bot step)
+        → (after : History) × Stands (after_deed w (Made bot step)) after × Grows h after
+        × GrowsByNote bot step.report.note h.hub.kept.accepted after.hub.kept.accepted }
     // A request is accepted at most once, and is reported so.
     ensures once { (count : ℕ) (w : Net) (deeds : List Deed)
         → IsFirst count w → Run P.promised w deeds → Once (net_after w deeds) }

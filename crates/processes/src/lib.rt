@@ -8,9 +8,10 @@
 //! - another process opens the bot from the bytes on its disks;
 //! - or that process ends before it has opened the bot.
 //!
-//! [`laws_of_processes`] states for every such list what a world promises of a run. Bots at one version hold the same
-//! records, at any two moments. No version goes back, even over deaths and openings. A request is accepted at most
-//! once, and is reported so. Bots that are alike call the same procs.
+//! [`laws_of_processes`] states for every such list what a world promises of a run. Bots at version v hold the same
+//! records, at any two moments: those after the hub's first v accepted changes. That list grows as the hub's steps
+//! report. No version goes back, even over deaths and openings. A request is accepted at most once, and is reported
+//! so. Bots that are alike call the same procs.
 //!
 //! The laws rest on premises, which are definitions in `specs/Deeds` (`Happens`, `IsFirst`):
 //!
@@ -18,8 +19,8 @@
 //! - a step is one that `botcore::Bot::step` allows, over a store that keeps one promise;
 //! - a bot takes only packets from the report of another bot: whole, but as often and as late as may be;
 //! - a process that dies in a call leaves on the disks what they meant before it, or the same with the record that the
-//!   call was journaling (`LeavesIn`). `botjournal` proves this for each of its calls; for a whole call of a bot
-//!   nothing is proved, since the values in its clauses name no disk.
+//!   call was journaling (`LeavesIn`). Of a step of a bot the clause `died` proves it, from what `Bot::step` and
+//!   `Bot::know_disks` say.
 //!
 //! For the other deeds a bot's own calls say enough. An opening is one that `Bot::open` found (`opened`). An opening
 //! in which the process dies leaves what `Bot::open` says of each of its moments (`unopened`). A process that ends

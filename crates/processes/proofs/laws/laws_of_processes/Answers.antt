@@ -1,7 +1,8 @@
 use Rattle.protocol.specs.History.{start}
-use Rattle.processes.proofs.Running.{run_goes, first_stands, run_same_records, run_never_back, stands_once}
+use Rattle.processes.proofs.Running.{stands_at_version, run_goes, first_stands, run_same_records, run_never_back, stands_once}
 use Rattle.processes.proofs.Calling.{run_same_calls, run_same_calls_ignoring_channels}
 use Rattle.processes.proofs.Dying.{step_dies}
+use Rattle.processes.proofs.Going.{made_told}
 use Rattle.processes.proofs.laws.laws_of_processes.Goals as goal
 
 pub returns-clause-begins : goal.returns-clause-begins
@@ -10,6 +11,9 @@ returns-clause-begins g c = first_stands
 pub returns-clause-goes : goal.returns-clause-goes
 returns-clause-goes g c = λ w h deeds st run. run_goes g.P.Promise.promised w h deeds st run
 
+pub returns-clause-at_version : goal.returns-clause-at_version
+returns-clause-at_version g c = stands_at_version
+
 pub returns-clause-same_records : goal.returns-clause-same_records
 returns-clause-same_records g c = λ count w first more is run. run_same_records g.P.Promise.promised
     count w first more is run
@@ -17,6 +21,9 @@ returns-clause-same_records g c = λ count w first more is run. run_same_records
 pub returns-clause-never_back : goal.returns-clause-never_back
 returns-clause-never_back g c = λ count w first more is run. run_never_back g.P.Promise.promised count
     w first more is run
+
+pub returns-clause-grows_as_told : goal.returns-clause-grows_as_told
+returns-clause-grows_as_told g c = λ w h bot step st m. made_told w h st g.P.Promise.promised bot step m
 
 pub returns-clause-once : goal.returns-clause-once
 returns-clause-once g c =

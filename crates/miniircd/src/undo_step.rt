@@ -11,7 +11,7 @@ use std::mem;
 
 /// What must be undone if memory runs out later.
 #[derive(Drop)]
-pub enum Undo {
+pub enum UndoStep {
     // Nothing.
     Nowhere,
     // The last channel was created.
@@ -40,7 +40,7 @@ pub fn enter(
     channels: &mut Vec<ServerChannel>,
     name: &[u8],
     client: usize,
-) -> Result<Undo, NoMemory>
+) -> Result<UndoStep, NoMemory>
     ensures entered { OnOk result (channels.new.items ≡ entered name.now client channels.old.items) }
     ensures back { IfOk result (λ entry. undone entry channels.new.items ≡ channels.old.items) }
     ensures err { OnErr result (channels.new.items ≡ channels.old.items) }
@@ -49,27 +49,27 @@ pub fn enter(
         Some(place) => {
             let after = edited(alloc, &channels[place], ChannelEdit::Enter(client))?;
             let old = mem::replace(&mut channels[place], after);
-            Ok(Undo::Came { place, old })
+            Ok(UndoStep::Came { place, old })
         }
         None => {
             let channel = opened(alloc, name, client)?;
             channels.push(channel)?;
-            Ok(Undo::Made)
+            Ok(UndoStep::Made)
         }
     }
 }
 
 /// Undoes `entry`: the channels are as they were before it. Allocates nothing.
 #[tactic(auto, using(std::proofs::lemmas::List::set_past))]
-pub fn undo(channels: &mut Vec<ServerChannel>, entry: Undo)
+pub fn undo(channels: &mut Vec<ServerChannel>, entry: UndoStep)
     ensures { channels.new.items ≡ undone entry channels.old.items }
 {
     match entry {
-        Undo::Nowhere => {}
-        Undo::Made => {
+        UndoStep::Nowhere => {}
+        UndoStep::Made => {
             channels.truncate(channels.len().saturating_sub(1));
         }
-        Undo::Came { place, old } => {
+        UndoStep::Came { place, old } => {
             if place < channels.len() {
                 channels[place] = old;
             }
