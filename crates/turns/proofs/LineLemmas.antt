@@ -1,5 +1,5 @@
 -- The lines of a turn are those that its bytes complete.
-use Rattle.std.proofs.Common.{◌≡◌, ◌∙◌, ◌++◌, ℕ, Bool, true, false, List, [], ◌∷◌, map, refl, sym, ap, subst, append_assoc, inl, inr}
+use Rattle.std.proofs.Common.{◌≡◌, ◌∙◌, ◌++◌, ℕ, Bool, true, false, List, [], ◌∷◌, map, refl, sym, ap, subst, append_assoc, append-nil, inl, inr}
 use Rattle.ircline.specs.declared.line.Line.{Line as ReadLine}
 use Rattle.userfile.specs.declared.change.Change.{Change}
 use Rattle.procstore.specs.Promises.{Promised}
@@ -18,7 +18,7 @@ use Rattle.turns.specs.Turns.{AreEvents, IsNoLine, Steps, StepsTo, StepsFirstTo,
 
 -- ---- the lines among events
 
-line_in : BotEvent → List ReadLine
+abbrev line_in : BotEvent → List ReadLine
 line_in Connect = []
 line_in (Line line) = line ∷ []
 line_in (Ask change) = []
@@ -30,7 +30,7 @@ line_in (Unbind gone) = []
 line_in Compact = []
 line_in Restart = []
 
-lines_in : List BotEvent → List ReadLine
+abbrev lines_in : List BotEvent → List ReadLine
 lines_in [] = []
 lines_in (event ∷ events) = line_in event ++ lines_in events
 
@@ -43,14 +43,17 @@ lines_in-append (x ∷ xs) ys = ap (λ (l : List ReadLine). line_in x ++ l) (lin
 lines_in-after : (xs ys : List BotEvent) → lines_in xs ≡ [] → lines_in (xs ++ ys) ≡ lines_in ys
 lines_in-after xs ys none = lines_in-append xs ys ∙ ap (λ (l : List ReadLine). l ++ lines_in ys) none
 
+lines_in-before : (xs ys : List BotEvent) → lines_in ys ≡ [] → lines_in (xs ++ ys) ≡ lines_in xs
+lines_in-before xs ys none =
+    lines_in-append xs ys ∙ ap (λ (l : List ReadLine). lines_in xs ++ l) none ∙ append-nil (lines_in xs)
+
 lines_in-when : (due : Bool) (event : BotEvent) → line_in event ≡ [] → lines_in (when due event) ≡ []
 lines_in-when true event none = ap (λ (l : List ReadLine). l ++ []) none
 lines_in-when false event none = refl
 
-lines_in-lines : (lines : List ReadLine) (events : List BotEvent) → lines_in events ≡ []
-    → lines_in (line_events lines ++ events) ≡ lines
-lines_in-lines [] events none = none
-lines_in-lines (line ∷ lines) events none = ap (λ (l : List ReadLine). line ∷ l) (lines_in-lines lines events none)
+lines_in-lines : (lines : List ReadLine) → lines_in (line_events lines) ≡ lines
+lines_in-lines [] = refl
+lines_in-lines (line ∷ lines) = ap (λ (l : List ReadLine). line ∷ l) (lines_in-lines lines)
 
 lines_in-packets : (packets : List Packet) → lines_in (map (λ packet. Receive packet) packets) ≡ []
 lines_in-packets [] = refl
@@ -62,12 +65,18 @@ lines_in-changes (change ∷ changes) = lines_in-changes changes
 
 lines_in-turn : (heard : Heard) (lines : List ReadLine) → lines_in (turn_events heard lines) ≡ lines
 lines_in-turn heard lines =
-    lines_in-after (when heard.connected Connect) _ (lines_in-when heard.connected Connect refl)
-    ∙ lines_in-lines lines _
-    (lines_in-after (map (λ (packet : Packet). Receive packet) heard.packets.items) _ (lines_in-packets heard.packets.items)
-    ∙ lines_in-after (map (λ (change : Change). Ask change) heard.changes.items) _ (lines_in-changes heard.changes.items)
-    ∙ lines_in-after (when heard.pump Pump) _ (lines_in-when heard.pump Pump refl)
-    ∙ lines_in-when heard.compact Compact refl)
+    let takes = map (λ (packet : Packet). Receive packet) heard.packets.items in
+    let asks = map (λ (change : Change). Ask change) heard.changes.items in
+    let one = when heard.connected Connect ++ line_events lines in
+    let two = one ++ Clock heard.now ∷ takes in
+    let three = two ++ asks in
+    let four = three ++ when heard.pump Pump in
+    lines_in-before four (when heard.compact Compact) (lines_in-when heard.compact Compact refl)
+    ∙ lines_in-before three (when heard.pump Pump) (lines_in-when heard.pump Pump refl)
+    ∙ lines_in-before two asks (lines_in-changes heard.changes.items)
+    ∙ lines_in-before one (Clock heard.now ∷ takes) (lines_in-packets heard.packets.items)
+    ∙ lines_in-after (when heard.connected Connect) (line_events lines) (lines_in-when heard.connected Connect refl)
+    ∙ lines_in-lines lines
 
 -- ---- the lines among events whose steps are made
 
@@ -98,16 +107,16 @@ lines_told-in promised names old new (e ∷ events) (r ∷ reports) (next, made,
 
 -- an event that is not a line has none
 pub line_told-none : (event : BotEvent) (report : Report) → IsNoLine event → line_told event report ≡ []
-line_told-none Connect report no = refl
-line_told-none (Line line) report no = absurd no
-line_told-none (Ask change) report no = refl
-line_told-none Pump report no = refl
-line_told-none (Receive packet) report no = refl
-line_told-none (Clock now) report no = refl
-line_told-none (Bind asked) report no = refl
-line_told-none (Unbind gone) report no = refl
-line_told-none Compact report no = refl
-line_told-none Restart report no = refl
+line_told-none Connect report other = refl
+line_told-none (Line line) report other = absurd other
+line_told-none (Ask change) report other = refl
+line_told-none Pump report other = refl
+line_told-none (Receive packet) report other = refl
+line_told-none (Clock now) report other = refl
+line_told-none (Bind asked) report other = refl
+line_told-none (Unbind gone) report other = refl
+line_told-none Compact report other = refl
+line_told-none Restart report other = refl
 
 -- ---- a turn
 
