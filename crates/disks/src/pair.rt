@@ -1,7 +1,7 @@
 // The two files of a journal.
 ghost use Rattle.std.specs.Prelude.{◌≡◌, [], IfOk, IfSome};
 
-use crate::disk::Disk as _;
+use crate::disk::Disk;
 use crate::file_disk::FileDisk;
 use crate::file_fault::{FileDiskError, FileFault};
 use bytetext::Failure;

@@ -11,7 +11,7 @@ use crate::line::Line;
 use crate::message::Message;
 use crate::prefix::nick;
 use crate::words::parted;
-use bstr::ByteSlice as _;
+use bstr::ByteSlice;
 use bytetext::{NoMemory, Text, Texts};
 use std::alloc::Global;
 
