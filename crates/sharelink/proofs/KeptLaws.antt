@@ -132,15 +132,15 @@ module _ {S R : Type 0} (state_of : Contents → Option S) (folded : S → R →
         first_later = omega arith;
         second_later = omega arith;
         each = λ x y left right.
-            let is = leaves x y (only_now old.device.first x left) (only_now old.device.second y right) in
-            still x y is.first_whole is.second_whole is.means;
+            let there = leaves x y (only_now old.device.first x left) (only_now old.device.second y right) in
+            still x y there.first_whole there.second_whole there.means;
       })
       by (inr moments) = record {
         first_later = moments.first_later;
         second_later = moments.second_later;
         each = λ x y left right.
-            let is = moments.each x y left right in
-            while x y is.first_whole is.second_whole is.means;
+            let there = moments.each x y left right in
+            while x y there.first_whole there.second_whole there.means;
       }
 
   -- while the journal is opened again

@@ -1,5 +1,5 @@
 -- What a crash leaves of an end's disks, as of a bot's end.
-use Rattle.std.proofs.Common.{◌≡◌, ◌⊎◌, ◌<◌, inl, inr, ℕ, zero, suc, List, None, Some, option_map, sym, ap, subst, ◌∙◌, arith}
+use Rattle.std.proofs.Common.{◌≡◌, ◌⊎◌, ◌<◌, inl, inr, ℕ, zero, suc, List, Option, None, Some, option_map, sym, ap, subst, ◌∙◌, arith}
 use Rattle.std.specs.Prelude.{IsSome}
 use Rattle.bytetext.specs.declared.failure.Failure.TheVariants.{Refused}
 use Rattle.disks.specs.State.{State}
@@ -18,8 +18,6 @@ use Rattle.sharelink.specs.HubLinks.{HubEnd, IsOwn as HubIsOwn}
 use Rattle.sharelink.specs.LeafLinks.{LeafEnd, IsOwn as LeafIsOwn}
 use Rattle.sharelink.specs.BotEnds.{hub_end, leaf_end}
 use Rattle.sharelink.specs.BotLinks.{BotEnd, did, hub_at_rest, leaf_at_rest, end_meaning, AreOf, LeavesOwn}
-use Rattle.sharelink.specs.StateOpening.{IsAnothers}
-use Rattle.sharelink.specs.BotLinks.{RenewsEnd}
 use Rattle.sharelink.specs.BotOpening.{FindsNone}
 
 pub hub_left : (hub : HubEnd) (x y : List ℕ) → KeptAreOf (hub_meaning hub.leaves) hub_folded hub.bot.kept hub.bot.doubt x y → AreOf (hub_end hub) x y
@@ -79,7 +77,7 @@ never_refused state link first second first' second' own why = by why
   where
     journal : IsJournal (state first).seen (state second).seen
     journal = record {
-      some = subst (λ o. IsSome o) (sym own.mean.found) tt;
+      some = subst (λ (o : Option Contents). IsSome o) (sym own.mean.found) tt;
       first_whole = own.first_whole;
       second_whole = own.second_whole;
     }
@@ -87,10 +85,11 @@ never_refused state link first second first' second' own why = by why
     by : FindsNone state link.number link.leaves first second (Refused NotAJournal) first' second' → ⊥
     by (inl none) = none journal
     by (inr another) =
+        let both : Some another.contents ≡ Some own.mean.contents = sym another.found ∙ own.mean.found in
         let same : another.contents ≡ own.mean.contents = cc in
         let nothing : end_meaning link.number link.leaves own.mean.contents ≡ None =
         ap (λ (c : Contents). end_meaning link.number link.leaves c) (sym same) ∙ another.means in
         elim own.mean.means [
-          | inl works ↦ absurd (cc)
-          | inr counts ↦ absurd (cc)
+          | inl works ↦ let no : Some (did link Restart Works).after ≡ None = sym works ∙ nothing in absurd (cc)
+          | inr counts ↦ let no : Some (did link Restart Counts).after ≡ None = sym counts ∙ nothing in absurd (cc)
         ]

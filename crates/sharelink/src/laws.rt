@@ -13,6 +13,6 @@ use disks::Disk;
 /// `row` of each call that uses a disk, say that whatever a crash leaves is the bot's.
 pub fn law_of_left_disks<D: Disk>()
     // Opening the disks that a bot left, as that bot, never returns `NotAJournal`.
-    ensures { (link : BotEnd) (first second first' second' : D) → AreOf link (D.state first).seen (D.state second).seen
-        → FindsNone D.state link.number link.leaves first second (Refused NotAJournal) first' second' → ⊥ }
+    ensures { (link : BotEnd) (first second one other : D) → AreOf link (D.state first).seen (D.state second).seen
+        → FindsNone D.state link.number link.leaves first second (Refused NotAJournal) one other → ⊥ }
 {}
