@@ -95,8 +95,7 @@ class Trial:
         self.tally, self.room = tally, room
         self.bot = Bot(program, room, name, [Ours(room, program)], lines)
         self.journal = [f"{self.bot.folder}/journal/{it}" for it in ("first", "second")]
-        tally.note(f"{name}: it is made", self.bot.start(), self.bot.logged()[-300:])
-        self.bot.end()
+        self.starts(f"{name}: it is made")
 
     def words(self, word):
         return [self.bot.program, word, self.bot.config if word == "run" else self.bot.folder]
@@ -114,7 +113,8 @@ class Trial:
         self.tally.note(what, seen[0] == status and seen[1].startswith(said), f"{seen[1]}status {seen[0]}, {took:.1f} s")
 
     def starts(self, what):
-        self.tally.note(what, self.bot.start(), self.bot.logged()[-300:])
+        is_up = self.bot.start()
+        self.tally.note(what, is_up, "" if is_up else self.bot.logged()[-300:])
         self.bot.end()
 
 
