@@ -1,10 +1,10 @@
 -- What each call does to a connection to a server.
-use Rattle.std.specs.Prelude.{◌≡◌, if◌then◌else◌, ℕ, Bool, true, false, List, [], Option, None, Some, option_map}
-use Rattle.net.specs.Connections.{Talk, Reads, SendsOn, named, with_bytes}
+use Rattle.std.specs.Prelude.{◌≡◌, ◌&&◌, not, if◌then◌else◌, ℕ, Bool, true, false, List, [], Option, None, Some, option_map}
+use Rattle.net.specs.Connections.{Talk, Reads, ReadsFewer, SendsOn, named, with_bytes}
 use Rattle.serverlink.specs.Lines.{is_line}
 use Rattle.serverlink.specs.Told.{ended}
 use Rattle.serverlink.specs.declared.server_wire.TheConstants.{MOST}
-use Rattle.serverlink.specs.declared.session.TheConstants.{PIECES}
+use Rattle.serverlink.specs.declared.irc_connection.TheConstants.{PIECES}
 use Rattle.serverlink.specs.declared.session.Session.{Session}
 
 -- a line is queued with CR and LF; bytes that are not a line are ignored
@@ -36,6 +36,17 @@ abbrev pub MayReadAll : Option Talk → Option Talk → Type 0
 MayReadAll None new = new ≡ None
 MayReadAll (Some old) None = ⊥
 MayReadAll (Some old) (Some new) = (came : Bool) × Reads PIECES MOST old came new
+
+-- memory ran out before the last of the reads of a connection
+abbrev pub ReadsSome : Option Talk → Option Talk → Type 0
+ReadsSome None new = ⊥
+ReadsSome (Some old) None = ⊥
+ReadsSome (Some old) (Some new) = ReadsFewer PIECES MOST old new
+
+-- whether its stream may have something to read
+abbrev pub may_give_in : Option Talk → Bool
+may_give_in None = false
+may_give_in (Some talk) = talk.gives && not talk.over
 
 abbrev pub MaySend : Option Talk → Bool → Option Talk → Type 0
 MaySend None more new = (more ≡ false) × (new ≡ None)

@@ -13,6 +13,9 @@ use settings::{Server, Settings};
 use std::alloc::Global;
 use std::net::Net;
 
+// The most pieces that one turn reads.
+const PIECES: usize = 16;
+
 // The token under which the connection to a server is watched.
 const TOKEN: usize = 1;
 
@@ -42,11 +45,11 @@ impl Drop for IrcConnection {
 }
 
 impl IrcConnection {
-    ghost use Rattle.std.specs.Prelude.{◌≡◌, ◌==◌, true, Some, [], option_map, OnOk, MatchOption};
+    ghost use Rattle.std.specs.Prelude.{◌≡◌, ◌==◌, true, Some, [], option_map, IfOk, OnOk, MatchOption};
     ghost use Rattle.std.specs.List.{list_any};
     ghost use Rattle.net.specs.Dials.{lost};
     ghost use Rattle.net.specs.Connections.{handed};
-    ghost use Rattle.serverlink.specs.Talks.{MayReadAll, MaySend, heard_in, held, told, woken, talk_in};
+    ghost use Rattle.serverlink.specs.Talks.{MayReadAll, MaySend, ReadsSome, heard_in, may_give_in, held, told, woken, talk_in};
 
     /// Creates an uplink from `settings` without a connection; an attempt to connect is due at once.
     ///
@@ -179,12 +182,17 @@ impl IrcConnection {
     /// `NoMemory` if an allocation fails: never without a connection. What was read before stays.
     pub fn read(&mut self, now: u64) -> Result<bool, NoMemory>
         ensures reads { OnOk result (MayReadAll (talk_in self.old.session) (talk_in self.new.session)) }
+        ensures more { IfOk result (λ more. more ≡ may_give_in (talk_in self.new.session)) }
+        ensures fewer { OnErr result (ReadsSome (talk_in self.old.session) (talk_in self.new.session)) }
         ensures memory { IfErr result (λ _. self.old.session ≢ None) }
     {
-        match &mut self.session {
-            Some(session) => session.read(now),
-            None => Ok(false),
+        let Some(session) = &mut self.session else {
+            return Ok(false);
+        };
+        if session.wire.connection.read(PIECES)? {
+            session.vigil.hear(now);
         }
+        Ok(session.wire.connection.may_give())
     }
 
     /// Takes the bytes that were read and not taken yet. Allocates nothing.

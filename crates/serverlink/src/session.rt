@@ -1,9 +1,6 @@
 // One connection to a server.
-ghost use Rattle.std.specs.Prelude.{◌≡◌, ◌&&◌, not, Bool, length, OnOk, OnErr, IfOk};
-ghost use Rattle.net.specs.Connections.{Reads, ReadsFewer};
+ghost use Rattle.std.specs.Prelude.{◌≡◌, length, OnOk, OnErr};
 ghost use Rattle.serverlink.specs.Talks.{told};
-ghost use Rattle.serverlink.specs.declared.server_wire.TheConstants.{MOST};
-ghost use Rattle.serverlink.specs.declared.session.TheConstants.{PIECES};
 
 use crate::pace::Pace;
 use crate::server_wire::ServerWire;
@@ -12,13 +9,10 @@ use bytetext::NoMemory;
 use net::TcpSocket;
 use std::alloc::Global;
 
-// The most pieces that one turn reads.
-const PIECES: usize = 16;
-
 /// A connection to a server, and what is known about it.
 pub struct Session {
     pub(crate) wire: ServerWire<TcpSocket>,
-    vigil: Vigil,
+    pub(crate) vigil: Vigil,
     pace: Pace,
     /// Whether the server has welcomed the bot (001).
     pub is_welcomed: bool,
@@ -49,19 +43,6 @@ impl Session {
             is_welcomed: false,
             tried: 0,
         }
-    }
-
-    // Reads what has arrived. Returns whether there may be more at once: false after a read that would block.
-    #[tactic(auto, using(crate::proofs::ToldLemmas::tells_on))]
-    pub(crate) fn read(&mut self, now: u64) -> Result<bool, NoMemory>
-        ensures reads { OnOk result ((came : Bool) × Reads PIECES MOST self.old.wire came self.new.wire) }
-        ensures err { OnErr result (ReadsFewer PIECES MOST self.old.wire self.new.wire) }
-        ensures more { IfOk result (λ more. more ≡ (self.new.wire.gives && not self.new.wire.over)) }
-    {
-        if self.wire.connection.read(PIECES)? {
-            self.vigil.hear(now);
-        }
-        Ok(self.wire.connection.may_give())
     }
 
     // Queues `line` for the server, and counts it as sent at second `now`. Ignores bytes that are not a line.
