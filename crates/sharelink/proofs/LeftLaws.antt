@@ -1,5 +1,5 @@
 -- What a crash leaves of an end's disks, as of a bot's end.
-use Rattle.std.proofs.Common.{◌≡◌, ◌⊎◌, ◌<◌, inl, inr, ℕ, zero, suc, List, Option, None, Some, option_map, sym, ap, subst, ◌∙◌, arith}
+use Rattle.std.proofs.Common.{◌≡◌, ◌⊎◌, ◌<◌, inl, inr, ℕ, zero, suc, List, Option, None, Some, option_map, refl, sym, ap, subst, ◌∙◌, arith}
 use Rattle.std.specs.Prelude.{IsSome}
 use Rattle.bytetext.specs.declared.failure.Failure.TheVariants.{Refused}
 use Rattle.disks.specs.State.{State}
@@ -77,7 +77,7 @@ never_refused state link first second first' second' own why = by why
   where
     journal : IsJournal (state first).seen (state second).seen
     journal = record {
-      some = subst (λ (o : Option Contents). IsSome o) (sym own.mean.found) tt;
+      some = subst (λ (o : Option Contents). IsSome o) (sym own.mean.found) refl;
       first_whole = own.first_whole;
       second_whole = own.second_whole;
     }
