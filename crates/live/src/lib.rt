@@ -1,13 +1,15 @@
 //! Sockets of this machine that never block: the small IRC server with its clients, and the sharing link.
 //!
-//! A [`Peer`] is one side of a [`Connection`](net::Connection) over TCP. [`House`] is the server of [`miniircd`] on a port, with its connections and with guests that are held in memory. A [`FramePeer`]
-//! is a connection that carries packets as frames ([`peers`]). A [`LinkHouse`] is the hub's side of the link, with
-//! its listener, and an [`HubSocket`] is a leaf's side.
+//! A [`Peer`] is one side of a [`Connection`](net::Connection) over TCP. [`House`] is the server of [`miniircd`] on a
+//! port, with its connections and with guests that are held in memory. A [`FramePeer`] is a connection that carries
+//! packets as frames ([`peers`]). A [`LinkHouse`] is the hub's side of the link, with its listener, and an
+//! [`HubSocket`] is a leaf's side.
 //!
 //! A program drives each of them in turns: accept new connections, read what has arrived, process it, and send what
 //! waits. Only [`House::wait`] waits for sockets. A program calls it between two turns, and it waits for all sockets of
-//! its [`Watch`](net::Watch) at once. A peer that is slow, gone or sends garbage is disconnected, and the others go on. If both
-//! sides of a connection are in one program, [`Peer::is_even_with`] returns whether nothing is on its way between them.
+//! its [`Watch`](net::Watch) at once. A peer that is slow, gone or sends garbage is disconnected, and the others go on.
+//! If both sides of a connection are in one program, [`Peer::is_even_with`] returns whether nothing is on its way
+//! between them.
 //!
 //! No contract says what sockets give and take, since the system decides that. But each packet that arrives was read
 //! from a frame, so its records have a good shape. Each call returns, and nothing is read or written out of bounds.
