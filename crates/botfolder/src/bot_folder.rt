@@ -11,7 +11,7 @@ use crate::folders::{keep_others_out, make_folder, sync_folder};
 use crate::locking::{found_disk, new_disk};
 use crate::paths::{JOURNAL, MAX_PATH, NEW, below, control_of};
 use bytetext::Failure;
-use disks::{Disk, FileDisk, Pair};
+use disks::{Disk as _, FileDisk, Pair};
 use std::fs;
 use std::fs::File;
 use std::io::ErrorKind;

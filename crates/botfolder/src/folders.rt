@@ -9,7 +9,7 @@ use bytetext::Failure;
 use std::fs;
 use std::fs::{DirBuilder, File};
 use std::io::ErrorKind;
-use std::os::unix::fs::{DirBuilderExt, MetadataExt};
+use std::os::unix::fs::{DirBuilderExt as _, MetadataExt as _};
 use std::rt::Files;
 
 // Creates `folder`, for its owner alone, if it doesn't exist, and syncs its name to its device.

@@ -11,7 +11,7 @@ use crate::paths::{above, below};
 use bytetext::Failure;
 use disks::FileDisk;
 use std::fs::{File, OpenOptions};
-use std::os::unix::fs::OpenOptionsExt;
+use std::os::unix::fs::OpenOptionsExt as _;
 use std::rt::Files;
 use std::thread;
 use std::time::{Clock, Duration};

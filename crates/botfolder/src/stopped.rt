@@ -10,7 +10,7 @@ use bytetext::Failure;
 use disks::MemDisk;
 use std::alloc::Global;
 use std::fs::{File, OpenOptions, TryLockError};
-use std::os::unix::fs::FileExt;
+use std::os::unix::fs::FileExt as _;
 use std::rt::Files;
 
 /// Copies in memory of the two disks of a journal.

@@ -6,7 +6,7 @@ ghost use Rattle.peers.specs.declared.secret.SecretFault.TheVariants.{Length as 
 use crate::key::Key;
 use std::fs::File;
 use std::io::ErrorKind;
-use std::os::unix::fs::FileExt;
+use std::os::unix::fs::FileExt as _;
 use std::rt::Files;
 use std::{fs, io};
 use thiserror::Error;

@@ -9,7 +9,7 @@ use crate::words::{bytes_of, call_of, tear_of};
 use bytejournal::Disks;
 use bytetext::NoMemory;
 use caselines::{BAD_WORDS, CaseError, cut};
-use disks::{Disk, MemDisk, Tear};
+use disks::{Disk as _, MemDisk, Tear};
 use std::alloc::Global;
 
 /// Plays `disks FIRST SECOND`, where `rest` has the words.

@@ -8,7 +8,7 @@ use crate::seen::Seen;
 use bytejournal::{Disks, Returned};
 use bytetext::{Failure, NoMemory, TryCopy};
 use caselines::{BAD_NUMBER, CaseError};
-use disks::{Disk, MemDisk};
+use disks::{Disk as _, MemDisk};
 use sharelink::{BotLink, MAX_LEAVES, Packet};
 use std::alloc::Global;
 use std::marker::Model;

@@ -8,7 +8,7 @@ ghost use Rattle.stepcases.specs.Place.{IsReady};
 use botjournal::BotJournal;
 use bytejournal::Disks;
 use caselines::{CaseError, NOT_MADE};
-use disks::{Disk, MemDisk};
+use disks::{Disk as _, MemDisk};
 
 /// Where the journal of a case is.
 #[derive(Drop)]
