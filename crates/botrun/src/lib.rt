@@ -51,6 +51,7 @@ mod deeds;
 mod ending;
 mod entry;
 mod log;
+mod looking;
 mod netting;
 mod noticing;
 mod obeying;
