@@ -12,6 +12,7 @@ from pathlib import Path
 
 import preload
 from bots import Bot, Ours, comes, end_all, free_port, ran
+from causes import causes
 
 TRIALS = Path(__file__).resolve().parent
 
@@ -199,13 +200,13 @@ def last_generation_of(tally, program, room, layout):
         tally.note("a new journal has layout 3", held[:6] == b"\1EGGJ\3", held[:6])
         spent = held[:5] + bytes([layout]) + b"\xff" * 4 + held[10:]
         first.write_bytes(spent)
-        used_up = f"eggnet: {bot.folder} holds a journal of an older layout that can't be written anew"
+        used_up = f"eggnet: {bot.folder} holds a journal of an older layout that can't be rewritten"
         says(tally, "a journal whose generations are used up", [program, "run", bot.config], 1, used_up)
         told = f"eggnet: {bot.folder} holds a journal of an older layout whose generations are used up"
         says(tally, "it can't be shown", [program, "show", bot.folder], 1, told)
         tally.note("it is as it was", first.read_bytes() == spent)
         first.write_bytes(spent[:9] + b"\xfe" + spent[10:])
-        tally.note("one with a generation left is written anew", bot.start(), bot.logged()[-200:])
+        tally.note("one with a generation left is rewritten", bot.start(), bot.logged()[-200:])
     finally:
         end_all(bot)
 
@@ -391,5 +392,6 @@ def refusals(tally, program, room):
     memory(tally, program, room)
     folders(tally, program, room)
     disks(tally, program, room)
+    causes(tally, program, room)
     clients(tally, program, room)
     logs(tally, program, room)

@@ -1,9 +1,7 @@
 """An independent model of a bot's journal on two disks in memory.
 
-It reads the steps of the program `journalcases` on standard input and prints what they answer, so it says what the crate's
-file `stdout` has to be:
-
-    python3 trials/journals/model.py < crates/journalcases/stdin | cmp - crates/journalcases/stdout
+It reads the steps of a journal, as the program `stepcases` takes them, on standard input and prints what they answer. So it
+says what the part Journals of that crate's file `stdout` has to be; `trials/step_cases` compares the two.
 
 It was written from the format (docs/FORMATS.md has it), and from no code of this repository.
 """

@@ -1,8 +1,8 @@
 """An independent model of the sharing link's ends over disks in memory that stop.
 
-It reads the steps of the program `linkcases` on standard input and prints what they answer. It was written from the rules
-of the link, of a journal on two disks and of a userfile (docs/FORMATS.md has the formats), and from no code of this
-repository. `scripts.py` beside it writes the steps.
+It reads the steps of a net of links, as the program `stepcases` takes them, on standard input and prints what they answer.
+It was written from the rules of the link, of a journal on two disks and of a userfile (docs/FORMATS.md has the formats), and
+from no code of this repository. `scripts.py` beside it writes the steps.
 """
 import os
 import sys

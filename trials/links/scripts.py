@@ -1,4 +1,4 @@
-"""Writes steps for the program `linkcases`, and what the model says that they answer.
+"""Writes steps for the program `stepcases`, and what the model says that they answer.
 
     python3 scripts.py FOLDER [--further N] [--runs N] [--steps N] [--openings N] [--seed N] [--outs all] [--rows FIRST LAST]
                        [--bare]

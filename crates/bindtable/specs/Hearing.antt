@@ -1,4 +1,4 @@
--- Binds that wait for messages of the server, and binds that wait for minutes.
+-- Binds that wait for messages of the server.
 use Rattle.std.specs.Prelude.{Bool, true, false, List}
 use Rattle.std.specs.List.{list_any}
 use Rattle.bindtable.specs.declared.bind.Bind.{Bind}
@@ -28,26 +28,3 @@ is_of_messages Cron = false
 -- whether one of these binds waits for messages
 abbrev pub hear_messages : List Bind → Bool
 hear_messages binds = list_any (λ b. is_of_messages b.kind) binds
-
--- whether a kind waits for minutes
-abbrev pub is_of_minutes : BindKind → Bool
-is_of_minutes Raw = false
-is_of_minutes Msg = false
-is_of_minutes Msgm = false
-is_of_minutes Notc = false
-is_of_minutes Pub = false
-is_of_minutes Pubm = false
-is_of_minutes Join = false
-is_of_minutes Part = false
-is_of_minutes Sign = false
-is_of_minutes Kick = false
-is_of_minutes Nick = false
-is_of_minutes Mode = false
-is_of_minutes Topc = false
-is_of_minutes Bot = false
-is_of_minutes Time = true
-is_of_minutes Cron = true
-
--- whether one of these binds waits for minutes
-abbrev pub hear_minutes : List Bind → Bool
-hear_minutes binds = list_any (λ b. is_of_minutes b.kind) binds

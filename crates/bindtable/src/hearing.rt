@@ -1,6 +1,6 @@
-// Which binds wait for messages of the server, and which for minutes.
+// Which binds wait for messages of the server.
 ghost use Rattle.std.specs.Prelude.{◌≡◌};
-ghost use Rattle.bindtable.specs.Hearing.{is_of_messages, hear_messages, is_of_minutes, hear_minutes};
+ghost use Rattle.bindtable.specs.Hearing.{is_of_messages, hear_messages};
 
 use crate::bind_kind::BindKind;
 use crate::held::Held;
@@ -31,35 +31,5 @@ fn is_of_messages(kind: BindKind) -> bool
         | BindKind::Mode
         | BindKind::Topc => true,
         BindKind::Bot | BindKind::Time | BindKind::Cron => false,
-    }
-}
-
-// Whether one of these binds waits for minutes.
-pub(crate) fn hear_minutes(held: &[Held]) -> bool
-    ensures { result ≡ hear_minutes held.now }
-{
-    held.iter().any(|one| is_of_minutes(one.kind()))
-}
-
-// Whether a kind waits for minutes.
-fn is_of_minutes(kind: BindKind) -> bool
-    ensures { result ≡ is_of_minutes kind }
-{
-    match kind {
-        BindKind::Time | BindKind::Cron => true,
-        BindKind::Raw
-        | BindKind::Msg
-        | BindKind::Msgm
-        | BindKind::Notc
-        | BindKind::Pub
-        | BindKind::Pubm
-        | BindKind::Join
-        | BindKind::Part
-        | BindKind::Sign
-        | BindKind::Kick
-        | BindKind::Nick
-        | BindKind::Mode
-        | BindKind::Topc
-        | BindKind::Bot => false,
     }
 }

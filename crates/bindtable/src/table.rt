@@ -5,7 +5,7 @@ use crate::bind_kind::BindKind;
 use crate::called::{Called, held_of};
 use crate::event::BindEvent;
 use crate::fault::{BindError, BindFault};
-use crate::hearing::{hear_messages, hear_minutes};
+use crate::hearing::hear_messages;
 use crate::held::{Held, binds_of};
 use crate::index::KindIndex;
 use crate::keep::{copy_of, count_left, has_such, no_indexes, place_of_such, take_such};
@@ -62,7 +62,7 @@ impl BindTable {
     ghost use Rattle.bindtable.specs.Wishes.{IsWish, asked_of};
     ghost use Rattle.bindtable.specs.Calls.{Calls, called, is_called, numbers_of, seen};
     ghost use Rattle.bindtable.specs.Behind.{bind_of};
-    ghost use Rattle.bindtable.specs.Hearing.{hear_messages, hear_minutes};
+    ghost use Rattle.bindtable.specs.Hearing.{hear_messages};
     ghost use Rattle.std.specs.Option.{option_copied};
 
     /// Creates an empty table. Does not allocate.
@@ -174,13 +174,6 @@ impl BindTable {
         ensures { result ≡ hear_messages self.now.binds }
     {
         hear_messages(&self.held)
-    }
-
-    /// Returns whether a `time` or `cron` bind waits for minutes. Does not allocate.
-    pub fn hears_minutes(&self) -> bool
-        ensures { result ≡ hear_minutes self.now.binds }
-    {
-        hear_minutes(&self.held)
     }
 
     /// Returns the numbers of the binds that `event` calls, oldest first.

@@ -1,6 +1,6 @@
 -- What binds and procs see of an occasion.
 use Rattle.std.specs.Prelude.{ℕ, ◌==◌, List, [], ◌∷◌, ◌++◌, Option, Some, None, if◌then◌else◌, codes, decimal}
-use Rattle.chanstate.specs.Speech.{first_word, after_word}
+use Rattle.bytetext.specs.Words.{first_word, after_word}
 use Rattle.bottimers.specs.declared.calendar.CivilMinute.{CivilMinute}
 use Rattle.bottimers.specs.Civil.{time_line, time_words, cron_words}
 use Rattle.procstore.specs.declared.call.Call.{Call}

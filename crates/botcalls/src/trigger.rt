@@ -3,9 +3,9 @@ ghost use Rattle.std.specs.Prelude.{◌≡◌, IfOk};
 ghost use Rattle.botcalls.specs.Occasions.{due_call, time_call, cron_call, said_call};
 
 use crate::heard::kind_of;
-use crate::words::{after_word, bot_name, first_word};
+use crate::words::bot_name;
 use bottimers::{CivilMinute, cron_args, time_args};
-use bytetext::{NoMemory, Text, Texts, TryCopy};
+use bytetext::{NoMemory, Text, Texts, TryCopy, after_word, first_word};
 use chanstate::IrcEvent;
 use procstore::{Call, CallKind};
 use std::alloc::Global;

@@ -132,7 +132,7 @@ impl Read for Source<'_> {
             match self.after {
                 After::End => return Ok(0),
                 After::Wait => return Err(io::Error::from(ErrorKind::WouldBlock)),
-                After::Fault => return Err(io::Error::from(ErrorKind::NotConnected)),
+                After::Fault => return Err(io::Error::from(ErrorKind::ConnectionReset)),
                 After::Again => self.rest = self.stream,
             }
         }

@@ -4,7 +4,7 @@ use Rattle.std.specs.Prelude.{Option, Some, None, Result, Ok, Err}
 use Rattle.ircline.specs.declared.line.Line.TheVariants.{Message as a_message}
 use Rattle.chanstate.specs.declared.event.IrcEvent.{IrcEvent as MessageEvent}
 use Rattle.chanstate.specs.Events.{events_of}
-use Rattle.chanstate.specs.Speech.{first_word}
+use Rattle.bytetext.specs.Words.{first_word}
 use Rattle.bottimers.specs.Held.{Held, calls_at, passed}
 use Rattle.bottimers.specs.Seconds.{seconds_run}
 use Rattle.bottimers.specs.Zones.{TzText, minute_at}

@@ -4,7 +4,7 @@ use Rattle.bytetext.specs.declared.failure.Failure.{Failure}
 use Rattle.ircline.specs.declared.line.Line.TheVariants.{Message as a_message, Bad as a_bad_line}
 use Rattle.ircline.specs.declared.message.Message.{Message}
 use Rattle.chanstate.specs.Events.{events_of}
-use Rattle.chanstate.specs.Speech.{first_word}
+use Rattle.bytetext.specs.Words.{first_word}
 use Rattle.chanstate.specs.Views.{connected}
 use Rattle.bottimers.specs.declared.fault.ClockFault.{ClockFault}
 use Rattle.bottimers.specs.Seconds.{reading_fault, seconds_run}

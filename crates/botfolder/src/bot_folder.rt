@@ -5,18 +5,18 @@ ghost use Rattle.botfolder.specs.declared.fault.FolderFault.TheVariants.{LongNam
 ghost use Rattle.botfolder.specs.Folders.{AreEmpty, AreReady, IsBegun, IsReady};
 
 use crate::begun::Begun;
-use crate::fault::{FolderError, FolderFault, folder_error, system_error};
-use crate::paths::{
-    JOURNAL, JOURNAL_FIRST, JOURNAL_SECOND, LOCK, MAX_PATH, NEW, NEW_FIRST, NEW_SECOND, below,
-    control_of,
-};
+use crate::fault::{FolderError, FolderFault, system_error};
+use crate::folder_file::{FolderFile, remove_file};
+use crate::folders::{keep_others_out, make_folder, sync_folder};
+use crate::locking::{found_disk, new_disk};
+use crate::paths::{JOURNAL, MAX_PATH, NEW, below, control_of};
 use bytetext::Failure;
-use disks::{Disk, FileDisk, Pair, make_folder, rename_folder};
+use disks::{Disk as _, FileDisk, Pair};
 use std::fs;
 use std::fs::File;
 use std::io::ErrorKind;
-use std::os::unix::fs::MetadataExt;
 use std::rt::Files;
+use std::time::Clock;
 
 /// A bot's folder that this program has taken. No other program can take it while this value lives. It must live as
 /// long as the bot.
@@ -40,13 +40,13 @@ impl Drop for BotFolder {
 
 impl BotFolder {
     /// Takes `folder` for this program alone. Creates the folder if it is missing, for its owner alone (mode 700), and
-    /// syncs its name to its device.
+    /// syncs its name to its device. If another program holds the folder's lock, tries again for two seconds.
     ///
     /// # Errors
-    /// `LongName`, `NoParent`, `Unusable`, `LetsOthersIn`, `InUse` and `DiskFails`, as [`FolderFault`] describes them;
-    /// `NoMemory` if an allocation fails. The check of the name's length does not allocate. The folder may have been
-    /// created, and a file `lock` in it.
-    pub fn take<R: AllocGlobal + Files<File = File>>(
+    /// `LongName`, `NoParent`, `NotAFolder`, `LetsOthersIn`, `BarsOwner`, `NotRegular` and `InUse`, then what the system
+    /// gives, as [`FolderFault`] describes them; `NoMemory` if an allocation fails. The check of the name's length does
+    /// not allocate. The folder may have been created, and a file `lock` in it.
+    pub fn take<R: AllocGlobal + Files<File = File> + Clock>(
         rt: &R,
         folder: &str,
     ) -> Result<BotFolder, FolderError>
@@ -55,12 +55,9 @@ impl BotFolder {
         if folder.len() > MAX_PATH {
             return Err(Failure::Refused(FolderFault::LongName));
         }
-        match make_folder(rt, folder) {
-            Ok(()) => {}
-            Err(error) => return Err(folder_error(error, FolderFault::NoParent)),
-        }
+        make_folder(rt, folder)?;
         keep_others_out(rt, folder)?;
-        let lock = disk_of(rt, folder, LOCK)?;
+        let lock = new_disk(rt, folder, FolderFile::Lock)?;
         Ok(BotFolder {
             path: String::from_str(rt.alloc(), folder)?,
             control: control_of(rt.alloc(), folder)?,
@@ -79,12 +76,15 @@ impl BotFolder {
     }
 
     /// Returns the disks of the journal if one was made, and else two empty disks on which to make it. Removes what an
-    /// interrupted creation left.
+    /// interrupted creation left. If another program reads the journal, tries again for two seconds.
     ///
     /// # Errors
-    /// `Unusable`, `InUse`, `LacksFile` and `DiskFails`, as [`FolderFault`] describes them; `NoMemory` if an allocation
-    /// fails. A journal is then unchanged.
-    pub fn begin<R: AllocGlobal + Files<File = File>>(&self, rt: &R) -> Result<Begun, FolderError>
+    /// `NotRegular`, `InUse`, `LacksFile` and what the system gives, as [`FolderFault`] describes them; `NoMemory` if
+    /// an allocation fails. A journal is then unchanged.
+    pub fn begin<R: AllocGlobal + Files<File = File> + Clock>(
+        &self,
+        rt: &R,
+    ) -> Result<Begun, FolderError>
         ensures { IfOk result IsBegun }
     {
         if is_there(rt, self.path(), JOURNAL)? {
@@ -100,42 +100,29 @@ impl BotFolder {
     /// whatever crash comes. The disks keep their files.
     ///
     /// # Errors
-    /// `Unusable` and `DiskFails`, as [`FolderFault`] describes them; `InUse` if a journal exists already; `NoMemory`
-    /// if an allocation fails. A start may then find the journal or not: report nothing of the bot, and end the
-    /// program.
+    /// `InUse` if a journal exists already, and what the system gives, as [`FolderFault`] describes it; `NoMemory` if
+    /// an allocation fails. A start may then find the journal or not: report nothing of the bot, and end the program.
     pub fn finish<R: AllocGlobal + Files<File = File>>(&self, rt: &R) -> Result<(), FolderError> {
         let new = below(rt.alloc(), self.path(), NEW)?;
         let journal = below(rt.alloc(), self.path(), JOURNAL)?;
-        match rename_folder(rt, new.as_str(), journal.as_str()) {
-            Ok(()) => Ok(()),
-            Err(error) => Err(folder_error(error, FolderFault::Unusable)),
+        match fs::rename(rt, new.as_str(), journal.as_str()) {
+            Ok(()) => sync_folder(rt, self.path()),
+            Err(error) => match error.kind() {
+                ErrorKind::AlreadyExists | ErrorKind::DirectoryNotEmpty => {
+                    Err(Failure::Refused(FolderFault::InUse))
+                }
+                _ => Err(system_error(&error)),
+            },
         }
     }
 
     /// Removes the socket that a killed bot left, so that a new one can be made there.
     ///
     /// # Errors
-    /// `Unusable` if it can't be removed; `NoMemory` if an allocation fails.
+    /// `NotRegular` if it is a folder, and what the system gives, as [`FolderFault`] describes them; `NoMemory` if the
+    /// system is out of memory.
     pub fn clear_control<R: Files>(&self, rt: &R) -> Result<(), FolderError> {
-        remove(rt, self.control())
-    }
-}
-
-// Refuses a folder that others may enter: they could give its bot commands.
-fn keep_others_out<R: Files>(rt: &R, folder: &str) -> Result<(), FolderError>
-    ensures { result ≢ Err (Refused LongName) }
-{
-    match fs::metadata(rt, folder) {
-        Ok(found) => {
-            if found.is_dir() && found.mode() & 0o011 == 0 {
-                Ok(())
-            } else if found.is_dir() {
-                Err(Failure::Refused(FolderFault::LetsOthersIn))
-            } else {
-                Err(Failure::Refused(FolderFault::Unusable))
-            }
-        }
-        Err(error) => Err(system_error(&error, FolderFault::Unusable)),
+        remove_file(rt, self.control(), FolderFile::Control)
     }
 }
 
@@ -148,55 +135,24 @@ pub(crate) fn is_there<R: AllocGlobal + Files<File = File>>(
     let path = below(rt.alloc(), folder, name)?;
     match fs::exists(rt, path.as_str()) {
         Ok(is_there) => Ok(is_there),
-        Err(error) => Err(system_error(&error, FolderFault::Unusable)),
+        Err(error) => Err(system_error(&error)),
     }
 }
 
 // Opens the disks of an existing journal.
-fn found_disks<R: AllocGlobal + Files<File = File>>(
+fn found_disks<R: AllocGlobal + Files<File = File> + Clock>(
     rt: &R,
     folder: &str,
 ) -> Result<Pair, FolderError>
     ensures { IfOk result AreReady }
 {
-    let first = found_disk(rt, folder, JOURNAL_FIRST)?;
-    let second = found_disk(rt, folder, JOURNAL_SECOND)?;
+    let first = found_disk(rt, folder, FolderFile::First)?;
+    let second = found_disk(rt, folder, FolderFile::Second)?;
     Ok(Pair { first, second })
 }
 
-// Opens the disk in a file that must exist.
-fn found_disk<R: AllocGlobal + Files<File = File>>(
-    rt: &R,
-    folder: &str,
-    name: &str,
-) -> Result<FileDisk, FolderError>
-    ensures { IfOk result IsReady }
-{
-    let path = below(rt.alloc(), folder, name)?;
-    match FileDisk::open(rt, path.as_str()) {
-        Ok(disk) => Ok(disk),
-        Err(error) => Err(folder_error(error, FolderFault::LacksFile)),
-    }
-}
-
-// Opens the disk in a file, which is created if it is missing.
-fn disk_of<R: AllocGlobal + Files<File = File>>(
-    rt: &R,
-    folder: &str,
-    name: &str,
-) -> Result<FileDisk, FolderError>
-    ensures ready { IfOk result IsReady }
-    ensures not_long { result ≢ Err (Refused LongName) }
-{
-    let path = below(rt.alloc(), folder, name)?;
-    match FileDisk::make(rt, path.as_str()) {
-        Ok(disk) => Ok(disk),
-        Err(error) => Err(folder_error(error, FolderFault::Unusable)),
-    }
-}
-
 // Removes what an interrupted creation left, and makes new disks.
-fn empty_disks<R: AllocGlobal + Files<File = File>>(
+fn empty_disks<R: AllocGlobal + Files<File = File> + Clock>(
     rt: &R,
     folder: &str,
 ) -> Result<Pair, FolderError>
@@ -204,46 +160,32 @@ fn empty_disks<R: AllocGlobal + Files<File = File>>(
     ensures empty { IfOk result AreEmpty }
 {
     let new = below(rt.alloc(), folder, NEW)?;
-    match make_folder(rt, new.as_str()) {
-        Ok(()) => {}
-        Err(error) => return Err(folder_error(error, FolderFault::Unusable)),
-    }
-    remove_below(rt, folder, NEW_FIRST)?;
-    remove_below(rt, folder, NEW_SECOND)?;
-    let first = disk_of(rt, folder, NEW_FIRST)?;
-    let second = disk_of(rt, folder, NEW_SECOND)?;
+    make_folder(rt, new.as_str())?;
+    remove_below(rt, folder, FolderFile::NewFirst)?;
+    remove_below(rt, folder, FolderFile::NewSecond)?;
+    let first = new_disk(rt, folder, FolderFile::NewFirst)?;
+    let second = new_disk(rt, folder, FolderFile::NewSecond)?;
     if first.len() > 0 || second.len() > 0 {
-        return Err(Failure::Refused(FolderFault::Unusable));
+        return Err(Failure::Refused(FolderFault::InUse));
     }
     Ok(Pair { first, second })
 }
 
 // Removes what an interrupted creation left beside a journal that was made later.
 fn clear_new<R: AllocGlobal + Files<File = File>>(rt: &R, folder: &str) -> Result<(), FolderError> {
-    remove_below(rt, folder, NEW_FIRST)?;
-    remove_below(rt, folder, NEW_SECOND)?;
+    remove_below(rt, folder, FolderFile::NewFirst)?;
+    remove_below(rt, folder, FolderFile::NewSecond)?;
     let new = below(rt.alloc(), folder, NEW)?;
     let _gone = fs::remove_dir(rt, new.as_str());
     Ok(())
 }
 
-// Removes the file of this name, if it exists.
+// Removes this file of a folder, if it exists.
 pub(crate) fn remove_below<R: AllocGlobal + Files<File = File>>(
     rt: &R,
     folder: &str,
-    name: &str,
+    file: FolderFile,
 ) -> Result<(), FolderError> {
-    let path = below(rt.alloc(), folder, name)?;
-    remove(rt, path.as_str())
-}
-
-// Removes a file, if it exists.
-fn remove<R: Files>(rt: &R, path: &str) -> Result<(), FolderError> {
-    match fs::remove_file(rt, path) {
-        Ok(()) => Ok(()),
-        Err(error) => match error.kind() {
-            ErrorKind::NotFound => Ok(()),
-            _ => Err(system_error(&error, FolderFault::Unusable)),
-        },
-    }
+    let path = below(rt.alloc(), folder, file.name())?;
+    remove_file(rt, path.as_str(), file)
 }

@@ -29,12 +29,16 @@
 //! ```
 //!
 //! The lock is released when the program ends, however it ends. [`read_stopped`] reads the journal of a bot that does
-//! not run, and leaves the folder unchanged.
+//! not run, and leaves the folder unchanged. It locks the journal for a moment, so a start that finds a lock taken tries
+//! it again for two seconds. What has the name of a file and is a FIFO, a device or a folder is not opened.
 #![tactic(auto)]
 
 mod begun;
 mod bot_folder;
 mod fault;
+mod folder_file;
+mod folders;
+mod locking;
 mod net_file;
 mod paths;
 mod stopped;
@@ -42,6 +46,7 @@ mod stopped;
 pub use crate::begun::Begun;
 pub use crate::bot_folder::BotFolder;
 pub use crate::fault::{FolderError, FolderFault};
+pub use crate::folder_file::FolderFile;
 pub use crate::net_file::NET_DIGITS;
 pub use crate::paths::{MAX_PATH, control_of};
 pub use crate::stopped::{Stopped, read_stopped};

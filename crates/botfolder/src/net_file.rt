@@ -2,12 +2,14 @@
 ghost use Rattle.std.specs.Prelude.{◌≡◌, length};
 
 use crate::bot_folder::{BotFolder, remove_below};
-use crate::fault::{FolderError, FolderFault, folder_error, system_error};
-use crate::paths::{NET, NEW_NET, below};
-use disks::sync_folder;
+use crate::fault::{FolderError, FolderFault, sync_error, system_error};
+use crate::folder_file::{FolderFile, open_file};
+use crate::folders::sync_folder;
+use crate::paths::below;
+use bytetext::Failure;
 use std::fs::{File, OpenOptions};
-use std::io::{ErrorKind, Write};
-use std::os::unix::fs::{FileExt, OpenOptionsExt};
+use std::io::{ErrorKind, Write as _};
+use std::os::unix::fs::{FileExt as _, OpenOptionsExt as _};
 use std::rt::Files;
 use std::{fs, io};
 
@@ -19,26 +21,27 @@ impl BotFolder {
     /// `None` if the file does not exist.
     ///
     /// # Errors
-    /// `Unusable` if the file can't be read, or is shorter; `NoMemory` if an allocation fails.
+    /// `NotRegular`, `ShortNet` if the file is shorter, and what the system gives, as [`FolderFault`] describes them;
+    /// `NoMemory` if an allocation fails.
     pub fn net<R: AllocGlobal + Files<File = File>>(
         &self,
         rt: &R,
     ) -> Result<Option<[u8; NET_DIGITS]>, FolderError> {
-        let path = below(rt.alloc(), self.path(), NET)?;
-        match File::open(rt, path.as_str()) {
-            Ok(file) => Ok(Some(digits_in(&file)?)),
-            Err(error) => match error.kind() {
-                ErrorKind::NotFound => Ok(None),
-                _ => Err(system_error(&error, FolderFault::Unusable)),
-            },
+        let path = below(rt.alloc(), self.path(), FolderFile::Net.name())?;
+        let mut options = OpenOptions::new();
+        options.read(true);
+        match open_file(rt, path.as_str(), FolderFile::Net, &options)? {
+            Some(file) => Ok(Some(digits_in(&file)?)),
+            None => Ok(None),
         }
     }
 
     /// Keeps `digits` as the number of the net. From now on it is found whole, whatever crash comes.
     ///
     /// # Errors
-    /// `Unusable` if the file can't be made, and `DiskFails` if it can't be written or synced to its device; `NoMemory`
-    /// if an allocation fails. Either the previous number or this one may be found then.
+    /// `NotRegular` if a folder has the file's name, `Full` and `DiskFails` if the file can't be written or synced to
+    /// its device, and what the system gives, as [`FolderFault`] describes them; `NoMemory` if an allocation fails.
+    /// Either the previous number or this one may be found then.
     pub fn keep_net<R: AllocGlobal + Files<File = File>>(
         &self,
         rt: &R,
@@ -46,28 +49,30 @@ impl BotFolder {
     ) -> Result<(), FolderError>
         requires whole { length digits.now ≡ NET_DIGITS }
     {
-        let new = below(rt.alloc(), self.path(), NEW_NET)?;
-        let net = below(rt.alloc(), self.path(), NET)?;
+        let new = below(rt.alloc(), self.path(), FolderFile::NewNet.name())?;
+        let net = below(rt.alloc(), self.path(), FolderFile::Net.name())?;
         write_digits(rt, new.as_str(), digits)?;
         match fs::rename(rt, new.as_str(), net.as_str()) {
-            Ok(()) => {}
-            Err(error) => return Err(system_error(&error, FolderFault::Unusable)),
-        }
-        match sync_folder(rt, self.path()) {
-            Ok(()) => Ok(()),
-            Err(error) => Err(folder_error(error, FolderFault::Unusable)),
+            Ok(()) => sync_folder(rt, self.path()),
+            Err(error) => match error.kind() {
+                ErrorKind::IsADirectory => {
+                    Err(Failure::Refused(FolderFault::NotRegular(FolderFile::Net)))
+                }
+                _ => Err(system_error(&error)),
+            },
         }
     }
 
     /// Forgets the number of the net, as when a leaf is made.
     ///
     /// # Errors
-    /// `Unusable` if the file can't be removed; `NoMemory` if an allocation fails.
+    /// `NotRegular` if a folder has the file's name, and what the system gives, as [`FolderFault`] describes them;
+    /// `NoMemory` if an allocation fails.
     pub fn forget_net<R: AllocGlobal + Files<File = File>>(
         &self,
         rt: &R,
     ) -> Result<(), FolderError> {
-        remove_below(rt, self.path(), NET)
+        remove_below(rt, self.path(), FolderFile::Net)
     }
 }
 
@@ -76,7 +81,10 @@ fn digits_in(file: &File) -> Result<[u8; NET_DIGITS], FolderError> {
     let mut bytes = [0; NET_DIGITS];
     match file.read_exact_at(&mut bytes, 0) {
         Ok(()) => Ok(bytes),
-        Err(error) => Err(system_error(&error, FolderFault::Unusable)),
+        Err(error) => match error.kind() {
+            ErrorKind::UnexpectedEof => Err(Failure::Refused(FolderFault::ShortNet)),
+            _ => Err(system_error(&error)),
+        },
     }
 }
 
@@ -88,13 +96,13 @@ fn write_digits<R: Files<File = File>>(
 ) -> Result<(), FolderError> {
     let mut options = OpenOptions::new();
     options.write(true).create(true).truncate(true).mode(0o600);
-    let file = match options.open(rt, path) {
-        Ok(file) => file,
-        Err(error) => return Err(system_error(&error, FolderFault::Unusable)),
+    let Some(file) = open_file(rt, path, FolderFile::NewNet, &options)? else {
+        // Somebody has just removed the folder.
+        return Err(Failure::Refused(FolderFault::NoParent));
     };
     match write_line(file, digits) {
         Ok(()) => Ok(()),
-        Err(error) => Err(system_error(&error, FolderFault::DiskFails)),
+        Err(error) => Err(sync_error(&error)),
     }
 }
 

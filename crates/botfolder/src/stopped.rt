@@ -4,14 +4,13 @@ ghost use Rattle.botfolder.specs.Folders.{AreCopies};
 
 use crate::bot_folder::is_there;
 use crate::fault::{FolderError, FolderFault, system_error};
-use crate::paths::{JOURNAL, JOURNAL_FIRST, JOURNAL_SECOND, below};
+use crate::folder_file::{FolderFile, open_file};
+use crate::paths::{JOURNAL, below};
 use bytetext::Failure;
 use disks::MemDisk;
 use std::alloc::Global;
 use std::fs::{File, OpenOptions, TryLockError};
-use std::io;
-use std::io::ErrorKind;
-use std::os::unix::fs::FileExt;
+use std::os::unix::fs::FileExt as _;
 use std::rt::Files;
 
 /// Copies in memory of the two disks of a journal.
@@ -21,12 +20,13 @@ pub struct Stopped {
     pub second: MemDisk,
 }
 
-/// Copies the journal in `folder`, of a bot that does not run. No file is created or written, and the folder is locked
-/// only while its files are read: a bot that starts at that moment is refused.
+/// Copies the journal in `folder`, of a bot that does not run. No file is created or written. The folder is locked only
+/// while the bytes of its two files are read: a bot that starts at that moment tries again.
 ///
 /// # Errors
-/// `NoBot` if no journal was made in the folder, or the folder does not exist; `InUse` if a bot runs on it, which can
-/// be asked instead; `LacksFile` and `Unusable`, as [`FolderFault`] describes them; `NoMemory` if an allocation fails.
+/// `NoBot` if no journal was made in the folder, or the folder does not exist; `NotRegular`, and `LacksFile`; `InUse`
+/// if a bot runs on it, which can be asked instead; and what the system gives, as [`FolderFault`] describes them;
+/// `NoMemory` if an allocation fails.
 pub fn read_stopped<R: AllocGlobal + Files<File = File>>(
     rt: &R,
     folder: &str,
@@ -36,54 +36,66 @@ pub fn read_stopped<R: AllocGlobal + Files<File = File>>(
     if !is_there(rt, folder, JOURNAL)? {
         return Err(Failure::Refused(FolderFault::NoBot));
     }
-    // Both stay open, and so locked, until both are read.
-    let first = locked_file(rt, folder, JOURNAL_FIRST)?;
-    let second = locked_file(rt, folder, JOURNAL_SECOND)?;
+    let first = found_file(rt, folder, FolderFile::First)?;
+    let second = found_file(rt, folder, FolderFile::Second)?;
+    // Allocated before the files are locked, which takes most of the time.
+    let mut first_bytes = room_for(rt.alloc(), &first)?;
+    let mut second_bytes = room_for(rt.alloc(), &second)?;
+    lock(&first)?;
+    lock(&second)?;
+    read(&first, &mut first_bytes)?;
+    read(&second, &mut second_bytes)?;
+    // Both are closed, and so unlocked, before the copies are made.
+    drop(first);
+    drop(second);
     Ok(Stopped {
-        first: copy_of(rt.alloc(), &first)?,
-        second: copy_of(rt.alloc(), &second)?,
+        first: MemDisk::holding(rt.alloc(), first_bytes)?,
+        second: MemDisk::holding(rt.alloc(), second_bytes)?,
     })
 }
 
-// Opens a file for reading, with a lock that other readers can share.
-fn locked_file<R: AllocGlobal + Files<File = File>>(
+// Opens a file for reading.
+fn found_file<R: AllocGlobal + Files<File = File>>(
     rt: &R,
     folder: &str,
-    name: &str,
+    file: FolderFile,
 ) -> Result<File, FolderError> {
-    let path = below(rt.alloc(), folder, name)?;
+    let path = below(rt.alloc(), folder, file.name())?;
     let mut options = OpenOptions::new();
     options.read(true);
-    let file = match options.open(rt, path.as_str()) {
-        Ok(file) => file,
-        Err(error) => return Err(error_of(&error)),
-    };
+    match open_file(rt, path.as_str(), file, &options)? {
+        Some(opened) => Ok(opened),
+        None => Err(Failure::Refused(FolderFault::LacksFile)),
+    }
+}
+
+// As many bytes as a file holds.
+fn room_for(alloc: Global, file: &File) -> Result<Vec<u8>, FolderError> {
+    let len = len_of(file)?;
+    Ok(vec![in alloc; 0; len]?)
+}
+
+fn len_of(file: &File) -> Result<usize, FolderError> {
+    match file.metadata() {
+        Ok(metadata) => Ok(metadata.len() as usize),
+        Err(error) => Err(system_error(&error)),
+    }
+}
+
+// Locks a file so that other readers can share it.
+fn lock(file: &File) -> Result<(), FolderError> {
     match file.try_lock_shared() {
-        Ok(()) => Ok(file),
+        Ok(()) => Ok(()),
         Err(TryLockError::WouldBlock) => Err(Failure::Refused(FolderFault::InUse)),
-        Err(TryLockError::Error(error)) => Err(error_of(&error)),
+        Err(TryLockError::Error(error)) => Err(system_error(&error)),
     }
 }
 
-// Copies what a file holds to a disk in memory.
-fn copy_of(alloc: Global, file: &File) -> Result<MemDisk, FolderError>
-    ensures { IfOk result (λ disk. disk.events ≡ []) }
-{
-    let len = match file.metadata() {
-        Ok(metadata) => metadata.len() as usize,
-        Err(error) => return Err(error_of(&error)),
-    };
-    let mut bytes = vec![in alloc; 0; len]?;
-    match file.read_exact_at(&mut bytes, 0) {
-        Ok(()) => Ok(MemDisk::holding(alloc, bytes)?),
-        Err(error) => Err(error_of(&error)),
-    }
-}
-
-// Why a file of a journal can't be read.
-fn error_of(error: &io::Error) -> FolderError {
-    match error.kind() {
-        ErrorKind::NotFound => Failure::Refused(FolderFault::LacksFile),
-        _ => system_error(error, FolderFault::Unusable),
+// Reads what a locked file holds, which may have changed its length before it was locked.
+fn read(file: &File, bytes: &mut Vec<u8>) -> Result<(), FolderError> {
+    bytes.resize(len_of(file)?, 0)?;
+    match file.read_exact_at(bytes, 0) {
+        Ok(()) => Ok(()),
+        Err(error) => Err(system_error(&error)),
     }
 }

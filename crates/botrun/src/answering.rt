@@ -7,7 +7,6 @@ ghost use Rattle.botrun.specs.Askers.{answered, askers_after, noted, operator_if
 use crate::answers::of_change;
 use crate::asks::{Asker, Asks};
 use crate::entry::Entry;
-use crate::log::log;
 use crate::netting::requests_in;
 use crate::noticing::notice;
 use crate::operators::Operators;
@@ -15,6 +14,7 @@ use crate::others::Others;
 use crate::outcome::{Outcome, told_by};
 use botcore::{End, Note, Refusal, Report};
 use bytetext::NoMemory;
+use net::log;
 use peers::Links;
 use serverlink::IrcConnection;
 use sharelink::{LinkFault, Outgoings};

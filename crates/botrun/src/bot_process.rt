@@ -7,7 +7,6 @@ use crate::bases::Bases;
 use crate::checking::check;
 use crate::ending::{RunError, of_folder};
 use crate::entry::Entry;
-use crate::log::log;
 use crate::netting::{count_out, keep_net, links_of, secret_of};
 use crate::operators::Operators;
 use crate::others::Others;
@@ -16,7 +15,7 @@ use crate::starting::{bind_all, bot_of, folder_of};
 use crate::sums::Sums;
 use botfolder::BotFolder;
 use ircline::LineReader;
-use net::{Timeline, Watch};
+use net::{Timeline, Watch, log};
 use peers::Key;
 use procstore::{ProcStore, Promise, Run};
 use serverlink::IrcConnection;
@@ -84,7 +83,7 @@ fn begin<R>(
     key: Option<Key>,
 ) -> Result<Process, RunError>
 where
-    R: AllocGlobal + Net + Files<File = File> + RandomSource,
+    R: AllocGlobal + Net + Files<File = File> + RandomSource + Clock,
     requires some { 0 < length settings.now.servers }
     requires known { IsKnownWhereWanted settings.now.station key }
     ensures station { IfOk result (λ process. IsLinkedAs settings.now.station process.others.links) }

@@ -84,9 +84,9 @@ pub enum Subject {
 impl RunError {
     /// Returns the exit status of a program that ends with this error:
     ///
-    /// - 1 for a configuration, the file of its secret, another bot's journal, a journal without the number of its
-    ///   net, or one that cannot be rewritten;
-    /// - 3 for what the system, a folder, a socket or a disk refuses;
+    /// - 1 for a configuration, a file of its secret that holds none or that this user may not read, another bot's
+    ///   journal, a journal without the number of its net, or one that cannot be rewritten;
+    /// - 3 for what the system, a folder, a socket or a disk refuses, also while the secret is read;
     /// - 4 if the program is out of memory.
     pub fn status(self) -> u8
         ensures { result ≡ status_of self }
@@ -98,11 +98,19 @@ impl RunError {
             | RunError::BindProc { line: _ }
             | RunError::Bind { line: _, fault: _ }
             | RunError::Config
-            | RunError::Secret(_)
+            | RunError::Secret(
+                SecretFault::Unreadable | SecretFault::NotRegular | SecretFault::Length,
+            )
             | RunError::NoNet
             | RunError::OtherJournal
             | RunError::GenerationsSpent => 1,
-            RunError::Folder(_)
+            RunError::Secret(
+                SecretFault::ProcessFiles
+                | SecretFault::MachineFiles
+                | SecretFault::NoMemory
+                | SecretFault::DiskFails,
+            )
+            | RunError::Folder(_)
             | RunError::Listen(_)
             | RunError::Control(_)
             | RunError::DiskFailed { change: _ }
@@ -150,7 +158,7 @@ impl Display for RunError {
                 put(f, ": ", &fault)
             }
             RunError::Folder(fault) => fault.fmt(f),
-            RunError::Control(fault) => fault.fmt(f),
+            RunError::Control(fault) => f.write_str(of_control(fault)),
             RunError::Secret(fault) => put(f, "the file of the line secret ", &fault),
             RunError::Listen(fault) => put(f, "the address of the line listen ", &fault),
             RunError::DiskFailed { change } => {
@@ -175,6 +183,17 @@ impl Display for RunError {
 
 impl Error for RunError {}
 
+// The text for a socket for operators that cannot be made.
+fn of_control(fault: DoorFault) -> &'static str {
+    match fault {
+        DoorFault::InUse => "is in use: end the program that listens there",
+        DoorFault::Barred =>
+            "can't be made: give the folder's user the right to write and enter it, as chmod 700 does",
+        DoorFault::NotHere | DoorFault::Closed =>
+            "can't be made: the system has no file or memory for it, so raise this process's limit of open files, and try again",
+    }
+}
+
 /// The advice for a bind of an unknown type.
 pub(crate) const KIND: &str =
     "say a type of bind: raw, msg, msgm, notc, pub, pubm, join, part, sign, kick, nick, mode, topc, bot, time or cron";
@@ -192,7 +211,7 @@ fn sentence(error: RunError) -> &'static str {
         RunError::OtherJournal =>
             "holds the journal of another bot, or none that can be read: give the folder of this bot",
         RunError::GenerationsSpent =>
-            "holds a journal of an older layout that can't be written anew, its generations being used up: run the program of before, or give a leaf an empty folder",
+            "holds a journal of an older layout that can't be rewritten, since its generations are used up: run an older version of eggnet, or give a leaf an empty folder",
         RunError::NoNet =>
             "holds a journal and not the number of its net: bring back the file net, 16 digits and a line feed",
         RunError::System =>
@@ -233,9 +252,10 @@ impl<T: Drop> From<AllocFailed<T>> for RunError {
     }
 }
 
-// The error for a folder that cannot be used for the bot.
+// The error for a folder that cannot be used for the bot. A file `net` that is too short holds no number of a net.
 pub(crate) fn of_folder(error: FolderError) -> RunError {
     match error {
+        Failure::Refused(FolderFault::ShortNet) => RunError::NoNet,
         Failure::Refused(fault) => RunError::Folder(fault),
         Failure::NoMemory => RunError::NoMemory,
     }

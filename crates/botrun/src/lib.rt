@@ -1,18 +1,14 @@
-//! A sum of a userfile's records, with which two bots compare their records without showing them.
+//! A bot as a process that runs until an operator ends it: a bot that is alone, a hub with its leaves, or a leaf.
 //!
-//! [`sum_of`] computes the SHA-256 (FIPS 180-4) of the bytes of all records, first the users and then the bans, in
-//! their order, each as [`usercodec`] encodes it. The first eight bytes of the digest are the sum, as 16 hexadecimal
-//! digits, `0` to `9` and `a` to `f`. One record is encoded at a time, so the sum of many records needs no more memory
-//! than that of the largest.
-//!
-//! Equal records have equal sums. Different records have different sums, except with a chance of 1 in 2^64 if nobody
-//! searches for such records.
+//! - [`run`] runs the bot of a folder.
+//! - [`check`] finds what is wrong with a configuration before anything is opened.
+//! - [`sum_of`] is a sum of a userfile's records, with which two bots compare their records without showing them.
 //!
 //! ```text
-//! sum_of(alloc, &userfile)?       // e3b0c44298fc1c14 where it has no records
+//! let settings = Settings::read(alloc, bytes)?;
+//! check(alloc, &store, &settings)?;                  // what can be said before anything is opened
+//! run(&rt, &store, &settings)?;                      // until an operator says die
 //! ```
-//!
-//! A bot as a process that runs until an operator ends it: a bot that is alone, a hub with its leaves, or a leaf.
 //!
 //! [`run`] takes the bot's folder, opens or creates its journal, connects to the servers of its configuration in turn,
 //! and listens for operators at the socket `control` in the folder. Then it makes turns. A turn waits for sockets,
@@ -23,22 +19,28 @@
 //! here for the bot. [`serverlink`] keeps the connection to the server, and sends there what the process sends by
 //! itself. This crate queues there what an operator has it say, and the outcome of a change that a person asked for.
 //!
-//! A hub and its leaves are processes on any machines, connected over TCP ([`peers`]). A hub draws the number of
-//! its net when it is created, before its journal gets its name, and a leaf keeps that number at its first handshake.
-//! A change that an operator asks for at a leaf is `queued`; once the hub has answered, the leaf writes `accepted N`
-//! or `refused ..` to the operator on the same connection. Changes are answered in the order in which they were asked
-//! for, including those of procs.
+//! A hub and its leaves are processes on any machines, connected over TCP ([`peers`]). A hub draws the number of its
+//! net when it is created, before its journal gets its name, and a leaf keeps that number at its first handshake. A
+//! change that an operator asks for at a leaf is `queued`; once the hub has answered, the leaf writes `accepted N` or
+//! `refused ..` to the operator on the same connection. Changes are answered in the order in which they were asked for,
+//! including those of procs.
+//!
+//! # The log
 //!
 //! The log goes to standard output, one line for each event: seconds since 1970-01-01 UTC, and what happened. A log
-//! that cannot be written ends nothing. The log shows the bot's version with the sum of its records ([`botrun`]) at
-//! the start, when the version has changed and 5 seconds have passed since the last time, and at the end. So the logs
-//! of two bots show whether their records were the same at each version that both logs show.
+//! that cannot be written does not stop the bot. The log shows the bot's version with the sum of its records at the
+//! start, when the version has changed and 5 seconds have passed since the last time, and at the end. So the logs of
+//! two bots show whether their records were the same at each version that both logs show.
 //!
-//! ```text
-//! let settings = Settings::read(alloc, bytes)?;
-//! check(alloc, &store, &settings)?;                  // what can be said before anything is opened
-//! run(&rt, &store, &settings)?;                      // until an operator says die
-//! ```
+//! # The sum
+//!
+//! [`sum_of`] computes the SHA-256 (FIPS 180-4) of the bytes of all records, first the users and then the bans, in
+//! their order, each as [`usercodec`] encodes it. The first eight bytes of the digest are the sum, as 16 hexadecimal
+//! digits, `0` to `9` and `a` to `f`: `e3b0c44298fc1c14` where there are no records. One record is encoded at a time,
+//! so the sum of many records needs no more memory than that of the largest.
+//!
+//! Equal records have equal sums. Different records have different sums, except with a chance of 1 in 2^64 if nobody
+//! searches for such records.
 #![tactic(auto)]
 
 mod answering;
@@ -50,7 +52,6 @@ mod checking;
 mod deeds;
 mod ending;
 mod entry;
-mod log;
 mod looking;
 mod netting;
 mod noticing;

@@ -5,10 +5,10 @@ ghost use Rattle.bytetext.specs.declared.moment.TheConstants.{MOMENTS_END};
 use crate::answers::of_advice;
 use crate::ending::RunError;
 use crate::entry::Entry;
-use crate::log::log;
 use crate::process::Process;
 use bytetext::Failure;
 use control::AdminCommand;
+use net::log;
 use procstore::{ProcStore, Promise, Run};
 use settings::Settings;
 

@@ -3,14 +3,12 @@ ghost use Rattle.std.specs.Prelude.{◌<◌, length, vec_len, IfSome};
 
 use crate::asks::Asks;
 use crate::entry::Entry;
-use crate::log::log;
 use bytetext::NoMemory;
 use control::MAX_COMMAND;
-use net::{Bounds, DoorFault, Registry, UnixDoor, UnixSocket, Wire};
+use net::{Bounds, Connection, DoorFault, Registry, UnixDoor, UnixSocket, log};
 use std::alloc::Global;
 use std::net::Net;
 use std::rt::Files;
-use streams::{Given, Taken};
 
 /// The most operators at once. If another one waits, the operator that has been silent for longest is disconnected, if
 /// it was silent for at least 30 seconds and nothing waits for it: no command of its own, no byte of an answer, and no
@@ -39,26 +37,23 @@ const BOUNDS: Bounds = Bounds {
 
 // One operator.
 struct Operator {
-    wire: Wire<UnixSocket>,
+    connection: Connection<UnixSocket>,
     // Whether the operator is disconnected once it has all answers.
     is_last: bool,
     // The operator's number among all that have connected.
     number: u64,
     // The second at which the operator last sent something, or connected.
     spoke: u64,
-    // False after a read that would block, until an event names operators again.
-    may_give: bool,
 }
 
 // Written by hand, so that the drop is proved once, and not in each function that drops one.
 impl Drop for Operator {
     fn drop(self) {
         let Operator {
-            wire: _,
+            connection: _,
             is_last: _,
             number: _,
             spoke: _,
-            may_give: _,
         } = self;
     }
 }
@@ -120,7 +115,7 @@ impl Operators {
 
     fn wake_seats(&mut self) {
         for seat in self.seats.iter_mut() {
-            seat.may_give = true;
+            seat.connection.wake();
         }
     }
 
@@ -187,11 +182,10 @@ impl Operators {
     // Adds an operator.
     fn seat(&mut self, alloc: Global, socket: UnixSocket, now: u64) -> Result<(), NoMemory> {
         self.seats.push(Operator {
-            wire: Wire::new(alloc, socket, BOUNDS),
+            connection: Connection::new(alloc, socket, BOUNDS),
             is_last: false,
             number: self.count,
             spoke: now,
-            may_give: true,
         })?;
         self.count = self.count.wrapping_add(1);
         Ok(())
@@ -251,14 +245,16 @@ impl Operators {
 
     // Whether all operators have their answers.
     pub(crate) fn are_answered(&self) -> bool {
-        self.seats.iter().all(|seat| seat.wire.unsent.is_empty())
+        self.seats
+            .iter()
+            .all(|seat| seat.connection.unsent.is_empty())
     }
 
     // The number of unsent bytes of answers.
     pub(crate) fn unsent(&self) -> usize {
         let mut sum = 0usize;
         for seat in self.seats.iter() {
-            sum = sum.saturating_add(seat.wire.unsent.len());
+            sum = sum.saturating_add(seat.connection.unsent.len());
         }
         sum
     }
@@ -272,7 +268,7 @@ impl Operators {
                 moved = true;
             }
         }
-        self.seats.retain(|seat| !seat.wire.is_over);
+        self.seats.retain(|seat| !seat.connection.is_over);
         moved
     }
 }
@@ -280,64 +276,46 @@ impl Operators {
 impl Operator {
     // Reads what has arrived, if there may be any. Returns whether a byte arrived.
     fn read(&mut self, now: u64) -> Result<bool, NoMemory> {
-        if !self.may_give || self.wire.is_over || self.is_last || self.wire.is_full() {
+        if self.is_last || !self.connection.read(1)? {
             return Ok(false);
         }
-        match self.wire.read()? {
-            Given::Bytes(_) => {
-                self.spoke = now;
-                Ok(true)
-            }
-            Given::Stall => {
-                self.may_give = false;
-                Ok(false)
-            }
-            Given::End | Given::Fault => Ok(false),
-        }
+        self.spoke = now;
+        Ok(true)
     }
 
     // Whether no command of the operator waits, and no byte of an answer is unsent.
     fn is_idle(&self) -> bool {
-        self.wire.unsent.is_empty() && line_end(self.wire.heard.as_slice()).is_none()
+        self.connection.unsent.is_empty() && line_end(self.connection.heard.as_slice()).is_none()
     }
 
     // Takes the first whole line. A line that does not end is cut once it is too long; it is the operator's last.
     fn take_command(&mut self, alloc: Global) -> Result<Option<Vec<u8>>, NoMemory> {
-        if self.is_last || self.wire.unsent.len() > SLOW {
+        if self.is_last || self.connection.unsent.len() > SLOW {
             return Ok(None);
         }
-        if let Some(end) = line_end(self.wire.heard.as_slice()) {
-            let line = Vec::from_slice(alloc, &self.wire.heard[..end])?;
-            let _taken = self.wire.heard.drain(..end + 1);
+        if let Some(end) = line_end(self.connection.heard.as_slice()) {
+            let line = Vec::from_slice(alloc, &self.connection.heard[..end])?;
+            self.connection.take_front(end + 1);
             return Ok(Some(line));
         }
-        if !self.wire.is_full() {
+        if !self.connection.is_full() {
             return Ok(None);
         }
         self.is_last = true;
-        Ok(Some(self.wire.take_heard(alloc)))
+        Ok(Some(self.connection.take_heard(alloc)))
     }
 
     fn tell(&mut self, answer: &[u8]) -> Result<(), NoMemory> {
-        let fits = self.wire.tell(answer)?;
-        if fits {
-            let _fits = self.wire.tell(b".\n")?;
-        }
+        let _fits = self.connection.tell(answer, b".\n")?;
         Ok(())
     }
 
     // Offers the unsent bytes, once. Returns whether the operator took a byte.
     fn send(&mut self) -> bool {
-        if self.wire.unsent.is_empty() {
-            if self.is_last {
-                self.wire.is_over = true;
-            }
-            return false;
+        if self.is_last && self.connection.unsent.is_empty() {
+            self.connection.is_over = true;
         }
-        match self.wire.send() {
-            Taken::Bytes(_) => true,
-            Taken::Nothing | Taken::Fault => false,
-        }
+        self.connection.send()
     }
 }
 

@@ -4,9 +4,9 @@ ghost use Rattle.serverlink.specs.Talks.{talk_in};
 ghost use Rattle.botrun.specs.Passing.{told_all, told_of};
 
 use crate::entry::Entry;
-use crate::log::log;
 use botcore::{Faults, Report};
 use bytetext::NoMemory;
+use net::log;
 use serverlink::IrcConnection;
 use settings::Settings;
 

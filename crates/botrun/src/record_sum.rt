@@ -8,7 +8,7 @@ ghost use Rattle.botrun.specs.RecordSums.{bans_spelled, sum_of, users_spelled};
 
 use bytetext::NoMemory;
 use hex::encode_to_slice;
-use sha2::{Digest, Sha256};
+use sha2::{Digest as _, Sha256};
 use std::alloc::Global;
 use usercodec::{put_ban, put_user};
 use userfile::{Ban, User, Userfile};

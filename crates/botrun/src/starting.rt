@@ -15,9 +15,10 @@ use std::fs::File;
 use std::random::RandomSource;
 use std::rt::Files;
 use std::str;
+use std::time::Clock;
 
 // Takes the folder of a bot for this program.
-pub(crate) fn folder_of<R: AllocGlobal + Files<File = File>>(
+pub(crate) fn folder_of<R: AllocGlobal + Files<File = File> + Clock>(
     rt: &R,
     settings: &Settings,
 ) -> Result<BotFolder, RunError> {
@@ -31,7 +32,7 @@ pub(crate) fn folder_of<R: AllocGlobal + Files<File = File>>(
 }
 
 // Opens the bot whose journal the folder holds, or creates it if there is none.
-pub(crate) fn bot_of<R: AllocGlobal + Files<File = File> + RandomSource>(
+pub(crate) fn bot_of<R: AllocGlobal + Files<File = File> + RandomSource + Clock>(
     rt: &R,
     folder: &BotFolder,
     settings: &Settings,

@@ -11,12 +11,12 @@ ghost use Rattle.botrun.specs.Taking.{Hears, TakesTurn, TakesChanges};
 
 use crate::ending::RunError;
 use crate::entry::Entry;
-use crate::log::log;
 use crate::looking::look_at_all;
 use crate::outcome::{Outcome, outcome_of};
 use crate::passing::pass_all;
 use crate::process::Process;
 use bytetext::{NoMemory, Text, TryCopy};
+use net::log;
 use procstore::{ProcStore, Promise, Run};
 use settings::Settings;
 use sharelink::MAX_ASKS;

@@ -3,10 +3,10 @@ ghost use Rattle.std.specs.Prelude.{◌≡◌};
 ghost use Rattle.botrun.specs.Sums.{is_due, told_at, untold};
 
 use crate::entry::Entry;
-use crate::log::log;
 use crate::process::Process;
 use crate::record_sum::sum_of;
 use bytetext::NoMemory;
+use net::log;
 
 // At least this many seconds pass between two of these lines, except at the bot's end, so that their cost is bounded.
 const APART: u64 = 5;

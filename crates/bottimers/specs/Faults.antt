@@ -17,8 +17,3 @@ abbrev pub RefusedFor : {T : Type 0} → Option ClockFault → Result T (Failure
 RefusedFor fault (Ok v) = fault ≡ None
 RefusedFor fault (Err (Refused f)) = fault ≡ Some f
 RefusedFor fault (Err NoMemory) = fault ≡ None
-
--- the same of a call that does not allocate
-abbrev pub RefusedBy : {T : Type 0} → Option ClockFault → Result T ClockFault → Type 0
-RefusedBy fault (Ok v) = fault ≡ None
-RefusedBy fault (Err f) = fault ≡ Some f

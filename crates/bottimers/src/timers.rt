@@ -1,7 +1,7 @@
 // The timers of one bot.
 ghost use Rattle.std.specs.Prelude.{◌≡◌, ◌≢◌, ◌↔◌, ◌+◌, ◌<◌, ◌≤◌, IsTrue, Some, None, unwrap_or, IfOk, IfErr, IfNone, OnOk, OnErr, IsOk, Err, []};
 ghost use Rattle.std.specs.List.{list_any};
-ghost use Rattle.bottimers.specs.Faults.{RefusedFor, RefusedBy};
+ghost use Rattle.bottimers.specs.Faults.{RefusedFor};
 ghost use Rattle.bottimers.specs.Occurrences.{is_due, FallsDue};
 ghost use Rattle.bottimers.specs.declared.timer.Timer.{Timer};
 
@@ -35,9 +35,9 @@ use std::marker::Model;
 /// A caller that must not fail half-way reserves room first:
 ///
 /// ```text
-/// timers.reserve(2)?;                                                // all that may want memory
-/// timers.add_reserved(TimerKind::Minutes, 1, 0, greet, alice, last)  // takes none
-/// timers.add_reserved(TimerKind::Minutes, 1, 0, greet, bob, last)    // takes none
+/// timers.reserve(2)?;                                         // only this may allocate
+/// timers.add(TimerKind::Minutes, 1, 0, greet, alice, last)    // no `NoMemory`
+/// timers.add(TimerKind::Minutes, 1, 0, greet, bob, last)      // no `NoMemory`
 /// ```
 #[derive(Drop)]
 pub struct Timers {
@@ -75,9 +75,8 @@ impl Timers {
         }
     }
 
-    /// Reserves room for exactly `count` timers, so that the next `count` calls of [`add`](Timers::add) or
-    /// [`add_reserved`](Timers::add_reserved) do not allocate. Nothing else that callers see changes. `reserve(0)`
-    /// gives the room up.
+    /// Reserves room for exactly `count` timers, so that the next `count` calls of [`add`](Timers::add) do not
+    /// allocate. Nothing else that callers see changes. `reserve(0)` gives the room up.
     ///
     /// # Errors
     /// `NoMemory` if the allocation fails, never if the timers already had room for `count`. The timers are unchanged.
@@ -131,45 +130,6 @@ impl Timers {
         refuse(self.refusal_of(interval, now))?;
         self.reserve(self.room.max(1))?;
         Ok(self.push(kind, interval, count, proc, text, now))
-    }
-
-    /// Creates a timer as [`add`](Timers::add) does, with the same `kind`, `interval`, `count`, `proc`, `text` and
-    /// `last`, in room that was reserved. It does not allocate.
-    ///
-    /// # Errors
-    /// `BadMoment`, `BadInterval` and `Full`, as at [`add`](Timers::add). The timers and the room are unchanged.
-    pub fn add_reserved(
-        &mut self,
-        kind: TimerKind,
-        interval: u32,
-        count: u32,
-        proc: Text,
-        text: Text,
-        last: Option<u64>,
-    ) -> Result<u32, ClockFault>
-        requires reading { IsNotBelow self.old.last last }
-        requires room { 0 < self.old.room }
-        ensures refused { RefusedBy (add_fault self.old interval last) result }
-        ensures id { IfOk result (λ id. id ≡ self.old.spent + 1) }
-        ensures added { OnOk result (self.new ≡ with_timer self.old
-            (record {
-              id = self.old.spent + 1;
-              kind = kind;
-              made = unwrap_or last 0;
-              interval = interval;
-              count = count;
-              proc = proc;
-              text = text;
-            })) }
-        ensures unchanged { OnErr result (self.new ≡ self.old) }
-    {
-        let Some(now) = last else {
-            return Err(ClockFault::BadMoment);
-        };
-        match self.refusal_of(interval, now) {
-            Some(fault) => Err(fault),
-            None => Ok(self.push(kind, interval, count, proc, text, now)),
-        }
     }
 
     // Returns why a timer of this interval can't be made at the second `now`.

@@ -10,7 +10,7 @@ use Rattle.std.specs.Option.{option_map}
 use Rattle.userfile.specs.Records.{Records}
 use Rattle.chanstate.specs.declared.event.IrcEvent.{IrcEvent as MessageEvent}
 use Rattle.chanstate.specs.Events.{events_of}
-use Rattle.chanstate.specs.Speech.{first_word}
+use Rattle.bytetext.specs.Words.{first_word}
 use Rattle.chanstate.specs.declared.state.ChanState.{ChanState}
 use Rattle.bottimers.specs.declared.fault.ClockFault.{ClockFault}
 use Rattle.bottimers.specs.Seconds.{reading_fault, seconds_run}

@@ -8,35 +8,38 @@
 //! then opens the gate by a write of its own. A rebase does the same on the other disk, in the next generation, after
 //! it closed that disk's first gate if that was open.
 //!
+//! - [`Journal`] is created on two disks or opened from them; [`Opened`] is what an opening finds. A failed call hands
+//!   the [`Disks`] back in a [`Returned`].
+//! - A [`JournalFault`] says why a call is rejected. After a disk's fault the journal is spent: what was being written
+//!   may count or not, and opening the journal again shows which.
+//! - [`laws_of_journals`]: through any number of calls and crashes, disks that `create` made and only this journal
+//!   wrote never yield `NotAJournal`. At each moment of each call, every image that a crash may leave means the
+//!   contents before the call or after it.
+//! - [`was_never_made`] tells disks on which a `create` was stopped from a journal. `create` writes a closed gate on
+//!   the second disk, then the text on the first, and opens the first gate last. A program that ends before that has
+//!   reported nothing about a journal, so its next start creates it again. [`law_of_unmade_disks`] says that the
+//!   function never mistakes a journal that was created for none, whatever crashes came, nor a text file: it leaves
+//!   such disks to `open`, which rejects a text file.
+//!
 //! ```text
-//! let mut journal = Journal::create(alloc, first, second, layout, base)?;
+//! let mut journal = if was_never_made(&mut first, &mut second)? {
+//!     Journal::create(alloc, first, second, layout, base)?
+//! } else {
+//!     Journal::open(alloc, first, second)?.journal
+//! };
 //! journal.append(alloc, entry)?;          // acknowledged: each crash from now on leaves it
 //! journal.rebase(alloc, layout, other)?;  // the new base alone
 //! let opened = journal.restart(alloc)?;   // what stands on the disks after a crash
 //! if opened.whole { /* opened.base, opened.entries, and opened.journal to go on with */ }
 //! ```
 //!
-//! After a disk's fault the journal is spent: what was being written may count or not, and opening the journal again
-//! shows which. Disks that `create` made and only this journal wrote never yield `NotAJournal`: at each moment of each
-//! call every image that a crash may leave means the contents before the call or after it. [`laws_of_journals`] states
-//! this for any number of calls and crashes.
+//! The words of the contracts are defined in `specs/`:
 //!
-//! What a program finds on a journal's two disks when it starts: a journal, or disks on which none was ever created.
-//!
-//! `create` writes a closed gate on the second disk, then the text on the first, and opens the first gate last. A
-//! program that ends before that leaves disks that hold no journal, and it has reported nothing about one.
-//! [`was_never_made`] recognises such disks, so that the next start creates the journal again:
-//!
-//! ```text
-//! if was_never_made(&mut first, &mut second)? {
-//!     Journal::create(alloc, first, second, layout, base)?
-//! } else {
-//!     Journal::open(alloc, first, second)?
-//! }
-//! ```
-//!
-//! It never claims more than it knows. It never mistakes a journal that was created for none, whatever crashes came,
-//! nor a text file: it leaves such disks to `open`, which rejects a text file.
+//! - `Meaning`: the format, and what the bytes of two disks mean. `Gates`: why a text is written after a closed gate.
+//! - `Journal`, `Opening`, `Writing`: what a journal stands for, and what its calls return. `Faults`: the letter and
+//!   number of each error.
+//! - `Reading`: what is known of the bytes that were read.
+//! - `Recovery`: a journal over many calls and crashes. `Unmade`: what a stopped `create` leaves.
 #![tactic(auto)]
 
 mod fault;

@@ -1,2 +1,3 @@
 pub mod Refusals
 pub mod Numerals
+pub mod Words

@@ -6,7 +6,8 @@
 //! `Vec` and turn back into it without allocating.
 //!
 //! [`NoMemory`] is the one error of a failed allocation. `?` converts either of the allocator's errors into it.
-//! [`MOMENTS_END`] bounds the seconds that clocks, queues and bans count.
+//! [`MOMENTS_END`] bounds the seconds that clocks, queues and bans count. [`first_word`] and [`after_word`] cut a text
+//! at its spaces.
 //!
 //! ```text
 //! let name = Text::from_slice(alloc, b"egg0")?;
@@ -19,9 +20,11 @@ mod memory;
 mod moment;
 mod seq;
 mod text;
+mod words;
 
 pub use crate::failure::{Failure, refuse};
 pub use crate::memory::NoMemory;
 pub use crate::moment::MOMENTS_END;
 pub use crate::seq::{Seq, TryCopy, copies_of};
 pub use crate::text::{Text, Texts, bytes_of};
+pub use crate::words::{after_word, first_word};

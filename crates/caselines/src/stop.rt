@@ -20,6 +20,9 @@ pub enum CaseFault {
     /// A word that must be a number is none, or is out of its range.
     #[error("a number that is none or is out of its range")]
     BadNumber,
+    /// It speaks of something that no line before it made.
+    #[error("no line before it made what it speaks of")]
+    NotMade,
 }
 
 /// Why a case was not answered.
@@ -30,6 +33,9 @@ pub const BAD_WORDS: CaseError = Failure::Refused(CaseFault::BadWords);
 
 /// A word that must be a number is none, or is out of its range.
 pub const BAD_NUMBER: CaseError = Failure::Refused(CaseFault::BadNumber);
+
+/// The case speaks of something that no line before it made.
+pub const NOT_MADE: CaseError = Failure::Refused(CaseFault::NotMade);
 
 /// The case's first word names no case.
 pub const NO_SUCH_CASE: CaseError = Failure::Refused(CaseFault::NoSuchCase);

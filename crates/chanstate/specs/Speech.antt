@@ -1,6 +1,6 @@
 -- What people say and note: PRIVMSG and NOTICE (RFC 2812 section 3.3).
-use Rattle.std.specs.Prelude.{ℕ, Bool, not, ◌==◌, List, [], ◌∷◌, ◌++◌, take, drop, length, if◌then◌else◌, Option, Some, None, slice_get, slice_index}
-use Rattle.std.specs.List.{position_or_len}
+use Rattle.std.specs.Prelude.{ℕ, Bool, ◌==◌, List, [], ◌∷◌, ◌++◌, length, if◌then◌else◌, Option, Some, None, slice_get, slice_index}
+use Rattle.bytetext.specs.Words.{first_word, after_word}
 use Rattle.chanstate.specs.declared.event.IrcEvent.{IrcEvent}
 use Rattle.chanstate.specs.declared.event.EventKind.TheVariants.{Msg, Msgm, Notc, Pub, Pubm}
 use Rattle.chanstate.specs.declared.channel.Channel.{Channel}
@@ -9,24 +9,6 @@ use Rattle.rfccase.specs.Casemapping.{is_same}
 use Rattle.chanstate.specs.Views.{channel_in}
 use Rattle.chanstate.specs.EventShape.{event_with}
 use Rattle.chanstate.specs.Given.{when_given}
-
--- a text without the spaces that it begins with
-abbrev pub spaces_len : List ℕ → ℕ
-spaces_len text = position_or_len (λ b. not (b == 32)) text
-
-abbrev pub trimmed : List ℕ → List ℕ
-trimmed text = drop (spaces_len text) text
-
--- the first word of a text ends before its first space
-abbrev pub word_len : List ℕ → ℕ
-word_len text = position_or_len (λ b. b == 32) text
-
-abbrev pub first_word : List ℕ → List ℕ
-first_word text = take (word_len text) text
-
--- what follows the first word and the spaces after it
-abbrev pub after_word : List ℕ → List ℕ
-after_word text = trimmed (drop (word_len text) text)
 
 -- one event by the whole text, and one by its first word, if the text begins with a word
 abbrev pub by_text_and_word : IrcEvent → IrcEvent → List ℕ → List IrcEvent

@@ -12,7 +12,7 @@ ghost use Rattle.chanstate.specs.Members.{is_called, with_mark, with_address, sh
 ghost use Rattle.chanstate.specs.Channels.{is_named, is_held, with_topic, on_channel, put_last, put_each_last, all_without};
 
 use crate::channel::Channel;
-use crate::member::{Mark, Member};
+use crate::member::Mark;
 use crate::message_plan::Opening;
 use crate::names::is_same;
 use crate::roster::Roster;

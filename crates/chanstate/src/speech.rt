@@ -1,49 +1,15 @@
 // The events of what people say.
-ghost use Rattle.std.specs.Prelude.{◌≡◌, ◌≤◌, ◌∷◌, ◌==◌, not, length, take, if◌then◌else◌, [], IfOk};
-ghost use Rattle.std.specs.List.{position_or_len};
+ghost use Rattle.std.specs.Prelude.{◌≡◌, ◌∷◌, ◌==◌, not, length, take, if◌then◌else◌, [], IfOk};
 ghost use Rattle.std.specs.Option.{option_copied};
-ghost use Rattle.chanstate.specs.Speech.{spaces_len, word_len, first_word, after_word, to_bot, to_channel, noticed, is_hidden};
-ghost use Rattle.chanstate.specs.Speech.{said, noted, says, notes};
+ghost use Rattle.chanstate.specs.Speech.{to_bot, to_channel, noticed, is_hidden, said, noted, says, notes};
 
 use crate::deed::{Author, joined};
 use crate::event::{EventKind, IrcEvent};
 use crate::names::is_same;
 use crate::state::ChanState;
 use crate::words::param;
-use bytetext::{NoMemory, Text};
+use bytetext::{NoMemory, Text, after_word, first_word};
 use std::alloc::Global;
-
-// Returns the length of the first word.
-fn count_word(text: &[u8]) -> usize
-    ensures value { result ≡ word_len text.now }
-    ensures within { result ≤ length text.now }
-{
-    let mut count = 0;
-    while count < text.len() && text[count] != b' ' {
-        count += 1;
-    }
-    count
-}
-
-// Returns how many spaces `text` begins with.
-fn count_spaces(text: &[u8]) -> usize
-    ensures value { result ≡ spaces_len text.now }
-    ensures within { result ≤ length text.now }
-{
-    let mut count = 0;
-    while count < text.len() && text[count] == b' ' {
-        count += 1;
-    }
-    count
-}
-
-// Returns what follows the first word and the spaces after it.
-fn after_word(text: &[u8]) -> &[u8]
-    ensures { result.now ≡ after_word text.now }
-{
-    let rest = &text[count_word(text)..];
-    &rest[count_spaces(rest)..]
-}
 
 fn is_for_programs(text: &[u8]) -> bool
     ensures { result ≡ is_hidden text.now }
@@ -77,7 +43,7 @@ fn say_to_bot(
 ) -> Result<Vec<IrcEvent>, NoMemory>
     ensures { IfOk result (λ v. v.items ≡ to_bot nick.now address.now text.now) }
 {
-    let word = &text[..count_word(text)];
+    let word = first_word(text);
     let whole = IrcEvent::new(alloc, EventKind::Msgm, text, None, &[nick, address, text])?;
     let first = IrcEvent::new(
         alloc,
@@ -99,7 +65,7 @@ fn say_on(
 ) -> Result<Vec<IrcEvent>, NoMemory>
     ensures { IfOk result (λ v. v.items ≡ to_channel nick.now address.now channel.now text.now) }
 {
-    let word = &text[..count_word(text)];
+    let word = first_word(text);
     let subject = joined(alloc, channel, b' ', text)?;
     let whole = IrcEvent::new(
         alloc,

@@ -75,15 +75,8 @@ impl ChanState {
         }
     }
 
-    /// Returns how many channels the bot is on. Allocates nothing.
-    pub fn channel_count(&self) -> usize
-        ensures { result ≡ length self.now.channels }
-    {
-        self.channels.as_slice().len()
-    }
-
     /// Returns the name, as the bot spells it, of the channel at `place`, from 0, in the order in which the bot joined
-    /// them; `None` from [`channel_count`](ChanState::channel_count) on. Allocates nothing.
+    /// them; `None` if the bot is on no more than `place` channels. Allocates nothing.
     pub fn channel_at(&self, place: usize) -> Option<&[u8]>
         ensures { option_copied result ≡ channel_at place self.now }
     {

@@ -8,7 +8,7 @@ use crate::admin_command::{AdminCommand, UnbindWords};
 use crate::advice::{CommandAdvice, CommandError};
 use crate::command_word::CommandWord;
 use crate::{MAX_COMMAND, MAX_LINE};
-use bytetext::{Failure, NoMemory, Text};
+use bytetext::{Failure, Text};
 use recordtext::{change_named, pieces_of, rest_of};
 use settings::BindWords;
 use std::alloc::Global;

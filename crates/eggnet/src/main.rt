@@ -12,6 +12,8 @@
 //! machine, for other programs. It prints the port, which the system chooses if PORT is 0, and then serves until it is
 //! ended.
 //!
+//! `eggnet --version` prints the program's version and the layout of the journals that it writes.
+//!
 //! Binds may call the procs of `eggprocs`, whose first page lists them.
 //!
 //! The program ends with status 0 when all is done; 1 for a faulty configuration, another bot's journal, a command that
@@ -30,7 +32,7 @@ use crate::configuration::{check_file, run_file};
 use crate::live::live_script;
 use crate::serve::serve_port;
 use crate::talk::{show_folder, tell_folder};
-use crate::words::{Task, refused, task_of};
+use crate::words::{Task, refused, task_of, version_of};
 use bytetext::NoMemory;
 use eggprocs::{EggProc, Ours, store};
 use procstore::ProcStore;
@@ -54,7 +56,10 @@ fn status<
         Ok(words) => words,
         Err(error) => return unread(rt, &error),
     };
-    let task = match task_of(rt.alloc(), words.as_slice()) {
+    let Ok(version) = version_of(rt.alloc()) else {
+        return out_of_memory(rt);
+    };
+    let task = match task_of(rt.alloc(), words.as_slice(), version.as_str()) {
         Ok(task) => task,
         Err(error) => return refused(rt, &error),
     };

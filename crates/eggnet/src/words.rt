@@ -1,11 +1,12 @@
 // What the command line asks for.
+use botjournal::LAYOUT;
 use clap::error::ErrorKind;
 use clap::{Arg, ArgMatches, Command, Error, value_parser};
 use replaying::{USAGE, not_written, out_of_memory};
 use std::alloc::{AllocError, Global};
 
-/// What `--version` prints after the program's name.
-const VERSION: &str = "0.1.0";
+/// The program's version.
+const VERSION: &str = "0.2.0";
 
 /// What the program is to do.
 #[derive(Drop)]
@@ -43,12 +44,21 @@ pub fn refused<R: Print + Eprint>(rt: &R, error: &Error) -> u8 {
     }
 }
 
-/// Returns the task that `words` ask for. The first of them is the program's name.
+/// Returns what `--version` prints after the program's name: the version, and the layout of the journals that it writes.
+pub fn version_of(alloc: Global) -> Result<String, AllocError> {
+    format!(in alloc; "{VERSION}, journal layout {LAYOUT}")
+}
+
+/// Returns the task that `words` ask for. The first of them is the program's name. `--version` prints `version`.
 ///
 /// # Errors
 /// Those of clap, which also has one for a failed allocation.
-pub fn task_of<'a>(alloc: Global, words: &'a [String]) -> Result<Task<'a>, Error> {
-    let matches = command(alloc)?.try_get_matches_from(words)?;
+pub fn task_of<'a>(
+    alloc: Global,
+    words: &'a [String],
+    version: &'a str,
+) -> Result<Task<'a>, Error> {
+    let matches = command(alloc, version)?.try_get_matches_from(words)?;
     match matches.subcommand() {
         Some(("run", said)) => Ok(Task::Run(said.get_str("CONFIG").unwrap_or(""))),
         Some(("check", said)) => Ok(Task::Check(said.get_str("CONFIG").unwrap_or(""))),
@@ -83,10 +93,10 @@ fn joined(alloc: Global, words: &[&str]) -> Result<Vec<u8>, AllocError> {
 }
 
 // The command line.
-fn command<'a>(alloc: Global) -> Result<Command<'a>, AllocError> {
+fn command<'a>(alloc: Global, version: &'a str) -> Result<Command<'a>, AllocError> {
     Command::new(alloc, "eggnet")
         .about("IRC bots that share a userfile")
-        .version(VERSION)
+        .version(version)
         .subcommand_required(true)
         .subcommand(run_command(alloc)?)?
         .subcommand(check_command(alloc)?)?

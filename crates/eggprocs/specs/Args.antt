@@ -1,6 +1,6 @@
 -- The arguments that a proc is called with.
 use Rattle.std.specs.Prelude.{ℕ, ◌-◌, ◌==◌, not, Bool, List, [], length, slice_get, unwrap_or, if◌then◌else◌}
-use Rattle.chanstate.specs.Speech.{first_word}
+use Rattle.bytetext.specs.Words.{first_word}
 use Rattle.procstore.specs.declared.call.Call.{Call}
 
 -- the argument at a place, or the empty text if there is none

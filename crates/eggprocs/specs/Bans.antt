@@ -7,7 +7,7 @@ use Rattle.userfile.specs.declared.change.Change.TheVariants.{AddBan, DelBan}
 use Rattle.userfile.specs.declared.limits.TheConstants.{MAX_COMMENT}
 use Rattle.userfile.specs.Persons.{expires_at}
 use Rattle.userfile.specs.Shapes.{is_hostmask}
-use Rattle.chanstate.specs.Speech.{first_word, after_word}
+use Rattle.bytetext.specs.Words.{first_word, after_word}
 use Rattle.outqueue.specs.declared.queue.Queue.TheVariants.{Mode as mode_queue}
 use Rattle.procstore.specs.declared.action.Action.{Action}
 use Rattle.procstore.specs.declared.action.Action.TheVariants.{Ask, Timer, Utimer}

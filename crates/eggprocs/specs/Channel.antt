@@ -1,6 +1,6 @@
 -- What the procs request that keep order on a channel.
 use Rattle.std.specs.Prelude.{ℕ, ◌&&◌, List, [], ◌∷◌, Bool, if◌then◌else◌, codes, Option, Some, None}
-use Rattle.chanstate.specs.Speech.{first_word, after_word}
+use Rattle.bytetext.specs.Words.{first_word, after_word}
 use Rattle.userfile.specs.declared.flags.PersonFlags.{PersonFlags}
 use Rattle.outqueue.specs.declared.queue.Queue.{Queue}
 use Rattle.outqueue.specs.declared.queue.Queue.TheVariants.{Mode as mode_queue, Server}

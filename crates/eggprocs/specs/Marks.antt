@@ -4,7 +4,7 @@ use Rattle.recordtext.specs.Words.{number_below}
 use Rattle.userfile.specs.declared.change.Change.{Change}
 use Rattle.userfile.specs.declared.change.Change.TheVariants.{SetSticky}
 use Rattle.userfile.specs.declared.ban.Ban.{Ban}
-use Rattle.chanstate.specs.Speech.{first_word, after_word}
+use Rattle.bytetext.specs.Words.{first_word, after_word}
 use Rattle.procstore.specs.declared.action.Action.{Action}
 use Rattle.procstore.specs.declared.call.Call.{Call}
 use Rattle.procstore.specs.declared.limits.TheConstants.{MAX_ACTIONS}

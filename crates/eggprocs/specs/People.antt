@@ -12,7 +12,7 @@ use Rattle.userfile.specs.Apply.{refusal}
 use Rattle.userfile.specs.Codes.{fault_code}
 use Rattle.userfile.specs.Held.{user_of}
 use Rattle.userfile.specs.Persons.{flags_of}
-use Rattle.chanstate.specs.Speech.{first_word, after_word}
+use Rattle.bytetext.specs.Words.{first_word, after_word}
 use Rattle.outqueue.specs.declared.queue.Queue.TheVariants.{Help}
 use Rattle.procstore.specs.declared.action.Action.{Action}
 use Rattle.procstore.specs.declared.action.Action.TheVariants.{Ask}

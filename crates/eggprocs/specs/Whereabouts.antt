@@ -6,7 +6,7 @@
 -- is the same wherever else that one is.
 use Rattle.std.specs.Prelude.{ℕ, ◌&&◌, List, [], ◌∷◌, ◌++◌, Bool, find, if◌then◌else◌, codes, is_some, Option, Some, None}
 use Rattle.userfile.specs.Held.{has_user}
-use Rattle.chanstate.specs.Speech.{first_word}
+use Rattle.bytetext.specs.Words.{first_word}
 use Rattle.chanstate.specs.Views.{member_in, channels_with}
 use Rattle.procstore.specs.declared.action.Action.{Action}
 use Rattle.procstore.specs.declared.call.Call.{Call}

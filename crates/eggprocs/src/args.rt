@@ -1,9 +1,8 @@
-// The arguments of a call, and the words of a text.
-ghost use Rattle.std.specs.Prelude.{◌≡◌, ◌≤◌, length};
-ghost use Rattle.chanstate.specs.Speech.{word_len, spaces_len, first_word, after_word};
+// The arguments of a call.
+ghost use Rattle.std.specs.Prelude.{◌≡◌};
 ghost use Rattle.eggprocs.specs.Args.{arg_at, last_of, nick_of, handle_of, channel_of, said_of, timer_text, told_of, has_word, or_else};
 
-use bytetext::Text;
+use bytetext::{Text, first_word};
 use procstore::Call;
 
 // The argument at a place, or the empty text if there is none.
@@ -73,45 +72,6 @@ pub(crate) fn or_else<'a>(text: &'a [u8], other: &'a [u8]) -> &'a [u8]
     ensures { result.now ≡ or_else text.now other.now }
 {
     if text.is_empty() { other } else { text }
-}
-
-// The length of the first word.
-fn count_word(text: &[u8]) -> usize
-    ensures value { result ≡ word_len text.now }
-    ensures within { result ≤ length text.now }
-{
-    let mut count = 0;
-    while count < text.len() && text[count] != b' ' {
-        count += 1;
-    }
-    count
-}
-
-// The number of spaces at the front.
-fn count_spaces(text: &[u8]) -> usize
-    ensures value { result ≡ spaces_len text.now }
-    ensures within { result ≤ length text.now }
-{
-    let mut count = 0;
-    while count < text.len() && text[count] == b' ' {
-        count += 1;
-    }
-    count
-}
-
-// The first word, which is empty if the text begins with a space.
-pub(crate) fn first_word(text: &[u8]) -> &[u8]
-    ensures { result.now ≡ first_word text.now }
-{
-    &text[..count_word(text)]
-}
-
-// What follows the first word and the spaces after it.
-pub(crate) fn after_word(text: &[u8]) -> &[u8]
-    ensures { result.now ≡ after_word text.now }
-{
-    let rest = &text[count_word(text)..];
-    &rest[count_spaces(rest)..]
 }
 
 // Whether a text begins with a word: it isn't empty and doesn't begin with a space.

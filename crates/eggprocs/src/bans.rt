@@ -3,11 +3,11 @@ ghost use Rattle.std.specs.Prelude.{◌≡◌, IfOk};
 ghost use Rattle.eggprocs.specs.Bans.{mask_of, minutes_in, short, comment_after, end_of, ban_in, lift_wish, lift_after, lift_of, mode_of};
 ghost use Rattle.eggprocs.specs.Bans.{asked_by_ban, asked_by_unban, asked_by_lift};
 
-use crate::args::{after_word, channel_of, first_word, handle_of, has_word, said_of, timer_text};
+use crate::args::{channel_of, handle_of, has_word, said_of, timer_text};
 use crate::lines::mode;
 use crate::pairs::{and_then, two};
 use crate::rights::{is_op_of, is_timer};
-use bytetext::{MOMENTS_END, NoMemory, Text};
+use bytetext::{MOMENTS_END, NoMemory, Text, after_word, first_word};
 use outqueue::Queue;
 use procstore::{Action, Actions, Call, PutWish, TimerWish, View};
 use recordtext::number;

@@ -3,10 +3,10 @@ ghost use Rattle.std.specs.Prelude.{◌≡◌, ◌∷◌, [], IfOk};
 ghost use Rattle.std.specs.Option.{option_copied};
 ghost use Rattle.eggprocs.specs.Channel.{put, target_of, asked_for_mode, change_for, asked_by_autoop, asked_by_kick, asked_by_topic, asked_by_invite};
 
-use crate::args::{after_word, channel_of, first_word, has_word, nick_of, or_else, said_of};
+use crate::args::{channel_of, has_word, nick_of, or_else, said_of};
 use crate::lines::{invite, kick, mode, topic};
 use crate::rights::{AUTO_OP, AUTO_VOICE, flags_by, has_flag, is_bot_op, is_join};
-use bytetext::{NoMemory, Text};
+use bytetext::{NoMemory, Text, after_word, first_word};
 use outqueue::Queue;
 use procstore::{Action, Actions, Call, PutWish, View};
 use std::alloc::Global;

@@ -5,10 +5,10 @@ ghost use Rattle.eggprocs.specs.Args.{told_of};
 ghost use Rattle.eggprocs.specs.Marks.{marked, stick, unstick, mark_text, ban_text, told_ban, left_out, told_bans, asked_by_bans};
 ghost use Rattle.eggprocs.specs.Rights.{standing_of};
 
-use crate::args::{after_word, first_word, has_word, or_else, told_of};
+use crate::args::{has_word, or_else, told_of};
 use crate::people::{FOR_MASTERS, only_told, told};
 use crate::rights::{Requester, standing_of};
-use bytetext::{NoMemory, Text};
+use bytetext::{NoMemory, Text, after_word, first_word};
 use procstore::{Action, Actions, Call, MAX_ACTIONS, View};
 use recordtext::bot_number;
 use std::alloc::Global;

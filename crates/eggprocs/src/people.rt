@@ -5,14 +5,14 @@ ghost use Rattle.eggprocs.specs.People.{handle_in, makes_owner, is_for_owners};
 ghost use Rattle.eggprocs.specs.People.{told, asked_by_command, asked_by_master, asked_unless, plus_user, minus_user, plus_host, minus_host, chattr, listed, info_text, described, asked_by_whois};
 ghost use Rattle.eggprocs.specs.Args.{told_of};
 ghost use Rattle.eggprocs.specs.Rights.{standing_of};
-ghost use Rattle.chanstate.specs.Speech.{first_word};
+ghost use Rattle.bytetext.specs.Words.{first_word};
 ghost use Rattle.userfile.specs.Held.{user_of};
 
-use crate::args::{after_word, first_word, has_word, nick_of, told_of};
+use crate::args::{has_word, nick_of, told_of};
 use crate::lines::notice;
 use crate::pairs::two;
 use crate::rights::{OWNER, Requester, is_owner, standing_of};
-use bytetext::{NoMemory, Text};
+use bytetext::{NoMemory, Text, after_word, first_word};
 use flagexpr::Flags;
 use outqueue::Queue;
 use procstore::{Action, Actions, Call, PutWish, View};

@@ -3,11 +3,11 @@ ghost use Rattle.std.specs.Prelude.{◌≡◌, find, IfOk};
 ghost use Rattle.std.specs.Option.{option_copied};
 ghost use Rattle.eggprocs.specs.Whereabouts.{sought, is_there, asked_here, first_shared, shared, on_now, known_text, by_records, whereabouts, asked_by_seen};
 
-use crate::args::{channel_of, first_word, has_word, last_of, nick_of};
+use crate::args::{channel_of, has_word, last_of, nick_of};
 use crate::basics::is_command;
 use crate::people::only_told;
 use crate::rights::is_pub;
-use bytetext::{NoMemory, Text, TryCopy};
+use bytetext::{NoMemory, Text, TryCopy, first_word};
 use procstore::{Actions, Call, View};
 use std::alloc::Global;
 

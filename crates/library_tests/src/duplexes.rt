@@ -3,7 +3,8 @@ use std::alloc::Global;
 use std::io;
 use std::io::{ErrorKind, Read, Write};
 use streams::{
-    Duplex, Given, Memory, ReadError, Stream, Taken, WriteFault, read_up_to, write_all, write_out,
+    Duplex, Given, Memory, ReadError, Stream as _, Taken, WriteFault, read_up_to, write_all,
+    write_out,
 };
 
 // A reader that is interrupted before each read of at most three bytes, and answers `after` once no byte is left.

@@ -68,9 +68,9 @@ impl BotSockets {
 
     /// Writes what waits, as far as the system takes it. Returns whether it took any of it or a connection is lost.
     pub fn send(&mut self) -> bool {
-        let moved = self.irc.send() || self.irc.is_over();
+        let moved = self.irc.send() || self.irc.connection.is_over;
         match &mut self.uplink {
-            Some(uplink) => uplink.wire.peer.send() || uplink.wire.peer.is_over() || moved,
+            Some(uplink) => uplink.wire.peer.send() || uplink.wire.peer.connection.is_over || moved,
             None => moved,
         }
     }
@@ -96,7 +96,7 @@ impl BotSockets {
     {
         Heard {
             connected: mem::replace(&mut self.is_new, false),
-            bytes: self.irc.take_heard(alloc),
+            bytes: self.irc.connection.take_heard(alloc),
             packets,
             changes: Vec::new(alloc),
             now: now.seconds(),
@@ -124,8 +124,7 @@ impl BotSockets {
     /// `NoMemory` if memory cannot be allocated.
     pub fn tell_server(&mut self, lines: &[Text]) -> Result<(), NoMemory> {
         for line in lines {
-            self.irc.tell(line.as_bytes())?;
-            self.irc.tell(b"\r\n")?;
+            let _fits = self.irc.connection.tell(line.as_bytes(), b"\r\n")?;
         }
         Ok(())
     }
@@ -146,7 +145,7 @@ impl BotSockets {
     /// Returns whether the connection to the hub is lost.
     pub fn has_lost_hub(&self) -> bool {
         match &self.uplink {
-            Some(uplink) => uplink.wire.peer.is_over(),
+            Some(uplink) => uplink.wire.peer.connection.is_over,
             None => false,
         }
     }

@@ -36,7 +36,7 @@ impl Caller {
     /// # Errors
     /// `NoMemory` if memory cannot be allocated.
     pub fn take_lines(&mut self, alloc: Global) -> Result<Vec<Text>, NoMemory> {
-        let heard = self.peer.take_heard(alloc);
+        let heard = self.peer.connection.take_heard(alloc);
         cut(alloc, &mut self.line, heard.as_slice())
     }
 
@@ -45,8 +45,8 @@ impl Caller {
     /// # Errors
     /// `NoMemory` if memory cannot be allocated.
     pub fn tell(&mut self, line: &[u8]) -> Result<(), NoMemory> {
-        self.peer.tell(line)?;
-        self.peer.tell(b"\r\n")
+        let _fits = self.peer.connection.tell(line, b"\r\n")?;
+        Ok(())
     }
 
     /// Queues a last `line`, and marks the connection to be closed.
@@ -55,7 +55,7 @@ impl Caller {
     /// `NoMemory` if memory cannot be allocated.
     pub fn dismiss(&mut self, line: &[u8]) -> Result<(), NoMemory> {
         self.tell(line)?;
-        self.peer.end();
+        self.peer.connection.is_over = true;
         Ok(())
     }
 }

@@ -33,15 +33,15 @@ impl FramePeer {
     /// `NoMemory` if memory cannot be allocated; never if nothing was read.
     pub fn take_packets(&mut self, alloc: Global) -> Result<Vec<Packet>, NoMemory>
         ensures good { IfOk result (λ packets. AllByRecursion HasGoodRecords packets.items) }
-        ensures memory { IfErr result (λ _. 0 < vec_len self.old.peer.heard) }
+        ensures memory { IfErr result (λ _. 0 < vec_len self.old.peer.connection.heard) }
     {
-        let heard = self.peer.take_heard(alloc);
+        let heard = self.peer.connection.take_heard(alloc);
         if heard.is_empty() {
             return Ok(Vec::new(alloc));
         }
         let feed = self.reader.feed(alloc, heard.as_slice())?;
         if feed.fault.is_some() {
-            self.peer.end();
+            self.peer.connection.is_over = true;
         }
         Ok(feed.packets.into_vec())
     }
@@ -55,7 +55,10 @@ impl FramePeer {
         ensures memory { OnErr result (CanBeWritten packet.now) }
     {
         match frame_of(alloc, packet)? {
-            Some(frame) => self.peer.tell(frame.as_slice()),
+            Some(frame) => {
+                let _fits = self.peer.connection.tell(frame.as_slice(), b"")?;
+                Ok(())
+            }
             None => Ok(()),
         }
     }

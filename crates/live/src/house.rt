@@ -1,15 +1,18 @@
 // The small server and its clients.
-use crate::addresses::local;
+use crate::addresses::{TOKEN, listen, port_of};
 use crate::caller::Caller;
 use crate::guest::{Guest, client_of, place_of};
 use crate::peer::Peer;
-use crate::waiting::Waiting;
 use bytetext::{Failure, NoMemory, Seq, Text};
 use miniircd::{Client, Due, Ircd, IrcdError, MAX_CLIENTS, SentLine, ServerFault};
-use mio::net::TcpListener;
+use net::{Registry, TcpDoor, Watch};
 use std::alloc::Global;
 use std::io;
+use std::io::ErrorKind;
 use std::net::Net;
+
+// The maximum number of events that one wait returns.
+const MAX_EVENTS: usize = 256;
 
 /// The small server on a port of this machine, with its connections and its guests in memory.
 ///
@@ -23,8 +26,8 @@ use std::net::Net;
 /// house.send(alloc)?;        // writes the answers, and drops connections that are over
 /// ```
 pub struct House {
-    listener: TcpListener,
-    waiting: Waiting,
+    door: TcpDoor,
+    watch: Watch,
     server: Ircd,
     callers: Vec<Caller>,
     guests: Vec<Guest>,
@@ -36,8 +39,8 @@ pub struct House {
 impl Drop for House {
     fn drop(self) {
         let House {
-            listener: _,
-            waiting: _,
+            door: _,
+            watch: _,
             server: _,
             callers: _,
             guests: _,
@@ -55,12 +58,11 @@ impl House {
     /// # Errors
     /// Those of the system, if it cannot listen on the port.
     pub fn open<R: Net + AllocGlobal>(rt: &R, port: u16) -> io::Result<House> {
-        let mut listener = TcpListener::bind(rt, local(port))?;
-        let waiting = Waiting::new(rt)?;
-        waiting.add_listener(&mut listener)?;
+        let watch = Watch::new(rt, MAX_EVENTS)?;
+        let door = listen(rt, watch.registry(), port)?;
         Ok(House {
-            listener,
-            waiting,
+            door,
+            watch,
             server: Ircd::new(rt.alloc()),
             callers: Vec::new(rt.alloc()),
             guests: Vec::new(rt.alloc()),
@@ -68,9 +70,9 @@ impl House {
         })
     }
 
-    /// Returns what [`House::wait`] waits for. A program can add sockets of its own to it.
-    pub fn waiting(&self) -> &Waiting {
-        &self.waiting
+    /// Returns the registry of the sockets that [`House::wait`] waits for. A program can add sockets of its own to it.
+    pub fn registry(&self) -> &Registry {
+        self.watch.registry()
     }
 
     /// Waits at most `millis` milliseconds until the listener, a connection or an added socket may have something to
@@ -83,7 +85,11 @@ impl House {
         ensures same_server { (self.new.server ≡ self.old.server) × (self.new.now ≡ self.old.now) }
         ensures same_clients { (self.new.callers ≡ self.old.callers) × (self.new.guests ≡ self.old.guests) }
     {
-        self.waiting.wait(millis)
+        match self.watch.wait(millis) {
+            Ok(()) => Ok(!self.watch.tokens().is_empty()),
+            Err(error) if error.kind() != ErrorKind::Interrupted => Err(error),
+            Err(_) => Ok(true),
+        }
     }
 
     /// Sets the time to the second `now` of a clock that never goes back. Sends a PING to clients that are silent, and
@@ -113,7 +119,7 @@ impl House {
     /// # Errors
     /// Those of the system.
     pub fn port(&self) -> io::Result<u16> {
-        Ok(self.listener.local_addr()?.port())
+        port_of(&self.door)
     }
 
     /// Accepts the connections that wait. If the server is full, it sends an ERROR to the connection and closes it.
@@ -133,10 +139,8 @@ impl House {
 
     // The next connection that waits.
     fn next(&self, alloc: Global) -> Option<Peer> {
-        match self.listener.accept() {
-            Ok((stream, from)) => Some(Peer::accepted(alloc, &self.waiting, stream, from)),
-            Err(_) => None,
-        }
+        let socket = self.door.let_in(self.watch.registry(), TOKEN)?;
+        Some(Peer::accepted(alloc, socket))
     }
 
     fn admit(&mut self, alloc: Global, peer: Peer) -> Result<(), NoMemory> {
@@ -222,7 +226,7 @@ impl House {
     // Marks the connection at a place to be closed.
     fn end(&mut self, place: usize) {
         if let Some(caller) = self.callers.get_mut(place) {
-            caller.peer.end();
+            caller.peer.connection.is_over = true;
         }
     }
 
@@ -289,7 +293,11 @@ impl House {
     fn let_go(&mut self, alloc: Global) -> Result<bool, NoMemory> {
         let mut went = false;
         for _ in 0..MAX_CLIENTS {
-            let Some(place) = self.callers.iter().position(|caller| caller.peer.is_over()) else {
+            let Some(place) = self
+                .callers
+                .iter()
+                .position(|caller| caller.peer.connection.is_over)
+            else {
                 return Ok(went);
             };
             let caller = self.callers.remove(place);
@@ -370,7 +378,7 @@ impl House {
 // Sends an ERROR to a connection that finds the server full, as far as the system takes it at once.
 fn turn_away(peer: Peer) -> Result<(), NoMemory> {
     let mut peer = peer;
-    peer.tell(b"ERROR :full\r\n")?;
+    let _fits = peer.connection.tell(b"ERROR :full", b"\r\n")?;
     let _taken = peer.send();
     Ok(())
 }

@@ -4,8 +4,8 @@ ghost use Rattle.live.specs.Present.{is_hello};
 
 use crate::frames::FramePeer;
 use crate::peer::Peer;
-use crate::waiting::Waiting;
 use bytetext::NoMemory;
+use net::Registry;
 use sharewire::Packet;
 use std::alloc::Global;
 use std::io;
@@ -33,17 +33,17 @@ impl HubSocket {
     ghost use Rattle.sharewire.specs.Frames.{CanBeWritten};
     ghost use Rattle.sharelink.specs.Shapes.{HasGoodRecords};
 
-    /// Begins to connect to the hub at `address`, and returns at once. Adds the connection to `waiting`. Never
+    /// Begins to connect to the hub at `address`, and returns at once. `registry` watches the connection. Never
     /// allocates.
     ///
     /// # Errors
     /// Those of [`Peer::connect`].
     pub fn connect<R: Net + AllocGlobal>(
         rt: &R,
-        waiting: &Waiting,
+        registry: &Registry,
         address: SocketAddr,
     ) -> io::Result<HubSocket> {
-        let peer = Peer::connect(rt, waiting, address)?;
+        let peer = Peer::connect(rt, registry, address)?;
         Ok(HubSocket {
             wire: FramePeer::new(rt.alloc(), peer),
             greeted: false,

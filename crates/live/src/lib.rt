@@ -1,35 +1,24 @@
-//! Sockets of this machine that never block: the small IRC server with its clients, and the sharing link.
-//!
-//! A [`Peer`] is a connection with the bytes that were read and the bytes that are still to be written. [`House`] is
-//! the server of [`miniircd`] on a port, with its connections and with guests that are held in memory. A [`FramePeer`]
-//! is a connection that carries packets as frames ([`peers`]). A [`LinkHouse`] is the hub's side of the link, with
-//! its listener, and an [`HubSocket`] is a leaf's side.
-//!
-//! A program drives each of them in turns: accept new connections, read what has arrived, process it, and send what
-//! waits. Only [`House::wait`] waits for sockets. A program calls it between two turns, and it waits for all sockets of
-//! its [`Waiting`] at once. A peer that is slow, gone or sends garbage is disconnected, and the others go on. If both
-//! sides of a connection are in one program, [`Peer::is_even_with`] returns whether nothing is on its way between them.
-//!
-//! No contract says what sockets give and take, since the system decides that. But each packet that arrives was read
-//! from a frame, so its records have a good shape. Each call returns, and nothing is read or written out of bounds.
-//!
-//! A botnet over sockets, as a script says: the small IRC server, a hub and its leaves in one process and one thread.
+//! A botnet over sockets, as a script says: a small IRC server, a hub and its leaves in one process and one thread.
 //!
 //! [`live`] reads a live script, opens the server and the hub's link listener on ports of 127.0.0.1 that the system
 //! chooses, and does the commands. Each bot has its journal on two disks in memory and a connection to the server. Each
-//! leaf has a connection to the hub that carries packets as frames. Nothing in a turn blocks: it accepts new
-//! connections, reads each socket until it would block, steps the server and the bots, and writes. A socket that isn't
-//! connected yet counts as one that would block. A bot's steps in a turn are those of one [`turns::take_turn`], as in a
-//! bot's process: a connection that began, the lines that its server sent, the clock, the packets that arrived, and a
-//! pump in every 64th turn, starting with the first.
+//! leaf has a connection to the hub that carries packets as frames.
 //!
-//! After a turn that moved nothing, the next one would move nothing either until the system has carried something or a
-//! pump is due. So while something is on its way between two sockets, one wait for all sockets comes before the next
-//! turn: until one of them has something to do, or for 100 milliseconds. If nothing is on its way, or the wait timed
-//! out, the turns before the next pump count as made. So an idle botnet makes one turn in 64.
+//! ```text
+//! live(&rt, store, &mut Duplex::new(reader, writer))?;     // leaves 0, until 0, show 0: 0 version 0 users 0 bans 0
+//! ```
 //!
-//! A live script has at most 8 leaves. It has the commands of a replay's script except `line`, `clock B N` and
-//! `deliver`, and these besides:
+//! - [`live`] runs a script; a [`LiveScript`] reads its [`LiveCommand`]s, and a [`LiveError`] says what is wrong with
+//!   one.
+//! - [`House`] is the server of [`miniircd`] on a port, with its connections and with guests that are held in memory.
+//! - [`LinkHouse`] is the hub's side of the link, with its listener, and a [`HubSocket`] is a leaf's side.
+//! - A [`Peer`] is one side of a [`Connection`](net::Connection) over TCP. A [`FramePeer`] is a connection that
+//!   carries packets as frames ([`peers`]).
+//!
+//! # Commands
+//!
+//! A live script has at most [`MAX_LEAVES`] leaves. It has the commands of a replay's script except `line`, `clock B N`
+//! and `deliver`, and these besides:
 //!
 //! | Command | What it does |
 //! |---|---|
@@ -44,9 +33,23 @@
 //! of a nick that is no guest does nothing. Only `show` and `heard` print. Every other command for a bot is a step of
 //! the bot, made at once.
 //!
-//! ```text
-//! live(&rt, store, &mut Duplex::new(reader, writer))?;     // leaves 0, until 0, show 0: 0 version 0 users 0 bans 0
-//! ```
+//! # Turns
+//!
+//! Nothing in a turn blocks: it accepts new connections, reads each socket until it would block, steps the server and
+//! the bots, and writes. A socket that isn't connected yet counts as one that would block. A bot's steps in a turn are
+//! those of one [`turns::take_turn`], as in a bot's process: a connection that began, the lines that its server sent,
+//! the clock, the packets that arrived, and a pump in every 64th turn, starting with the first.
+//!
+//! After a turn that moved nothing, the next one would move nothing either until the system has carried something or a
+//! pump is due. So while something is on its way between two sockets, one wait for all sockets comes before the next
+//! turn: until one of them has something to do, or for 100 milliseconds. [`House::wait`] waits for all sockets of its
+//! [`Watch`](net::Watch) at once, and nothing else waits. [`Peer::is_even_with`] returns whether nothing is on its way between
+//! two sides of a connection. If nothing is on its way, or the wait timed out, the turns before the next pump count as
+//! made. So an idle botnet makes one turn in 64.
+//!
+//! A peer that is slow, gone or sends garbage is disconnected, and the others go on. No contract says what sockets give
+//! and take, since the system decides that. But each packet that arrives was read from a frame, so its records have a
+//! good shape. Each call returns, and nothing is read or written out of bounds.
 #![tactic(auto)]
 
 mod addresses;
@@ -70,7 +73,6 @@ mod running;
 mod saying;
 mod socket_fault;
 mod turn;
-mod waiting;
 
 pub use crate::addresses::local;
 pub use crate::error::LiveError;
@@ -86,7 +88,6 @@ pub use crate::reading::LiveScript;
 pub use crate::reason::{LiveReason, LiveVerb};
 pub use crate::running::live;
 pub use crate::socket_fault::SocketFault;
-pub use crate::waiting::Waiting;
 
 /// The maximum number of leaves of a live script.
 pub const MAX_LEAVES: u16 = 8;

@@ -2,12 +2,11 @@
 ghost use Rattle.std.specs.Prelude.{◌≡◌};
 ghost use Rattle.live.specs.Present.{is_leaf};
 
-use crate::addresses::local;
+use crate::addresses::{TOKEN, listen, port_of};
 use crate::frames::FramePeer;
 use crate::peer::Peer;
-use crate::waiting::Waiting;
 use bytetext::NoMemory;
-use mio::net::TcpListener;
+use net::{Registry, TcpDoor};
 use sharewire::Packet;
 use std::alloc::Global;
 use std::io;
@@ -27,7 +26,7 @@ struct End {
 
 /// The hub's listener and its connections.
 pub struct LinkHouse {
-    listener: TcpListener,
+    door: TcpDoor,
     ends: Vec<End>,
     leaves: u16,
 }
@@ -36,7 +35,7 @@ pub struct LinkHouse {
 impl Drop for LinkHouse {
     fn drop(self) {
         let LinkHouse {
-            listener: _,
+            door: _,
             ends: _,
             leaves: _,
         } = self;
@@ -50,20 +49,18 @@ impl LinkHouse {
     ghost use Rattle.sharewire.specs.Frames.{CanBeWritten};
     ghost use Rattle.sharelink.specs.Shapes.{HasGoodRecords};
 
-    /// Opens a listener on a port of 127.0.0.1 that the system chooses, for a net of `leaves` leaves. Adds the listener
-    /// to `waiting`.
+    /// Opens a listener on a port of 127.0.0.1 that the system chooses, for a net of `leaves` leaves. `registry` watches
+    /// the listener.
     ///
     /// # Errors
     /// Those of the system, if it cannot listen on a port or cannot wait for it.
     pub fn open<R: Net + AllocGlobal>(
         rt: &R,
-        waiting: &Waiting,
+        registry: &Registry,
         leaves: u16,
     ) -> io::Result<LinkHouse> {
-        let mut listener = TcpListener::bind(rt, local(0))?;
-        waiting.add_listener(&mut listener)?;
         Ok(LinkHouse {
-            listener,
+            door: listen(rt, registry, 0)?,
             ends: Vec::new(rt.alloc()),
             leaves,
         })
@@ -74,20 +71,20 @@ impl LinkHouse {
     /// # Errors
     /// Those of the system.
     pub fn port(&self) -> io::Result<u16> {
-        Ok(self.listener.local_addr()?.port())
+        port_of(&self.door)
     }
 
-    /// Accepts the connections that wait, and adds them to `waiting`. Returns whether any connection came.
+    /// Accepts the connections that wait; `registry` watches them. Returns whether any connection came.
     ///
     /// # Errors
     /// `NoMemory` if memory cannot be allocated.
-    pub fn let_in(&mut self, alloc: Global, waiting: &Waiting) -> Result<bool, NoMemory> {
+    pub fn let_in(&mut self, alloc: Global, registry: &Registry) -> Result<bool, NoMemory> {
         for count in 0..MAX_ENDS {
-            let Ok((stream, from)) = self.listener.accept() else {
+            let Some(socket) = self.door.let_in(registry, TOKEN) else {
                 return Ok(count > 0);
             };
             self.make_place();
-            let peer = Peer::accepted(alloc, waiting, stream, from);
+            let peer = Peer::accepted(alloc, socket);
             self.ends.push(End {
                 wire: FramePeer::new(alloc, peer),
                 leaf: None,
@@ -153,7 +150,7 @@ impl LinkHouse {
             return Ok(packets);
         }
         let Some(leaf) = greeting_of(first, self.leaves) else {
-            end.wire.peer.end();
+            end.wire.peer.connection.is_over = true;
             return Ok(Vec::new(alloc));
         };
         self.seat_leaf(place, leaf);
@@ -164,7 +161,7 @@ impl LinkHouse {
     // closed.
     fn seat_leaf(&mut self, place: usize, leaf: u16) {
         if let Some(former) = self.end_of(leaf) {
-            former.wire.peer.end();
+            former.wire.peer.connection.is_over = true;
             former.leaf = None;
         }
         if let Some(end) = self.ends.get_mut(place) {
@@ -211,7 +208,7 @@ impl LinkHouse {
             }
         }
         let held = self.ends.len();
-        self.ends.retain(|end| !end.wire.peer.is_over());
+        self.ends.retain(|end| !end.wire.peer.connection.is_over);
         moved || self.ends.len() < held
     }
 }

@@ -64,7 +64,7 @@ impl Network {
     /// Those of the system.
     pub fn open<R: Net + AllocGlobal>(rt: &R, leaves: u16) -> io::Result<Network> {
         let house = House::open(rt, 0)?;
-        let link = LinkHouse::open(rt, house.waiting(), leaves)?;
+        let link = LinkHouse::open(rt, house.registry(), leaves)?;
         Network::over(rt.alloc(), house, link)
     }
 
@@ -97,7 +97,7 @@ impl Network {
     // Adds the sockets of the next bot.
     fn add_seat<R: Net + AllocGlobal>(&mut self, rt: &R) -> Result<(), LiveError> {
         let uplink = self.next_uplink(rt)?;
-        let irc = Peer::connect(rt, self.house.waiting(), self.server)?;
+        let irc = Peer::connect(rt, self.house.registry(), self.server)?;
         let seat = BotSockets::new(rt.alloc(), irc, uplink);
         if self.seats.push(seat).is_err() {
             return Err(LiveError::NoMemory);
@@ -114,7 +114,7 @@ impl Network {
     }
 
     fn uplink<R: Net + AllocGlobal>(&self, rt: &R) -> io::Result<HubSocket> {
-        HubSocket::connect(rt, self.house.waiting(), self.hub)
+        HubSocket::connect(rt, self.house.registry(), self.hub)
     }
 
     /// Gives the bot at `place` a new connection to the server, of which it hears in its next turn. If no bot is at
@@ -123,7 +123,7 @@ impl Network {
     /// # Errors
     /// Those of the system, if it makes none.
     pub fn connect<R: Net + AllocGlobal>(&mut self, rt: &R, place: usize) -> io::Result<()> {
-        let irc = Peer::connect(rt, self.house.waiting(), self.server)?;
+        let irc = Peer::connect(rt, self.house.registry(), self.server)?;
         if let Some(seat) = self.seats.get_mut(place) {
             seat.connect(irc);
         }
@@ -150,7 +150,7 @@ impl Network {
 
     fn has_lost_server(&self, place: usize) -> bool {
         match self.seats.get(place) {
-            Some(seat) => seat.irc.is_over(),
+            Some(seat) => seat.irc.connection.is_over,
             None => false,
         }
     }
@@ -191,7 +191,7 @@ impl Network {
     /// `NoMemory` if memory cannot be allocated.
     pub fn let_in(&mut self, alloc: Global) -> Result<bool, NoMemory> {
         let came = self.house.let_in(alloc)?;
-        Ok(self.link.let_in(alloc, self.house.waiting())? || came)
+        Ok(self.link.let_in(alloc, self.house.registry())? || came)
     }
 
     /// Reads each socket. Returns whether anything arrived.

@@ -43,7 +43,7 @@ delivered_one clients one is =
     let there = (and_parts (filled one.text) (nat_le (length one.text) 510 && list_all octet one.text) line).0 in
     let goes = and_from (filled (sealed one.text)) (serves clients None one.to) (ap filled seal ∙ there)
     (and_from (is_held clients one.to) true parts.0 refl) in
-    let out : List ℕ → List Sent = λ line. record { to = record { 0 = one.to }; line = line } ∷ [] in
+    let out : List ℕ → List SentLine = λ line. record { to = record { 0 = one.to }; line = line } ∷ [] in
     cond-true (filled (sealed one.text) && serves clients None one.to) (out (sealed one.text)) [] goes ∙ ap out seal
 
 pub delivered : (clients : List (Option ClientIdentity)) (letters : List Letter) → list_all (arrives clients) letters ≡ true

@@ -32,7 +32,7 @@ pub are_sound-more : (clients : List (Option ClientIdentity)) (leaver : Option �
     → are_sound clients leaver lines ≡ true → line ≡ sealed text → (filled line && serves clients leaver to) ≡ true
     → are_sound clients leaver (lines ++ record { to = record { 0 = to }; line = line } ∷ []) ≡ true
 are_sound-more clients leaver lines to text line sound is goes =
-    let one : Sent = record { to = record { 0 = to }; line = line } in
+    let one : SentLine = record { to = record { 0 = to }; line = line } in
     let short = ap (λ (l : List ℕ). nat_le (length l) 510) is ∙ sealed-short text in
     let octets = ap (list_all octet) is ∙ sealed-octets text in
     let parts = and_parts (filled line) (serves clients leaver to) goes in

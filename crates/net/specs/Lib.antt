@@ -1,7 +1,6 @@
 pub mod Readings
 pub mod Waits
-pub mod Wires
-pub mod Answers
+pub mod Connections
 pub mod Watching
 pub mod Dials
 pub mod Addresses

@@ -2,12 +2,11 @@
 ghost use Rattle.std.specs.Prelude.{◌≡◌, IfOk};
 ghost use Rattle.streams.specs.Accounts.{nothing_yet};
 
-use crate::answers::{ask, offer};
 use mio::event::Source;
 use mio::{Interest, Registry, Token};
 use std::io;
 use std::io::{Read, Write};
-use streams::{Account, Given, Stream, Taken, WriteFault};
+use streams::{Account, Given, Stream, Taken, WriteFault, ask, offer};
 
 /// A connection that never blocks, with an account of what it gave and took. It is a [`TcpSocket`](crate::TcpSocket) or
 /// a [`UnixSocket`](crate::UnixSocket). It is closed when it is dropped.
@@ -44,6 +43,11 @@ impl<S> Socket<S> {
             stream,
             account: Account::new(),
         })
+    }
+
+    // The socket of the system.
+    pub(crate) fn stream(&self) -> &S {
+        &self.stream
     }
 }
 

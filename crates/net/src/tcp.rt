@@ -28,6 +28,16 @@ impl Socket<TcpStream> {
     {
         watch_at_once(registry, token, TcpStream::connect(rt, address)?)
     }
+
+    /// Returns the port of this side, if the system reports it.
+    pub fn own_port(&self) -> Option<u16> {
+        Some(self.stream().local_addr().ok()?.port())
+    }
+
+    /// Returns the port of the other side, if the system reports it: not once the connection has ended.
+    pub fn other_port(&self) -> Option<u16> {
+        Some(self.stream().peer_addr().ok()?.port())
+    }
 }
 
 // Watches a connection whose small writes are sent at once.

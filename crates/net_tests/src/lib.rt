@@ -1,4 +1,4 @@
-//! Tests of the crates above the pure parts, for what no line of `botcases` or `linkcases` shows: disks that are
+//! Tests of the crates above the pure parts, for what no line of `botcases` or `stepcases` shows: disks that are
 //! another bot's, packets that nobody sent, worlds that are no world, and streams that fail. What `library_tests` says
 //! of itself holds here too. The tests are in two crates since each crate is one piece of work in the gate.
 #![tactic(auto)]

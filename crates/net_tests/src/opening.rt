@@ -7,7 +7,7 @@ use botcore::{Bot, BotEvent, Config, UnopenedBot};
 use bottimers::Zone;
 use bytejournal::Disks;
 use bytetext::{Failure, NoMemory, Text, Texts};
-use disks::{Disk, MemDisk};
+use disks::{Disk as _, MemDisk};
 use std::alloc::Global;
 use userfile::Change;
 

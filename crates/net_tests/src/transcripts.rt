@@ -38,7 +38,7 @@ struct Broken<'a>(&'a [u8]);
 impl Read for Broken<'_> {
     fn read(&mut self, buf: &mut [u8]) -> io::Result<usize> {
         if self.0.is_empty() {
-            return Err(io::Error::from(ErrorKind::NotConnected));
+            return Err(io::Error::from(ErrorKind::ConnectionReset));
         }
         self.0.read(buf)
     }

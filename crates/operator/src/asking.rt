@@ -3,11 +3,10 @@ use crate::fault::{AskError, AskFault, command_error, machine_error, socket_erro
 use botfolder::{FolderFault, MAX_PATH, control_of};
 use bytetext::{Failure, NoMemory};
 use control::{AdminCommand, body_of};
-use net::{Bounds, UnixSocket, Watch, Wire};
+use net::{Bounds, Connection, UnixSocket, Watch};
 use std::alloc::Global;
 use std::net::Net;
 use std::time::Clock;
-use streams::{Given, Taken};
 
 /// How many seconds a bot may say nothing before [`ask`] gives up.
 pub const PATIENCE: u64 = 60;
@@ -31,7 +30,7 @@ const TOKEN: usize = 0;
 #[derive(Drop)]
 struct Talk {
     watch: Watch,
-    wire: Wire<UnixSocket>,
+    connection: Connection<UnixSocket>,
     answer: Vec<u8>,
 }
 
@@ -53,8 +52,7 @@ pub fn ask<R: AllocGlobal + Net + Clock>(
         Err(error) => return Err(command_error(error)),
     };
     let mut talk = begin(rt, folder)?;
-    let _fits = talk.wire.tell(line)?;
-    let _ends = talk.wire.tell(b"\n")?;
+    let _fits = talk.connection.tell(line, b"\n")?;
     hear(rt, &mut talk, is_last)?;
     match body_of(talk.answer.as_slice()) {
         Some(body) => copy_of(rt.alloc(), body),
@@ -95,7 +93,7 @@ fn begin<R: AllocGlobal + Net>(rt: &R, folder: &str) -> Result<Talk, AskError> {
     match UnixSocket::connect_path(rt, watch.registry(), TOKEN, path.as_str()) {
         Ok(socket) => Ok(Talk {
             watch,
-            wire: Wire::new(rt.alloc(), socket, BOUNDS),
+            connection: Connection::new(rt.alloc(), socket, BOUNDS),
             answer: Vec::new(rt.alloc()),
         }),
         Err(error) => Err(socket_error(&error)),
@@ -111,7 +109,7 @@ fn hear<R: AllocGlobal + Net + Clock>(
     let mut moved_at = second(rt)?;
     for _ in 0..u64::MAX {
         let moved = turn(rt.alloc(), talk)?;
-        if talk.wire.is_over || (!is_last && body_of(talk.answer.as_slice()).is_some()) {
+        if talk.connection.is_over || (!is_last && body_of(talk.answer.as_slice()).is_some()) {
             return Ok(());
         }
         if talk.answer.len() > MAX_ANSWER {
@@ -123,6 +121,7 @@ fn hear<R: AllocGlobal + Net + Clock>(
             return Err(Failure::Refused(AskFault::Silent));
         } else {
             wait(&mut talk.watch)?;
+            talk.connection.wake();
         }
     }
     Err(Failure::Refused(AskFault::Silent))
@@ -145,31 +144,9 @@ fn wait(watch: &mut Watch) -> Result<(), AskError> {
 
 // Offers what is unsent and asks for a piece. Returns whether anything moved.
 fn turn(alloc: Global, talk: &mut Talk) -> Result<bool, NoMemory> {
-    let sent = send(&mut talk.wire);
-    let heard = read(&mut talk.wire)?;
-    let piece = talk.wire.take_heard(alloc);
+    let sent = talk.connection.send();
+    let heard = talk.connection.read(1)?;
+    let piece = talk.connection.take_heard(alloc);
     talk.answer.extend_from_slice(piece.as_slice())?;
     Ok(sent || heard)
-}
-
-// Whether anything was sent.
-fn send(wire: &mut Wire<UnixSocket>) -> bool {
-    if wire.unsent.is_empty() {
-        return false;
-    }
-    match wire.send() {
-        Taken::Bytes(_) => true,
-        Taken::Nothing | Taken::Fault => false,
-    }
-}
-
-// Whether anything was heard.
-fn read(wire: &mut Wire<UnixSocket>) -> Result<bool, NoMemory> {
-    if wire.is_full() {
-        return Ok(false);
-    }
-    match wire.read()? {
-        Given::Bytes(_) => Ok(true),
-        Given::Stall | Given::End | Given::Fault => Ok(false),
-    }
 }

@@ -1,9 +1,8 @@
 // Why a bot did not answer, or has nothing to show.
 use botfolder::{FolderError, FolderFault};
 use bytejournal::JournalFault;
-use bytetext::{Failure, NoMemory};
+use bytetext::Failure;
 use control::{CommandAdvice, CommandError};
-use std::alloc::AllocError;
 use std::io;
 use std::io::ErrorKind;
 use thiserror::Error;
@@ -25,7 +24,7 @@ pub enum AskFault {
     #[error("holds no journal that can be read: bring back its files, or give the folder of another bot")]
     Unread,
     /// The journal is of an older layout, and can't be read as one of today's because its generations are used up.
-    #[error("holds a journal of an older layout whose generations are used up: show it by the program of before")]
+    #[error("holds a journal of an older layout whose generations are used up: show it by an older version of eggnet")]
     GenerationsSpent,
     /// A bot is taking the folder, and does not listen yet.
     #[error("is in use, and nobody listens there yet: try again")]

@@ -7,7 +7,8 @@ use Rattle.peers.specs.declared.handshake_fault.HandshakeFault.TheVariants.{TooL
 use Rattle.peers.specs.Reading.{line_len, ask_in}
 use Rattle.peers.specs.Nets.{may_be_of}
 use Rattle.peers.specs.Sides.{hub_hears, hub_hears_line, hub_judges, is_leaf, shows_code}
-use Rattle.peers.specs.Joining.{ShowsCode, Grows}
+use Rattle.net.specs.Connections.{Grows}
+use Rattle.peers.specs.Joining.{ShowsCode}
 
 -- no line is no welcome
 no_line : (long : Bool) (leaf used : ℕ) (line : List ℕ) → Welcome leaf used line ≡ (if long then Refused TooLong [] else More) → ⊥

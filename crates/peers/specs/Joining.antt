@@ -26,7 +26,3 @@ abbrev pub IsShown : HubSide → List ℕ → Heeded → List ℕ → Type 0
 IsShown side before (Waits came) rest = Unit {0}
 IsShown side before (Joins leaf) rest = (piece : List ℕ) × ShowsCode side (before ++ piece) leaf rest
 IsShown side before (Goes gone) rest = Unit {0}
-
--- these bytes, or more after them
-abbrev pub Grows : List ℕ → List ℕ → Type 0
-Grows before after = (piece : List ℕ) × (after ≡ before ++ piece)

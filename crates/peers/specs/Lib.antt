@@ -13,3 +13,4 @@ pub mod Joining
 pub mod Linked
 pub mod Speakers
 pub mod Tells
+pub mod Secrets

@@ -14,17 +14,17 @@ use Rattle.peers.specs.declared.seat.Seat.{Seat}
 
 -- whether these bytes fit
 abbrev pub fits : LinkWire → List ℕ → Bool
-fits wire bytes = nat_le (length wire.wire.unsent.items + length bytes) wire.wire.bounds.unsent
+fits wire bytes = nat_le (length wire.connection.unsent.items + length bytes) wire.connection.bounds.unsent
 
 -- nothing is queued for the other end
 abbrev pub IsUntold : LinkWire → LinkWire → Type 0
-IsUntold old new = (new.wire.unsent.items ≡ old.wire.unsent.items) × (new.gone ≡ old.gone)
+IsUntold old new = (new.connection.unsent.items ≡ old.connection.unsent.items) × (new.gone ≡ old.gone)
 
 -- All bytes are queued for the other end, after those before. If they do not fit, none is, and the connection is to be
 -- closed.
 abbrev pub IsToldIf : Bool → LinkWire → List ℕ → LinkWire → Type 0
-IsToldIf true old bytes new = (new.wire.unsent.items ≡ old.wire.unsent.items ++ bytes) × (new.gone ≡ old.gone)
-IsToldIf false old bytes new = (new.wire.unsent.items ≡ old.wire.unsent.items) × IsSome new.gone
+IsToldIf true old bytes new = (new.connection.unsent.items ≡ old.connection.unsent.items ++ bytes) × (new.gone ≡ old.gone)
+IsToldIf false old bytes new = (new.connection.unsent.items ≡ old.connection.unsent.items) × IsSome new.gone
 
 abbrev pub IsTold : LinkWire → List ℕ → LinkWire → Type 0
 IsTold old bytes new = IsToldIf (fits old bytes) old bytes new

@@ -1,6 +1,6 @@
 // What the log says about the connections between bots.
 use crate::gone::Gone;
-use bstr::ByteSlice;
+use bstr::ByteSlice as _;
 use net::DialFault;
 use std::fmt;
 use std::fmt::Display;

@@ -46,16 +46,16 @@ impl Guest {
     // Reads from the guest at second `now`, and answers it.
     pub(crate) fn heed(&mut self, now: u64) -> Result<Heeded, NoMemory>
         // A guest that is a leaf has shown its code on this connection.
-        ensures shown { IfOk result (λ heeded. IsShown self.old.side self.old.wire.wire.heard.items heeded
-            self.new.wire.wire.heard.items) }
+        ensures shown { IfOk result (λ heeded. IsShown self.old.side self.old.wire.connection.heard.items heeded
+            self.new.wire.connection.heard.items) }
         ensures side { self.new.side ≡ self.old.side }
     {
-        let came = self.wire.read()?;
-        match self.side.hear(self.wire.heard()) {
+        let came = self.wire.connection.read(1)?;
+        match self.side.hear(self.wire.connection.heard.as_slice()) {
             HubHears::More => Ok(self.wait(came, now)),
             HubHears::Welcome { leaf, used, line } => {
                 self.wire.tell(line.as_bytes())?;
-                self.wire.take_front(used);
+                self.wire.connection.take_front(used);
                 Ok(Heeded::Joins(leaf))
             }
             HubHears::Refused { fault, line } => {

@@ -2,11 +2,11 @@
 ghost use Rattle.std.specs.Prelude.{◌≡◌, ◌<◌, ◌≤◌, decimal, drop, length, take, IfSome};
 ghost use Rattle.std.specs.List.{prefix_len};
 ghost use Rattle.std.specs.Str.{bytes_eq};
-ghost use Rattle.bytetext.specs.Numerals.{digit_onto, number_from};
 ghost use Rattle.peers.specs.Reading.{as_written, is_letter, line_len, number_in, rest_of, word_of};
 
 use crate::MAX_LINE;
 use itoa::Buffer;
+use settings::value_of_digits;
 
 /// Returns the length of the first line of `heard` without its line feed, if the first 200 bytes contain that line
 /// feed.
@@ -75,33 +75,7 @@ fn after_one(bytes: &[u8]) -> &[u8]
 pub fn number_in(word: &[u8]) -> Option<u16>
     ensures { result ≡ number_in word.now }
 {
-    as_written(word, value_of(word))
-}
-
-// The number that digits stand for.
-fn value_of(word: &[u8]) -> Option<u16>
-    ensures { result ≡ number_from 0 word.now }
-{
-    let mut value: u16 = 0;
-    for byte in word {
-        value = digit_onto(value, *byte)?;
-    }
-    Some(value)
-}
-
-// Appends one digit to a number, if the result is below 65,536.
-fn digit_onto(value: u16, byte: u8) -> Option<u16>
-    ensures { result ≡ digit_onto value byte }
-{
-    if byte < 48 || byte > 57 {
-        return None;
-    }
-    let longer = u32::from(value) * 10 + u32::from(byte - 48);
-    if longer < 65_536 {
-        Some(longer as u16)
-    } else {
-        None
-    }
+    as_written(word, value_of_digits(word))
 }
 
 // The number, if the word is how it is written.

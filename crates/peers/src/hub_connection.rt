@@ -14,13 +14,12 @@ use crate::inbox::Inbox;
 use crate::key::Key;
 use crate::leaf_side::LeafSide;
 use crate::link_wire::LinkWire;
-use crate::log::log;
 use crate::meeting::{Hub, Stage};
 use crate::net_number::NetNumber;
 use crate::nonce::Nonce;
 use crate::pumps::Pumps;
 use bytetext::NoMemory;
-use net::{Dialled, Dialling, Registry};
+use net::{Dialled, Dialling, Registry, log};
 use settings::Address;
 use sharewire::Packet;
 use std::alloc::Global;
@@ -87,7 +86,7 @@ impl HubConnection {
     /// Notes that the connection may have something to read, if `token` names it.
     pub fn wake(&mut self, token: usize) {
         if let (TOKEN, Some(hub)) = (token, &mut self.hub) {
-            hub.wire.wake();
+            hub.wire.connection.wake();
         }
     }
 
@@ -255,7 +254,7 @@ impl HubConnection {
     /// Returns the number of unsent bytes for the hub.
     pub fn unsent(&self) -> usize {
         match &self.hub {
-            Some(hub) => hub.wire.unsent(),
+            Some(hub) => hub.wire.connection.unsent.len(),
             None => 0,
         }
     }

@@ -15,12 +15,11 @@ use crate::inbox::Inbox;
 use crate::key::Key;
 use crate::link_wire::LinkWire;
 use crate::links::FIRST_TOKEN;
-use crate::log::log;
 use crate::net_number::NetNumber;
 use crate::nonce::Nonce;
 use crate::seat::{Seat, tell_place};
 use bytetext::NoMemory;
-use net::{DoorFault, Registry, TcpDoor, TcpSocket};
+use net::{DoorFault, Registry, TcpDoor, TcpSocket, log};
 use sharewire::Packet;
 use std::alloc::Global;
 use std::net::{Net, SocketAddr};
@@ -133,7 +132,7 @@ impl HubLinks {
             Who::Guest => self.wake_guest(slot),
             Who::Leaf(leaf) => {
                 if let Some(Some(seat)) = self.seats.get_mut(usize::from(leaf)) {
-                    seat.wire.wake();
+                    seat.wire.connection.wake();
                 }
             }
         }
@@ -142,7 +141,7 @@ impl HubLinks {
     fn wake_guest(&mut self, slot: usize) {
         for guest in self.guests.iter_mut() {
             if guest.slot == slot {
-                guest.wire.wake();
+                guest.wire.connection.wake();
             }
         }
     }

@@ -4,7 +4,7 @@ ghost use Rattle.hex.specs.Hex.{encode_lower};
 ghost use Rattle.peers.specs.Hmac.{xored, padded};
 
 use hex::encode_to_slice;
-use sha2::{Digest, Sha256};
+use sha2::{Digest as _, Sha256};
 use std::marker::Model;
 
 // The number of bytes in a block of SHA-256.

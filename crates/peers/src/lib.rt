@@ -1,18 +1,43 @@
-//! Packets over a connection: read from its frames, and written as frames.
+//! The connections between the bots of a net: the hub's to its leaves, and a leaf's to its hub.
 //!
-//! A [`FrameReader`] reads the frames of a connection from its first byte on, in pieces of any size. Each packet that
-//! it returns was read from a frame, so its records are of good shape, which a bot's step requires. [`frame_of`]
-//! returns the frame of a packet.
+//! A hub listens, and each leaf connects to it. First both show that they know one secret, and that they belong to one
+//! net. Then packets go both ways as frames.
+//!
+//! - [`HubLinks`] has a seat for each leaf. A second connection with the right code takes the seat of the first. A leaf
+//!   speaks for itself alone: a packet that names another ends its connection ([`is_said_by`]).
+//! - A [`HubConnection`] reconnects whenever its connection is lost, and knows when the leaf is to say hello
+//!   ([`Pumps`]).
+//! - [`Links`] is either of them, or neither if a bot is alone.
+//! - [`HubSide`] and [`LeafSide`] are the two sides of the handshake, with a [`Key`] and a [`NetNumber`].
+//! - A [`FrameReader`] reads the frames of a connection from its first byte on, in pieces of any size, and [`frame_of`]
+//!   returns the frame of a packet. Each packet that the reader returns was read from a frame, so its records are of
+//!   good shape, which a bot's step requires.
+//! - An [`Inbox`] holds the packets of many streams until a turn takes them. It bounds how many a turn takes, and goes
+//!   round from stream to stream.
 //!
 //! ```text
-//! let feed = reader.feed(alloc, piece)?;              // the packets that are whole now, and the fault after them
-//! if let Some(frame) = frame_of(alloc, &packet)? { .. }
+//! links.wake(watch.tokens());
+//! links.connect(rt, registry, settings, now)?;
+//! links.read(rt, now)?;
+//! let packets = links.take_packets(alloc)?;      // for take_turn
+//! links.tell(alloc, &outgoing)?;                 // each of the turn's packets; one whose peer is not linked is lost
+//! links.send();
+//! links.let_go(rt, now);
 //! ```
 //!
-//! The lines that a hub and a leaf exchange before their first frame.
+//! A lost packet does no harm: after a leaf's next hello the hub sends what it lacks. No contract can state what a
+//! socket gives and takes.
 //!
-//! Both know a secret, and each draws a nonce, a new random text. A side that shows a code of both nonces knows the
-//! secret; an old code is worth nothing on a new connection.
+//! | Peer | Limit on what is read | Limit on what is unsent | Beyond the limit |
+//! |---|---|---|---|
+//! | a guest, which has shown no code | 200 bytes, 10 seconds, 64 guests at once | | disconnected, the oldest first |
+//! | a linked leaf | 4,096 bytes a turn if its queue is empty | 256 KB | not read above 64 KB, then disconnected |
+//!
+//! # The handshake
+//!
+//! The hub and a leaf exchange three lines before their first frame. Both know a secret, and each draws a nonce, a new
+//! random text. A side that shows a code of both nonces knows the secret; an old code is worth nothing on a new
+//! connection.
 //!
 //! ```text
 //! hub     eggnet 1 NONCE
@@ -20,19 +45,19 @@
 //! hub     hub NET CODE
 //! ```
 //!
-//! A line ends with a line feed, and has at most 200 bytes with it.
+//! A line ends with a line feed, and has at most [`MAX_LINE`] bytes with it.
 //!
 //! - N is the leaf's number, from 1.
 //! - A NONCE is 16 random bytes, as 32 hexadecimal digits, `0` to `9` and `a` to `f`.
 //! - NET is the number of the net, 16 such digits, drawn when the hub is created. A leaf keeps the number of its first
 //!   hub, and sends `-` until it has one.
-//! - CODE is the HMAC with SHA-256 (RFC 2104, FIPS 180-4) of `leaf N NET NONCE NONCE` under the secret, or of
-//!   `hub N NET NONCE NONCE`, with the leaf's nonce first, as 64 such digits.
+//! - CODE is the HMAC with SHA-256 (RFC 2104, FIPS 180-4) of `leaf N NET NONCE NONCE` under the secret, or of `hub N
+//!   NET NONCE NONCE`, with the leaf's nonce first, as 64 such digits.
 //!
 //! The caller passes [`HubSide`] and [`LeafSide`] all bytes that were read and not used. They return what to do: read
-//! more, send a line, or disconnect with a [`HandshakeFault`]. The bytes after a side's last line are its first
-//! frames, which the caller reads. The caller also watches the time: [`is_late`] decides from two readings of a clock
-//! whether to wait any longer. Nothing here allocates.
+//! more, send a line, or disconnect with a [`HandshakeFault`]. The bytes after a side's last line are its first frames,
+//! which the caller reads. The caller also watches the time: [`is_late`] decides from two readings of a clock whether
+//! to wait any longer. The handshake allocates nothing.
 //!
 //! The handshake shows who connects, once. It encrypts nothing, and anyone who can write into the connection can write
 //! frames.
@@ -48,46 +73,7 @@
 //! }
 //! ```
 //!
-//! The packets that have arrived at a bot and wait for its turn, and which leaf a packet names as its sender.
-//!
-//! Packets of many streams wait in an [`Inbox`], which bounds how many of them a turn takes, and goes round from
-//! stream to stream. [`is_said_by`] is false for a packet that must not come over a leaf's connection.
-//!
-//! `specs/Waiting.antt` states in full which packets a turn takes; `specs/Speakers.antt` states which leaf sends a
-//! packet.
-//!
-//! ```text
-//! inbox.put(leaf, packets)?;                            // of each stream that was read
-//! let packets = inbox.take(alloc)?;                     // those of one turn
-//! ```
-//!
-//! The connections between the bots of a net: the hub's to its leaves, and a leaf's to its hub.
-//!
-//! A hub listens, and each leaf connects to it. First both show that they know one secret ([`peers`]), and that
-//! they belong to one net; then packets go both ways as frames ([`peers`]).
-//!
-//! - A [`HubLinks`] has a seat for each leaf: a second connection with the right code takes the seat of the first. A
-//!   leaf speaks for itself alone: a packet that names another ends its connection.
-//! - A [`HubConnection`] reconnects whenever its connection is lost, and knows when the leaf is to say hello ([`Pumps`]).
-//! - [`Links`] is either of them, or neither if a bot is alone.
-//!
-//! | Peer | Limit on what is read | Limit on what is unsent | Beyond the limit |
-//! |---|---|---|---|
-//! | a guest, which has shown no code | 200 bytes, 10 seconds, 64 guests at once | | disconnected, the oldest first |
-//! | a linked leaf | 4,096 bytes a turn if its queue is empty | 256 KB | not read above 64 KB, then disconnected |
-//!
-//! ```text
-//! links.wake(watch.tokens());
-//! links.connect(rt, registry, settings, now)?;
-//! links.read(rt, now)?;
-//! let packets = links.take_packets(alloc)?;      // for take_turn
-//! links.tell(alloc, &outgoing)?;                 // each of the turn's packets; one whose peer is not linked is lost
-//! links.send();
-//! links.let_go(rt, now);
-//! ```
-//!
-//! A lost packet does no harm: after a leaf's next hello the hub sends what it lacks. No contract can state what a
-//! socket gives and takes.
+//! In `specs/`, `Waiting` states in full which packets a turn takes, and `Speakers` which leaf sends a packet.
 #![tactic(auto)]
 
 mod digits;
@@ -111,7 +97,6 @@ mod late;
 mod leaf_side;
 mod link_wire;
 mod links;
-mod log;
 mod meeting;
 mod net_number;
 mod nonce;

@@ -66,7 +66,7 @@ impl Hub {
 
     // Reads from the hub before its first frame, and answers it. Returns whether a byte arrived.
     pub(crate) fn meet(&mut self, now: u64) -> Result<bool, NoMemory> {
-        let came = self.wire.read()?;
+        let came = self.wire.connection.read(1)?;
         for _line in 0..2 {
             if !self.meet_line(now)? {
                 break;
@@ -77,7 +77,7 @@ impl Hub {
 
     // Reads a line of the hub's. Returns whether there may be another.
     fn meet_line(&mut self, now: u64) -> Result<bool, NoMemory> {
-        match self.side.hear(self.wire.heard()) {
+        match self.side.hear(self.wire.connection.heard.as_slice()) {
             LeafHears::More => {
                 if is_late(self.began, now) {
                     self.wire.end(Gone::Handshake(HandshakeFault::TooLate));
@@ -85,12 +85,12 @@ impl Hub {
                 Ok(false)
             }
             LeafHears::Answers { used, line } => {
-                self.wire.take_front(used);
+                self.wire.connection.take_front(used);
                 self.wire.tell(line.as_bytes())?;
                 Ok(true)
             }
             LeafHears::Joined { used, net } => {
-                self.wire.take_front(used);
+                self.wire.connection.take_front(used);
                 self.stage = Stage::Knows(net);
                 Ok(false)
             }
@@ -105,8 +105,8 @@ impl Hub {
     pub(crate) fn hear(&mut self, alloc: Global) -> Result<Vec<Packet>, NoMemory>
         ensures good { IfOk result (λ packets. AllByRecursion HasGoodRecords packets.items) }
     {
-        let _came = self.wire.read()?;
-        let bytes = self.wire.take_heard(alloc);
+        let _came = self.wire.connection.read(1)?;
+        let bytes = self.wire.connection.take_heard(alloc);
         if bytes.is_empty() {
             return Ok(Vec::new(alloc));
         }
@@ -119,7 +119,7 @@ impl Hub {
 
     // Whether the hub may have more to read at once.
     pub(crate) fn is_busy(&self) -> bool {
-        self.wire.may_give() && self.wire.gone().is_none()
+        self.wire.connection.may_give() && self.wire.gone().is_none()
     }
 
     // Queues a packet for the hub, as its frame, if the hub is linked. A packet that has no frame is lost.

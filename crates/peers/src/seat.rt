@@ -61,8 +61,8 @@ impl Seat {
         if self.wire.is_slow() || self.wire.gone().is_some() {
             return Ok(Vec::new(alloc));
         }
-        let _came = self.wire.read()?;
-        let bytes = self.wire.take_heard(alloc);
+        let _came = self.wire.connection.read(1)?;
+        let bytes = self.wire.connection.take_heard(alloc);
         if bytes.is_empty() {
             return Ok(Vec::new(alloc));
         }
@@ -80,7 +80,7 @@ impl Seat {
 
     // Whether the leaf may have more to read at once.
     pub(crate) fn is_busy(&self) -> bool {
-        self.wire.may_give() && !self.wire.is_slow() && self.wire.gone().is_none()
+        self.wire.connection.may_give() && !self.wire.is_slow() && self.wire.gone().is_none()
     }
 
     // Notes the version of the last hello.

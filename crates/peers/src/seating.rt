@@ -7,9 +7,9 @@ use crate::entry::Entry;
 use crate::gone::Gone;
 use crate::guest::Heeded;
 use crate::hub_links::{HubLinks, Who};
-use crate::log::log;
 use crate::seat::Seat;
 use bytetext::NoMemory;
+use net::log;
 use std::alloc::Global;
 
 impl HubLinks {

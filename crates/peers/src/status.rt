@@ -39,7 +39,7 @@ fn put_hub(text: &mut Vec<u8>, hub: &HubLinks) -> Result<(), NoMemory> {
 fn put_seat(text: &mut Vec<u8>, leaf: usize, seat: &Seat) -> Result<(), NoMemory> {
     put_count(text, b"leaf ", leaf as u64)?;
     put_count(text, b" version ", u64::from(seat.version))?;
-    put_count(text, b" unsent ", seat.wire.unsent() as u64)?;
+    put_count(text, b" unsent ", seat.wire.connection.unsent.len() as u64)?;
     put(text, b"\n")
 }
 

@@ -160,5 +160,5 @@ module _ (promised : Promised) (names : List (List ℕ)) where
           (only_now was.link.device.first x
           (subst (λ (d : Device). left_since d.first (moment was.link.device.first) x) same crash.first_left))
           (only_now was.link.device.second y
-          (subst (λ (d : Device). left_since d.second (moment was.link.device.second) y) same crash.second_left)))
-      by (inr moments) = inr (moments.each x y crash.first_left crash.second_left)
+          (subst (λ (d : Device). left_since d.second (moment was.link.device.second) y) same crash.second_left))).mean
+      by (inr moments) = inr (moments.each x y crash.first_left crash.second_left).mean

@@ -8,7 +8,7 @@ use Rattle.botjournal.specs.Contents.{meaning}
 use Rattle.protocol.specs.Bots.{Fails}
 use Rattle.protocol.specs.Network.Event.{Pump as pumps, Compact as compacts}
 use Rattle.protocol.specs.Ends.{End}
-use Rattle.sharelink.specs.BotLinks.{BotEnd, did, took, AreOf}
+use Rattle.sharelink.specs.BotLinks.{BotEnd, did, took, MeanEnd}
 use Rattle.sharelink.specs.BotOpening.{IsKeptOf, IsLeft}
 use Rattle.botcore.specs.declared.event.BotEvent.{BotEvent}
 use Rattle.botcore.specs.declared.event.BotEvent.TheVariants.{Connect, Line, Ask, Pump, Receive, Clock, Bind, Unbind}
@@ -113,7 +113,7 @@ with_end link end = record link { end = end }
 
 -- these bytes mean what the bot kept before the call, or the same with the record that the call was journaling
 abbrev pub LeavesIn : Doing → BotEnd → List ℕ → List ℕ → Type 0
-LeavesIn doing link first second = AreOf (with_end link (failing link doing)) first second
+LeavesIn doing link first second = MeanEnd (with_end link (failing link doing)) first second
 
 -- a crash at some moment between `was` and `after` may leave these bytes
 pub record CrashesIn (was after : BotEnd) (first second : List ℕ) : Type 0 where

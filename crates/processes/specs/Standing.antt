@@ -5,8 +5,7 @@ use Rattle.protocol.specs.Numbers.{item_at}
 use Rattle.protocol.specs.History.{History, Grows}
 use Rattle.protocol.specs.Ends.{End as LinkEnd}
 use Rattle.protocol.specs.Nets.{IsMoment}
-use Rattle.sharelink.specs.BotLinks.{BotEnd}
-use Rattle.sharelink.specs.BotLinks.{AreOf}
+use Rattle.sharelink.specs.BotLinks.{BotEnd, MeanEnd}
 use Rattle.botworld.specs.declared.sent.Sent.{Sent}
 use Rattle.botworld.specs.Network.{sent_as}
 use Rattle.processes.specs.Deeds.{Process, Runs, Ended, Net}
@@ -14,7 +13,7 @@ use Rattle.processes.specs.Deeds.{Process, Runs, Ended, Net}
 -- a process has this end of the link: its bot has it, or a restart finds it in what the disks mean
 abbrev pub HasEnd : BotEnd → Process → Type 0
 HasEnd link (Runs bot) = bot.link ≡ link
-HasEnd link (Ended first second) = AreOf link first second
+HasEnd link (Ended first second) = MeanEnd link first second
 
 -- the process at a place has the end of the link that stands there
 pub record IsAt (h : History) (ends : List LinkEnd) (place : ℕ) (process : Process) : Type 0 where

@@ -10,7 +10,7 @@ use crate::promise::Promise;
 use crate::reply::ProcReply;
 use crate::run::{Body, Run};
 use crate::view::View;
-use bytetext::{Failure, NoMemory, Text, TryCopy};
+use bytetext::{Failure, NoMemory, TryCopy};
 use indexmap::IndexMap;
 use std::alloc::Global;
 use std::marker::Model;
@@ -50,8 +50,7 @@ pub struct NotAdded<P: Promise, B: Run = Body> {
 }
 
 impl<P: Promise, B: Run> ProcStore<P, B> {
-    ghost use Rattle.std.specs.Prelude.{◌≡◌, ◌≤◌, ◌++◌, ◌∷◌, [], None, length, slice_get, OnOk, OnErr, IfErr};
-    ghost use Rattle.std.specs.Option.{option_copied};
+    ghost use Rattle.std.specs.Prelude.{◌≡◌, ◌≤◌, ◌++◌, ◌∷◌, [], None, length, OnOk, OnErr, IfErr};
     ghost use Rattle.procstore.specs.Calling.{holds, refusal, IsWhy, IsCalled};
 
     /// Creates a store without procs. Does not allocate.
@@ -76,16 +75,6 @@ impl<P: Promise, B: Run> ProcStore<P, B> {
         ensures { result ≡ holds self.now name.now }
     {
         self.procs.contains_key(name)
-    }
-
-    /// Returns the name of the proc at `place` in the order of adding, from 0; none after the last.
-    pub fn name_at(&self, place: usize) -> Option<&[u8]>
-        ensures { option_copied result ≡ slice_get self.now place }
-    {
-        match self.procs.get_index(place) {
-            Some((name, _)) => Some(name.as_slice()),
-            None => None,
-        }
     }
 
     /// Appends `proc`.

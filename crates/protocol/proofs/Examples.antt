@@ -31,7 +31,7 @@ middle_done : (a b c : UserChange)
     → without 2 (with_request 3 c (with_request 2 b (with_request 1 a []))) ≡ with_request 3 c (with_request 1 a [])
 middle_done a b c = refl
 
--- a leaf at which these asks wait, and after so many pumps
+-- a leaf at which these asks wait, and the same after this number of pumps
 abbrev asked : List UserChange → Leaf
 asked changes = record new_leaf { loose = record no_loose { waiting = changes } }
 

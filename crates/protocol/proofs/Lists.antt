@@ -1,4 +1,4 @@
--- Numbered items, lists that grow, functions with one value put anew, and the records at versions.
+-- Numbered items, lists that grow, functions with one value replaced, and the records at versions.
 use Rattle.std.proofs.Common.{◌≡◌, ◌⊎◌, inl, inr, ℕ, zero, suc, ◌+◌, ◌-◌, ◌<◌, ◌≤◌, ◌==◌, Bool, true, false, ◌||◌, if◌then◌else◌, List, [], ◌∷◌, ◌++◌, length, take, drop, slice_get, Some, refl, ap, sym, subst, ◌∙◌, arith, append_assoc, length-append, eqb-true, eq-eqb, slice_set, ltb-true, nat_lt}
 use Rattle.std.proofs.lemmas.Bool.{eqb-false}
 use Rattle.std.proofs.lemmas.Bool.Decides.{nat_tests}
@@ -120,7 +120,7 @@ Extends-length xs ys more = omega (arith, ap length more.1, length-append xs mor
 pub length-one : {X : Type 0} (xs : List X) (x : X) → length (xs ++ x ∷ []) ≡ length xs + 1
 length-one xs x = length-append xs (x ∷ [])
 
--- ---- one value set_at anew
+-- ---- one value replaced by `set_at`
 
 pub set_at-elim : {X : Type 0} (P : ℕ → X → Type 0) (f : ℕ → X) (i : ℕ) (x : X) → P i x → ((j : ℕ) → P j (f j)) → (j : ℕ)
     → P j (set_at f i x j)
@@ -142,7 +142,7 @@ slice_set-other (z ∷ xs) zero (suc j) x other = refl
 slice_set-other (z ∷ xs) (suc i) zero x other = refl
 slice_set-other (z ∷ xs) (suc i) (suc j) x other = slice_set-other xs i j x (λ e. other (ap suc e))
 
--- a list with one item set anew
+-- a list with one item replaced
 pub slice_set-elim : {X : Type 0} (P : ℕ → X → Type 0) (xs : List X) (i : ℕ) (x : X) → P i x
     → ((j : ℕ) (z : X) → slice_get xs j ≡ Some z → P j z) → (j : ℕ) (z : X) → slice_get (slice_set xs i x) j ≡ Some z → P j z
 slice_set-elim P xs i x here there j z e = by (j == i) refl
@@ -160,7 +160,7 @@ slice_set-had [] i x y e = cc
 slice_set-had (z ∷ xs) zero x y e = (z, refl)
 slice_set-had (z ∷ xs) (suc i) x y e = slice_set-had xs i x y e
 
--- a list with one item set_at anew, beside a function with one value set_at anew
+-- a list with one item replaced by `set_at`, beside a function with one value so replaced
 pub set-elim : {X Y : Type 0} (P : ℕ → X → Y → Type 0) (xs : List X) (g : ℕ → Y) (i : ℕ) (x : X) (y : Y)
     → ((u : X) → slice_get xs i ≡ Some u → P (suc i) x y)
     → ((j : ℕ) (z : X) → slice_get xs j ≡ Some z → P (suc j) z (g (suc j))) → (j : ℕ) (z : X) → slice_get (slice_set xs i x) j ≡ Some z

@@ -164,7 +164,7 @@ module _ (net : Net) (h : History) (st : Stands net h) (sound : IsSound h) where
 
 -- ---- for whoever holds the ends and the packets
 
--- a bot that does what it is told
+-- a bot that acts as an event says
 pub did_goes : (ends : List End) (packets : List Sent) (h : History) → IsMoment ends packets h → (leaves bot : ℕ) (end : End) (how : How)
     (event : Event) → leaves ≡ h.count → slice_get ends bot ≡ Some end
     → RowFollows h ends packets bot (end_did leaves bot how end event)

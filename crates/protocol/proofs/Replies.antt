@@ -31,7 +31,7 @@ number_at n (reply ∷ kept) zero within numbered = omega (arith, numbered.0)
 number_at n (reply ∷ kept) (suc place) within numbered =
     omega (arith, number_at (n + 1) kept place (omega (arith, within)) numbered.1)
 
--- the last request's number is so many above the first one's
+-- the last request's number is this number above the first one's
 numbers_end : (n : ℕ) (kept : List Reply) → 0 < length kept → AreNumbered n kept → last_request kept + 1 ≡ n + length kept
 numbers_end n kept some numbered = omega (arith, number_at n kept (length kept - 1) (omega (arith, some)) numbered, some)
 

@@ -130,7 +130,7 @@ module _ (count : ℕ) (first more : List Made) where
       (net_after (net_after (new_net count) first) more) ended.after ended.stands ended.sound grown bot v v' is
       (ap (λ w. shown_version w bot) (sym later) ∙ is')
 
--- no step of a run is told as diverged
+-- no step of a run reports that a leaf diverged
 pub run_fine : (count : ℕ) (made : List Made) (course : Course) (step : Step)
     → IsFineOutcome (stepped course (net_after (new_net count) made) step).outcome
 run_fine count made course step =

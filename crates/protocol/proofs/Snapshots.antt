@@ -32,7 +32,7 @@ records_from-items r = rw (users_in-users r.users r.bans, bans_in-users r.users 
 
 -- ---- joining
 
--- parts from one on, each of them the part of its number, joined: so many items from there on
+-- parts from one on, each of them the part of its number, joined: this number of items from there on
 joined_is : (items : List Record) (parts : List (Option (List Record))) (k : ℕ)
     → ((place : ℕ) (part : List Record) → slice_get parts place ≡ Some (Some part) → part ≡ take 8 (drop (8 * (k + place)) items))
     → (whole : List Record) → joined parts ≡ Some whole → whole ≡ take (8 * length parts) (drop (8 * k) items)
@@ -58,7 +58,7 @@ joined_is items (first ∷ parts) k are whole e =
         sym same ∙ ap (λ l. l ++ rest) one ∙ ap (λ l. take 8 (drop (8 * k) items) ++ l) (after rest refl ∙ ap (take (8 * length parts)) next)
         ∙ sym (take-add 8 (8 * length parts) (drop (8 * k) items)) ∙ ap (λ n. take n (drop (8 * k) items)) count
 
--- so many parts are all
+-- this number of parts are all
 enough : (n : ℕ) → n ≤ 8 * ((n - 1) / 8 + 1)
 enough n = omega arith
 

@@ -196,7 +196,7 @@ module _ (w : Net) (s : History) (st : Stands w s) (sound : IsSound s) (how : Ho
   happens (Deliver n) = deliveries n (item_at w.packets n) (ap (λ (ps : List Sent). item_at ps n) (sym st.packets))
 
 module _ (w : Net) (s : History) (st : Stands w s) (sound : IsSound s) where
-  -- a step that is told as out of memory
+  -- a step that reports that it is out of memory
   untold : (step : Step) → Follows s (happened Fails w step)
       → Follows s (record (happened Fails w step) { outcome = OutOfMemory })
   untold step goes =

@@ -17,7 +17,7 @@ use Rattle.protocol.specs.HubRules.{Accept, Settle, Rebase, Hub, version_of, las
 use Rattle.protocol.specs.Network.{Event, Ask, Pump, Tell, Compact, Restart, hub_event}
 use Rattle.protocol.proofs.Moves.{one_more}
 
--- what is told between two versions is so
+-- a step between these two versions reports the truth about them
 abbrev pub IsSo : ℕ → ℕ → Result Note LinkFault → Type 0
 IsSo before after (Ok Queued) = Unit {0}
 IsSo before after (Ok Idle) = Unit {0}

@@ -8,8 +8,20 @@
 //! until a restart finds it or doesn't. The caller chooses which bot acts next, which packet is delivered, how often,
 //! and when a device fails or memory runs out.
 //!
-//! [`laws_of_the_link`] says what holds of every such run: bots at one version hold the same records, no version goes
-//! back, a request is accepted at most once, and the hub reports its true outcome. The words are defined in `specs/`:
+//! - [`laws_of_the_link`] says what holds of every such run: bots at one version hold the same records, no version goes
+//!   back, a request is accepted at most once, and the hub reports its true outcome.
+//! - [`laws_of_link_journals`] says that what a link wrote into its journal reads back.
+//! - [`laws_of_ends`] says the same of a net whose ends stand in one list, the hub's first. A caller that holds all
+//!   bots of a net in one list needs the statements about one kind of end, not about a hub and a list of leaves beside
+//!   it.
+//!
+//! A caller states that its calls are the steps of a net, and takes what follows from a law:
+//!
+//! ```text
+//! laws_of_ends();      // now the contract may use: a moment of history, a call, and the moment after it
+//! ```
+//!
+//! The words are defined in `specs/`:
 //!
 //! - `Packets`, `Notes`: what bots send each other, and what a call reports.
 //! - `Bots`: what survives a restart, what doesn't, and the record in doubt.
@@ -18,19 +30,12 @@
 //!   the journal.
 //! - `Snapshots`: the records at a version cut into parts, for a leaf that is too far behind.
 //! - `Network`: the net and its steps.
+//! - `Numbers`: numbers that go from 1, and the items of lists by them.
 //! - `History`, `Truth`, `Soundness`: all that ever happened, when a packet is true of it, and what holds at each
 //!   moment.
 //! - `Standing`: how what the bots hold follows from history.
 //! - `Claims`: what the link promises of each moment, each step and each run.
-//! - `Journals`, `Recovery`: what a journal means as a link's state, what a link writes into it, and what a restart
-//!   finds; [`laws_of_link_journals`] says that what was written reads back.
-//!
-//! The ends of a net's links in one list, the hub's first, and what the link's laws say of them. This crate has no code
-//! of a bot.
-//!
-//! `protocol` speaks of a hub and of a list of leaves beside it. A caller that holds all bots of a net in one list
-//! needs the same statements about one kind of end. [`laws_of_ends`] makes them, in words that are defined in `specs/`:
-//!
+//! - `Journals`: what a journal means as a link's state, and what a link writes into it.
 //! - `Ends`: an end is the hub's or a leaf's, what it shows, and its calls as rows of one kind.
 //! - `Nets`: when ends and packets are a moment of history, what each moment shows, and what a call leaves.
 #![tactic(auto)]

@@ -1,27 +1,34 @@
-//! The text of a bot's version and records, as a transcript has it.
+//! Records and changes as text: the lines that show a bot's records, and the words that spell a change.
 //!
-//! [`put_records`] adds a line with the version and the counts of users and bans, then the lines of each user, and then
-//! those of each ban, in order. A user's lines give the flags, the info if there is one, the hostmasks and the flags on
-//! channels. A ban's lines give its fields, and say so if it is sticky. Each line begins with the bot's number. If no
-//! such bot exists, the only line is `world O2`.
+//! - [`put_records`] adds a bot's version and records as a transcript has them. A caller that prints other lines beside
+//!   these uses the same functions: [`put`] adds bytes, [`put_number`] a number, and [`put_counted`] a word with a
+//!   number.
+//! - [`pieces_of`] and [`rest_of`] cut a line into words; [`number`] and [`bot_number`] read a number.
+//! - [`change_of`] reads a change from the words of a line, and [`change_named`] one whose name was read already.
 //!
 //! ```text
+//! let change = change_of(alloc, b"adduser alice")?;              // Some(Change::AddUser { .. })
+//! let words = pieces_of(alloc, b"chan alice #egg o", b' ')?;     // four words
+//! number(b"007")                                                 // Some(7)
 //! put_records(alloc, &mut text, 0, Some(2), Some(&userfile))?;
 //! // 0 version 2 users 1 bans 0
 //! // 0 user alice o -
 //! // 0 host alice *!alice@*.example
 //! ```
 //!
-//! A caller that prints other lines beside these uses the same functions: [`put`] adds bytes, [`put_number`] a number,
-//! and [`put_counted`] a word with a number.
+//! # Records
 //!
-//! The words of a script's line: numbers, a last word that takes the rest of the line, and the changes that words
-//! spell.
+//! [`put_records`] adds a line with the version and the counts of users and bans, then the lines of each user, and then
+//! those of each ban, in order. A user's lines give the flags, the info if there is one, the hostmasks and the flags on
+//! channels. A ban's lines give its fields, and say so if it is sticky. Each line begins with the bot's number. If no
+//! such bot exists, the only line is `world O2`.
+//!
+//! # Words
 //!
 //! One space separates two words, so two spaces have an empty word between them. A number is one or more digits.
 //!
-//! A CHANGE is `adduser H`, `deluser H`, `addhost H M`, `delhost H M`, `global H F`, `bot H F`, `chan H C F`,
-//! `addban C M H E COMMENT`, `delban C M`, `info H TEXT` or `sticky C M N`:
+//! A CHANGE is `adduser H`, `deluser H`, `addhost H M`, `delhost H M`, `global H F`, `bot H F`, `chan H C F`, `addban C
+//! M H E COMMENT`, `delban C M`, `info H TEXT` or `sticky C M N`:
 //!
 //! - F is letters, or `-` for no flags.
 //! - A ban on all channels has the channel `*`. A ban that never ends has the expiry E 0.
@@ -31,12 +38,6 @@
 //!
 //! These functions don't check the shape of handles, masks, channels, comments and infos; that happens when the change
 //! is requested.
-//!
-//! ```text
-//! let words = pieces_of(alloc, b"chan alice #egg o", b' ')?;      // four words
-//! let change = change_of(alloc, b"adduser alice")?;              // Some(Change::AddUser { .. })
-//! number(b"007")                                                 // Some(7)
-//! ```
 #![tactic(auto)]
 
 mod asking;

@@ -1,2 +1,1 @@
-pub mod TalkLemmas
 pub mod ToldLemmas

@@ -3,7 +3,7 @@ use Rattle.std.proofs.Common.{◌≡◌, ◌++◌, ◌∷◌, ◌∙◌, ℕ, Bo
 use Rattle.std.proofs.lemmas.List.Concat.{flat_map-append}
 use Rattle.std.specs.List.{AllByRecursion, flat_map}
 use Rattle.streams.specs.State.{Source, Sink}
-use Rattle.net.specs.Wires.{Ledger, Holds, begun, more_handed, more_told, told_bytes}
+use Rattle.net.specs.Connections.{Ledger, Holds, begun, more_handed, more_told, told_bytes}
 use Rattle.serverlink.specs.Told.{TellsLines, IsLine, ended}
 
 -- ---- lines, and one more

@@ -1,19 +1,9 @@
 -- What is sent to a server.
-use Rattle.std.specs.Prelude.{◌≡◌, ℕ, Bool, true, List, [], ◌∷◌, ◌++◌}
+use Rattle.std.specs.Prelude.{◌≡◌, ℕ, true, List, [], ◌∷◌, ◌++◌}
 use Rattle.std.specs.List.{AllByRecursion, flat_map}
 use Rattle.streams.specs.State.{Source, Sink}
 use Rattle.serverlink.specs.Lines.{is_line}
-use Rattle.net.specs.Wires.{Ledger, Holds}
-
--- A connection: its stream, the bytes that were read and not taken yet, the unsent bytes, whether it is over, and
--- whether its stream may have something to read: false after a read that would block, until the connection is woken.
-pub record Talk : Type 0 where
-  pub source : Source
-  pub sink : Sink
-  pub heard : List ℕ
-  pub unsent : List ℕ
-  pub over : Bool
-  pub gives : Bool
+use Rattle.net.specs.Connections.{Ledger, Holds}
 
 -- a line as it is sent: with CR and LF
 abbrev pub ended : List ℕ → List ℕ

@@ -5,10 +5,10 @@ ghost use Rattle.bytetext.specs.declared.moment.TheConstants.{MOMENTS_END};
 use crate::cue::{Cue, cue_of, param};
 use crate::entry::{Entry, Fact};
 use crate::irc_connection::{IrcConnection, joined};
-use crate::log::log;
 use crate::nicks::other_nick;
 use bytetext::{NoMemory, TryCopy};
 use ircline::{Line, Message};
+use net::log;
 use settings::Settings;
 
 impl IrcConnection {
@@ -109,7 +109,7 @@ impl IrcConnection {
                 session.tried = session.tried.saturating_add(1);
                 log(rt, now, &Entry::Plain(Fact::OtherNick, nick.as_bytes()));
                 let line = joined(alloc, b"NICK ", nick.as_bytes())?;
-                session.tell(alloc, line.as_slice(), now)
+                session.tell(line.as_slice(), now)
             }
             None => {
                 log(rt, now, &Entry::NoNick);

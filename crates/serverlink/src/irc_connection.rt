@@ -4,15 +4,17 @@ ghost use Rattle.bytetext.specs.declared.moment.TheConstants.{MOMENTS_END};
 
 use crate::configured_channels::ConfiguredChannels;
 use crate::entry::{Entry, Fact};
-use crate::log::log;
 use crate::own_lines::OwnLines;
 use crate::session::Session;
 use crate::why::Why;
-use bytetext::NoMemory;
-use net::{Dialled, Dialling, Registry};
+use bytetext::{NoMemory, TryCopy};
+use net::{Dialled, Dialling, Registry, log};
 use settings::{Server, Settings};
 use std::alloc::Global;
 use std::net::Net;
+
+// The most pieces that one turn reads.
+const PIECES: usize = 16;
 
 // The token under which the connection to a server is watched.
 const TOKEN: usize = 1;
@@ -43,10 +45,11 @@ impl Drop for IrcConnection {
 }
 
 impl IrcConnection {
-    ghost use Rattle.std.specs.Prelude.{◌≡◌, ◌==◌, true, Some, [], option_map, OnOk, MatchOption};
+    ghost use Rattle.std.specs.Prelude.{◌≡◌, ◌==◌, true, Some, [], option_map, IfOk, OnOk, MatchOption};
     ghost use Rattle.std.specs.List.{list_any};
     ghost use Rattle.net.specs.Dials.{lost};
-    ghost use Rattle.serverlink.specs.Talks.{MayReadAll, MaySend, handed, heard_in, held, told, woken, talk_in};
+    ghost use Rattle.net.specs.Connections.{handed};
+    ghost use Rattle.serverlink.specs.Talks.{MayReadAll, MaySend, ReadsSome, heard_in, may_give_in, held, told, woken, talk_in};
 
     /// Creates an uplink from `settings` without a connection; an attempt to connect is due at once.
     ///
@@ -154,7 +157,7 @@ impl IrcConnection {
         let mut session = Session::new(alloc, dialled.socket, now);
         if let Some(pass) = &server.pass {
             let line = joined(alloc, b"PASS :", pass.as_bytes())?;
-            session.tell(alloc, line.as_slice(), now)?;
+            session.tell(line.as_slice(), now)?;
         }
         self.session = Some(session);
         Ok(())
@@ -167,7 +170,7 @@ impl IrcConnection {
     {
         if let Some(session) = &mut self.session {
             if tokens.contains(&TOKEN) {
-                session.wire.wake();
+                session.wire.connection.wake();
             }
         }
     }
@@ -179,12 +182,17 @@ impl IrcConnection {
     /// `NoMemory` if an allocation fails: never without a connection. What was read before stays.
     pub fn read(&mut self, now: u64) -> Result<bool, NoMemory>
         ensures reads { OnOk result (MayReadAll (talk_in self.old.session) (talk_in self.new.session)) }
+        ensures more { IfOk result (λ more. more ≡ may_give_in (talk_in self.new.session)) }
+        ensures fewer { OnErr result (ReadsSome (talk_in self.old.session) (talk_in self.new.session)) }
         ensures memory { IfErr result (λ _. self.old.session ≢ None) }
     {
-        match &mut self.session {
-            Some(session) => session.read(now),
-            None => Ok(false),
+        let Some(session) = &mut self.session else {
+            return Ok(false);
+        };
+        if session.wire.connection.read(PIECES)? {
+            session.vigil.hear(now);
         }
+        Ok(session.wire.connection.may_give())
     }
 
     /// Takes the bytes that were read and not taken yet. Allocates nothing.
@@ -193,7 +201,7 @@ impl IrcConnection {
         ensures none { talk_in self.new.session ≡ option_map handed (talk_in self.old.session) }
     {
         match &mut self.session {
-            Some(session) => session.wire.take_heard(alloc),
+            Some(session) => session.wire.connection.take_heard(alloc),
             None => Vec::new(alloc),
         }
     }
@@ -218,7 +226,7 @@ impl IrcConnection {
         let Some(session) = &mut self.session else {
             return Ok(());
         };
-        session.tell(rt.alloc(), line, now)?;
+        session.tell(line, now)?;
         if settings.log_lines {
             log(rt, now, &Entry::Plain(Fact::Told, line));
         }
@@ -230,7 +238,10 @@ impl IrcConnection {
         ensures { MaySend (talk_in self.old.session) result (talk_in self.new.session) }
     {
         match &mut self.session {
-            Some(session) => session.wire.send() && session.wire.unsent() > 0,
+            Some(session) => {
+                let connection = &mut session.wire.connection;
+                connection.send() && !connection.unsent.is_empty()
+            }
             None => false,
         }
     }
@@ -241,7 +252,7 @@ impl IrcConnection {
         ensures { self.new.session ≡ held self.old.session }
     {
         if let Some(session) = &self.session {
-            if session.wire.is_over() {
+            if session.wire.connection.is_over {
                 self.lose(rt, Why::Over, now);
             }
         }

@@ -4,10 +4,10 @@ ghost use Rattle.bytetext.specs.declared.moment.TheConstants.{MOMENTS_END};
 
 use crate::entry::Entry;
 use crate::irc_connection::{IrcConnection, joined};
-use crate::log::log;
 use crate::vigil::Care;
 use crate::why::Why;
 use bytetext::NoMemory;
+use net::log;
 use settings::Settings;
 
 impl IrcConnection {
@@ -109,7 +109,7 @@ impl IrcConnection {
         let (Some(session), Some(line)) = (&mut self.session, self.own.next()) else {
             return Ok(());
         };
-        session.tell(rt.alloc(), line.as_bytes(), now)?;
+        session.tell(line.as_bytes(), now)?;
         if settings.log_lines {
             log(rt, now, &Entry::ToldOwn);
         }

@@ -1,32 +1,25 @@
-//! The upkeep of a bot's connections, as decisions alone: nothing here touches a socket or a clock.
+//! A bot's connection to its IRC server: connecting, registering, keeping the connection alive, the channels to be on,
+//! and what is sent.
 //!
-//! - [`Vigil`] decides when to ping a silent server, and when to disconnect it.
-//! - [`Pace`] counts all lines sent to a server as the server does, and so limits the lines that the process adds to
-//!   the bot's.
-//! - [`cue_of`] returns what a message means for the bot's registration and its channels.
-//! - [`Seat`] is a channel of the bot's configuration, and decides when the bot rejoins it.
-//! - [`other_nick`] returns the nick to try next when a server rejects the bot's own.
-//! - [`is_line`] checks a line for a server, and [`is_base_due`] decides when to rewrite a journal.
-//!
-//! Seconds are read from the bot's clock and count from 1970-01-01 UTC.
+//! An [`IrcConnection`] connects to the servers of a configuration in turn ([`net`]), reads what the connected one
+//! says, and sends it lines. A [`Session`] is one connection of it. This crate does not look at what the bot itself
+//! makes of the server's messages; the bot's lines come in by [`IrcConnection::tell`].
 //!
 //! ```text
-//! let mut vigil = Vigil::new(1_000);
-//! vigil.care(1_059, false);                 // Care::Wait
-//! vigil.care(1_060, false);                 // Care::LetGo(Loss::Unwelcomed)
-//! vigil.care(1_090, true);                  // Care::Ask: the server was silent for 90 seconds
-//! other_nick(alloc, b"longeggbot", 0)?      // Some(longeggbo): nine bytes
+//! let mut irc = IrcConnection::new(alloc, settings)?;
+//! // each turn, at the second now
+//! irc.wake(watch.tokens());
+//! let connected = irc.connect(rt, watch.registry(), settings, now)?;
+//! irc.read(now)?;
+//! let bytes = irc.take_heard(alloc);
+//! irc.look(rt, settings, &line, logged, nick, now)?;    // each line of them, after the bot's step
+//! irc.tell(rt, settings, b"PRIVMSG #chan :hi", now)?;   // each line of the bot's
+//! irc.keep(rt, settings, now)?;
+//! irc.send();
+//! irc.let_go(rt, now);
 //! ```
 //!
-//! A bot's connection to its IRC server: connecting, registering, keeping it alive, the channels to be on, and what is
-//! sent.
-//!
-//! An [`IrcConnection`] connects to the servers of a configuration in turn ([`net`]), reads what the connected one says,
-//! and sends it lines. A [`Session`] is one connection of it. The bytes that the server sent go to the bot, which reads
-//! their lines; [`IrcConnection::look`] then sees each line, with the bot's nick before it and whether to log it. What the bot itself makes of the
-//! server's messages is not looked at here; the bot's lines come in by [`IrcConnection::tell`].
-//!
-//! Besides those lines, an uplink sends:
+//! Besides the bot's lines, a connection sends:
 //!
 //! - the PASS of a registration;
 //! - a PING after 90 seconds of silence;
@@ -37,22 +30,26 @@
 //!
 //! Each line to a server has 1 to 510 bytes: a [`ServerWire`] sends nothing else.
 //!
-//! What happens on the connection is logged to standard output, one line for each event: seconds since 1970-01-01 UTC,
-//! and what happened. A log that cannot be written ends nothing. Seconds are read from the bot's clock.
+//! These decide what is due, and touch no socket and no clock:
+//!
+//! - [`Vigil`]: when to ping a silent server, and when to disconnect it.
+//! - [`Pace`]: how many lines the process may add to the bot's. It counts all lines sent to a server as the server
+//!   does.
+//! - [`cue_of`]: what a message means for the bot's registration and its channels.
+//! - [`Seat`]: a channel of the bot's configuration, and when the bot rejoins it.
+//! - [`other_nick`]: the nick to try next when a server rejects the bot's own.
+//! - [`is_line`]: whether a server may be sent a line. [`is_base_due`]: when to rewrite a journal.
 //!
 //! ```text
-//! let mut uplink = IrcConnection::new(alloc, settings)?;
-//! // each turn, at the second now
-//! uplink.wake(watch.tokens());
-//! let connected = uplink.connect(rt, watch.registry(), settings, now)?;
-//! uplink.read(now)?;
-//! let bytes = uplink.take_heard(alloc);                    // the bot takes them in
-//! uplink.look(rt, settings, &line, logged, nick, now)?;    // each line of them, after the bot's step
-//! uplink.tell(rt, settings, b"PRIVMSG #chan :hi", now)?;   // each line of the bot's
-//! uplink.keep(rt, settings, now)?;
-//! uplink.send();
-//! uplink.let_go(rt, now);
+//! let mut vigil = Vigil::new(1_000);
+//! vigil.care(1_059, false);                 // Care::Wait
+//! vigil.care(1_060, false);                 // Care::LetGo(Loss::Unwelcomed)
+//! vigil.care(1_090, true);                  // Care::Ask: the server was silent for 90 seconds
+//! other_nick(alloc, b"longeggbot", 0)?      // Some(longeggbo): nine bytes
 //! ```
+//!
+//! The log goes to standard output, one line for each event: seconds since 1970-01-01 UTC, and what happened. A log
+//! that cannot be written does not stop the bot. Seconds are read from the bot's clock.
 #![tactic(auto)]
 
 mod configured_channels;
@@ -62,7 +59,6 @@ mod hearing;
 mod irc_connection;
 mod keeping;
 mod line;
-mod log;
 mod nicks;
 mod own_lines;
 mod pace;

@@ -1,7 +1,6 @@
 // One connection to a server.
-ghost use Rattle.std.specs.Prelude.{◌≡◌, ◌&&◌, not, List, length, OnOk, OnErr, IfOk};
-ghost use Rattle.streams.specs.declared.stream.Given.{Given};
-ghost use Rattle.serverlink.specs.Talks.{HearsAll, ReadsAll, told};
+ghost use Rattle.std.specs.Prelude.{◌≡◌, length, OnOk, OnErr};
+ghost use Rattle.serverlink.specs.Talks.{told};
 
 use crate::pace::Pace;
 use crate::server_wire::ServerWire;
@@ -10,13 +9,10 @@ use bytetext::NoMemory;
 use net::TcpSocket;
 use std::alloc::Global;
 
-// The most pieces that one turn reads.
-const PIECES: usize = 16;
-
 /// A connection to a server, and what is known about it.
 pub struct Session {
     pub(crate) wire: ServerWire<TcpSocket>,
-    vigil: Vigil,
+    pub(crate) vigil: Vigil,
     pace: Pace,
     /// Whether the server has welcomed the bot (001).
     pub is_welcomed: bool,
@@ -49,27 +45,12 @@ impl Session {
         }
     }
 
-    // Reads what has arrived. Returns whether there may be more at once: false after a read that would block.
-    pub(crate) fn read(&mut self, now: u64) -> Result<bool, NoMemory>
-        ensures reads { OnOk result (ReadsAll self.old.wire self.new.wire) }
-        ensures err { OnErr result ((answers : List Given) × HearsAll answers self.old.wire self.new.wire) }
-        ensures more { IfOk result (λ more. more ≡ (self.new.wire.gives && not self.new.wire.over)) }
-    {
-        for _ in 0..PIECES {
-            if !self.wire.read()? {
-                break;
-            }
-            self.vigil.hear(now);
-        }
-        Ok(self.wire.may_give())
-    }
-
     // Queues `line` for the server, and counts it as sent at second `now`. Ignores bytes that are not a line.
-    pub(crate) fn tell(&mut self, alloc: Global, line: &[u8], now: u64) -> Result<(), NoMemory>
+    pub(crate) fn tell(&mut self, line: &[u8], now: u64) -> Result<(), NoMemory>
         ensures told { OnOk result (self.new.wire ≡ told line.now self.old.wire) }
         ensures err { OnErr result (self.new.wire ≡ self.old.wire) }
     {
-        self.wire.tell(alloc, line)?;
+        self.wire.tell(line)?;
         self.pace.count(now);
         Ok(())
     }
@@ -104,6 +85,6 @@ impl Session {
     pub fn unsent(&self) -> usize
         ensures { result ≡ length self.now.wire.unsent }
     {
-        self.wire.unsent()
+        self.wire.connection.unsent.len()
     }
 }

@@ -1,5 +1,5 @@
 // Bytes as a log shows them.
-use bstr::ByteSlice;
+use bstr::ByteSlice as _;
 use std::fmt;
 use std::fmt::Display;
 

@@ -9,7 +9,7 @@ use crate::saying::SettingSaying;
 use crate::setting_word::SettingWord;
 use crate::settings::{Address, BindLines, Login, Servers, Settings, Station};
 use bottimers::Zone;
-use bytetext::{NoMemory, Text, Texts};
+use bytetext::{Text, Texts};
 use std::alloc::Global;
 
 /// What the lines so far say; `None` and `false` if there is no such line.

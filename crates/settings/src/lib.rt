@@ -45,6 +45,7 @@ mod settings;
 
 pub use crate::advice::SettingAdvice;
 pub use crate::fault::{Lack, SettingsError, SettingsFault};
+pub use crate::numeral::value_of_digits;
 pub use crate::setting_word::SettingWord;
 pub use crate::settings::{
     Address, BindLine, BindLines, BindWords, Login, Server, Servers, Settings, Station,

@@ -1,6 +1,6 @@
 // Numbers as words.
 ghost use Rattle.std.specs.Prelude.{◌≡◌, ◌<◌};
-ghost use Rattle.bytetext.specs.Numerals.{digit_onto, is_digit};
+ghost use Rattle.bytetext.specs.Numerals.{digit_onto, is_digit, number_from};
 ghost use Rattle.settings.specs.Words.{number_of, port_of};
 
 /// Returns the number that `word` spells in digits, if it is below 65,536.
@@ -10,6 +10,13 @@ pub fn number(word: &[u8]) -> Option<u16>
     if word.is_empty() {
         return None;
     }
+    value_of_digits(word)
+}
+
+/// Returns the number that the digits of `word` stand for, if it is below 65,536. An empty `word` stands for 0.
+pub fn value_of_digits(word: &[u8]) -> Option<u16>
+    ensures { result ≡ number_from 0 word.now }
+{
     let mut value: u16 = 0;
     for byte in word {
         value = digit_onto(value, *byte)?;

@@ -9,7 +9,7 @@ use crate::fault::{Lack, SettingsError, SettingsFault};
 use crate::saying::saying_of;
 use crate::settings::{Settings, Station};
 use bottimers::Zone;
-use bytetext::{Failure, NoMemory};
+use bytetext::Failure;
 use std::alloc::{AllocError, Global};
 
 // A hub without leaves.

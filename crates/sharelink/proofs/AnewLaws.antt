@@ -1,4 +1,4 @@
--- What a crash leaves while an end is opened, be its journal of the present layout or an older one that is put anew.
+-- What a crash leaves while an end is opened: its journal has the present layout, or an older one and is rewritten.
 use Rattle.std.proofs.Common.{◌≡◌, ◌≢◌, ◌⊎◌, ◌≤◌, ℕ, List, Option, Some, Result, Ok, Err, length, refl, sym, ap, subst, ◌∙◌, ⊎_elim, inl, inr, arith}
 use Rattle.bytetext.specs.declared.failure.Failure.{Failure}
 use Rattle.bytetext.specs.declared.failure.Failure.TheVariants.{Refused, NoMemory}
@@ -136,7 +136,7 @@ module _ {D S : Type 0} (disk : D → State) (first second : D) (state_of : Cont
         ∙ ap (λ (b : List ℕ). meaning (disk first).seen b) (v.settled y right ∙ v.seen)),
   )
 
-  -- ---- an older journal that is put anew
+  -- ---- an older journal that is rewritten
 
   module _ {R : Type 0} (who : ℕ) (may : S → R → Type 0) (folded : S → R → S) (renewal : R) (pending : Pending) (ledger : Ledger)
       (before : S) (found : meaning (disk first).seen (disk second).seen ≡ Some ledger.account.contents)

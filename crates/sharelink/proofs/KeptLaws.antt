@@ -1,6 +1,7 @@
 -- What a journal that is found or handed back means, whichever end's it is.
 use Rattle.std.proofs.Common.{◌≡◌, ◌⊎◌, ℕ, Bool, true, false, List, Option, None, Some, refl, sym, ap, subst, ◌∙◌, inl, inr, arith}
 use Rattle.disks.specs.Laws.{only_now}
+use Rattle.bytejournal.specs.Meaning.{IsWhole}
 use Rattle.botjournal.specs.declared.TheConstants.{LAYOUT}
 use Rattle.botjournal.specs.Contents.{Contents, meaning}
 use Rattle.botjournal.specs.Journal.{IsEither}
@@ -64,11 +65,15 @@ module _ {S R : Type 0} (state_of : Contents → Option S) (folded : S → R →
         contents = account.contents;
         found = e;
         means = either-of kept down doubt account account.contents is (inl refl);
+        first_whole = either.first_whole;
+        second_whole = either.second_whole;
       }
       by (inr e) = record {
         contents = contents_counted account;
         found = e;
         means = either-of kept down doubt account (contents_counted account) is (inr refl);
+        first_whole = either.first_whole;
+        second_whole = either.second_whole;
       }
 
   -- ---- at each moment of a call
@@ -93,29 +98,49 @@ module _ {S R : Type 0} (state_of : Contents → Option S) (folded : S → R →
       here : IsUp state_of folded kept doubt old.account
       here = up-is kept down doubt old.account is up
 
-      before : (x y : List ℕ) → meaning x y ≡ Some old.account.contents → AreOf state_of folded kept (Some entry) x y
-      before x y e = record { contents = old.account.contents; found = e; means = inl here.means }
-
-      still : (x y : List ℕ) → (meaning x y ≡ Some old.account.contents) ⊎ (meaning x y ≡ Some (contents_counted old.account))
+      before : (x y : List ℕ) → IsWhole x → IsWhole y → meaning x y ≡ Some old.account.contents
           → AreOf state_of folded kept (Some entry) x y
-      still x y (inl e) = before x y e
-      still x y (inr e) = before x y (e ∙ ap (λ c. Some c) (certain-counted old.account here.certain))
+      before x y first second e = record {
+        contents = old.account.contents;
+        found = e;
+        means = inl here.means;
+        first_whole = first;
+        second_whole = second;
+      }
 
-      while : (x y : List ℕ) → (meaning x y ≡ Some old.account.contents) ⊎ (meaning x y ≡ Some (written pending old.account.contents))
+      still : (x y : List ℕ) → IsWhole x → IsWhole y
+          → (meaning x y ≡ Some old.account.contents) ⊎ (meaning x y ≡ Some (contents_counted old.account))
           → AreOf state_of folded kept (Some entry) x y
-      while x y (inl e) = before x y e
-      while x y (inr e) = record { contents = written pending old.account.contents; found = e; means = inr (writes here.means) }
+      still x y first second (inl e) = before x y first second e
+      still x y first second (inr e) =
+          before x y first second (e ∙ ap (λ c. Some c) (certain-counted old.account here.certain))
+
+      while : (x y : List ℕ) → IsWhole x → IsWhole y
+          → (meaning x y ≡ Some old.account.contents) ⊎ (meaning x y ≡ Some (written pending old.account.contents))
+          → AreOf state_of folded kept (Some entry) x y
+      while x y first second (inl e) = before x y first second e
+      while x y first second (inr e) = record {
+        contents = written pending old.account.contents;
+        found = e;
+        means = inr (writes here.means);
+        first_whole = first;
+        second_whole = second;
+      }
 
       by : LeavesWritten pending old new → LeavesOwn state_of folded kept (Some entry) old.device new.device
       by (inl same) = subst (λ (l : Ledger). LeavesOwn state_of folded kept (Some entry) old.device l.device) (sym same) (record {
         first_later = omega arith;
         second_later = omega arith;
-        each = λ x y left right. still x y (leaves x y (only_now old.device.first x left) (only_now old.device.second y right)).means;
+        each = λ x y left right.
+            let there = leaves x y (only_now old.device.first x left) (only_now old.device.second y right) in
+            still x y there.first_whole there.second_whole there.means;
       })
       by (inr moments) = record {
         first_later = moments.first_later;
         second_later = moments.second_later;
-        each = λ x y left right. while x y (moments.each x y left right).means;
+        each = λ x y left right.
+            let there = moments.each x y left right in
+            while x y there.first_whole there.second_whole there.means;
       }
 
   -- while the journal is opened again

@@ -57,7 +57,7 @@ among-below leaf before count (reply ∷ replies) low is =
         among-other leaf reply replies (λ same. absurd (omega (arith, same, low, next.0)))
         ∙ rest (count + 1) (omega (arith, low, next.0)) next.3
 
--- replies to this leaf's requests from this number on, of which so many were before
+-- replies to this leaf's requests from this number on, after this number of others
 abbrev Goes : ℕ → ℕ → ℕ → List Reply → Type 0
 Goes leaf number count kept = AreTo leaf kept × AreNumbered number kept × (count + length kept ≤ 8)
 

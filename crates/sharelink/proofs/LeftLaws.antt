@@ -1,5 +1,11 @@
 -- What a crash leaves of an end's disks, as of a bot's end.
-use Rattle.std.proofs.Common.{◌≡◌, ◌⊎◌, ◌<◌, inl, inr, ℕ, zero, suc, List, Some, option_map, ap, arith}
+use Rattle.std.proofs.Common.{◌≡◌, ◌⊎◌, ◌<◌, inl, inr, ℕ, zero, suc, List, Option, None, Some, option_map, refl, sym, ap, subst, ◌∙◌, arith}
+use Rattle.std.specs.Prelude.{IsSome}
+use Rattle.bytetext.specs.declared.failure.Failure.TheVariants.{Refused}
+use Rattle.disks.specs.State.{State}
+use Rattle.bytejournal.specs.declared.fault.JournalFault.TheVariants.{NotAJournal}
+use Rattle.botjournal.specs.Contents.{Contents}
+use Rattle.botjournal.specs.Recovery.{IsJournal}
 use Rattle.protocol.specs.Network.{Restart}
 use Rattle.protocol.specs.Bots.{Works, Counts}
 use Rattle.protocol.specs.HubRules.{Hub, hub_folded}
@@ -11,10 +17,15 @@ use Rattle.protocol.specs.Ends.{AtHub, AtLeaf}
 use Rattle.sharelink.specs.HubLinks.{HubEnd, IsOwn as HubIsOwn}
 use Rattle.sharelink.specs.LeafLinks.{LeafEnd, IsOwn as LeafIsOwn}
 use Rattle.sharelink.specs.BotEnds.{hub_end, leaf_end}
-use Rattle.sharelink.specs.BotLinks.{did, hub_at_rest, leaf_at_rest, end_meaning, AreOf, LeavesOwn}
+use Rattle.sharelink.specs.BotLinks.{BotEnd, did, hub_at_rest, leaf_at_rest, end_meaning, AreOf, LeavesOwn}
+use Rattle.sharelink.specs.BotOpening.{FindsNone}
 
 pub hub_left : (hub : HubEnd) (x y : List ℕ) → KeptAreOf (hub_meaning hub.leaves) hub_folded hub.bot.kept hub.bot.doubt x y → AreOf (hub_end hub) x y
-hub_left hub x y is = record { contents = is.contents; found = is.found; means = by is.means }
+hub_left hub x y is = record {
+  mean = record { contents = is.contents; found = is.found; means = by is.means };
+  first_whole = is.first_whole;
+  second_whole = is.second_whole;
+}
   where
     by : MeansEither (hub_meaning hub.leaves) hub_folded hub.bot.kept hub.bot.doubt is.contents
         → (end_meaning 0 hub.leaves is.contents ≡ Some (did (hub_end hub) Restart Works).after)
@@ -24,7 +35,11 @@ hub_left hub x y is = record { contents = is.contents; found = is.found; means =
 
 pub leaf_left : (leaf : LeafEnd) (x y : List ℕ) → 0 < leaf.number → KeptAreOf (leaf_meaning leaf.number) leaf_folded leaf.bot.kept leaf.bot.doubt x y
     → AreOf (leaf_end leaf) x y
-leaf_left leaf x y numbered is = record { contents = is.contents; found = is.found; means = by leaf.number numbered is.means }
+leaf_left leaf x y numbered is = record {
+  mean = record { contents = is.contents; found = is.found; means = by leaf.number numbered is.means };
+  first_whole = is.first_whole;
+  second_whole = is.second_whole;
+}
   where
     by : (number : ℕ) → 0 < number → MeansEither (leaf_meaning number) leaf_folded leaf.bot.kept leaf.bot.doubt is.contents
         → (end_meaning number leaf.leaves is.contents ≡ Some (did (leaf_end leaf) Restart Works).after)
@@ -51,3 +66,30 @@ leaf_crashes old bot before now numbered m = record {
   second_later = m.second_later;
   each = λ x y left right. leaf_left (record old { bot = bot }) x y numbered (m.each x y left right);
 }
+
+-- ---- opening the disks again
+
+-- what a bot left is a journal, and no other bot's
+pub never_refused : {D : Type 0} (state : D → State) (link : BotEnd) (first second first' second' : D)
+    → AreOf link (state first).seen (state second).seen
+    → FindsNone state link.number link.leaves first second (Refused NotAJournal) first' second' → ⊥
+never_refused state link first second first' second' own why = by why
+  where
+    journal : IsJournal (state first).seen (state second).seen
+    journal = record {
+      some = subst (λ (o : Option Contents). IsSome o) (sym own.mean.found) refl;
+      first_whole = own.first_whole;
+      second_whole = own.second_whole;
+    }
+
+    by : FindsNone state link.number link.leaves first second (Refused NotAJournal) first' second' → ⊥
+    by (inl none) = none journal
+    by (inr another) =
+        let both : Some another.contents ≡ Some own.mean.contents = sym another.found ∙ own.mean.found in
+        let same : another.contents ≡ own.mean.contents = cc in
+        let nothing : end_meaning link.number link.leaves own.mean.contents ≡ None =
+        ap (λ (c : Contents). end_meaning link.number link.leaves c) (sym same) ∙ another.means in
+        elim own.mean.means [
+          | inl works ↦ let no : Some (did link Restart Works).after ≡ None = sym works ∙ nothing in absurd (cc)
+          | inr counts ↦ let no : Some (did link Restart Counts).after ≡ None = sym counts ∙ nothing in absurd (cc)
+        ]

@@ -105,7 +105,7 @@ left-same : (result : Result Answer (Failure LinkFault)) (asks : List Change) �
 left-same (Ok answer) asks = refl
 left-same (Err error) asks = refl
 
--- a leaf is told of its request
+-- the hub replies to a leaf's request
 told-replied : (leaf request number : ℕ) (replies : List (List Reply)) → is_next_of (item_at replies leaf) request ≡ true
     → told_before leaf request number ≡ record { to = leaf; packet = answer_packet leaf request (Taken number) } ∷ []
 told-replied zero request number replies next = absurd (cc)

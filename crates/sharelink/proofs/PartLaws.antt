@@ -80,7 +80,7 @@ joined-there (None ∷ parts) = refl
 joined-there (Some items ∷ parts) =
     ap (joined_next (Some items)) (joined-there parts) ∙ next-if items (flat parts) (list_all is_some parts)
 
--- with one of them put anew
+-- with one of them replaced
 joined-set : (parts : List (Option (List Record))) (place : ℕ) (items : List Record) → place < length parts
     → joined (slice_set parts place (Some items))
     ≡ whole_if (list_all is_some (take place parts) && list_all is_some (drop (suc place) parts))

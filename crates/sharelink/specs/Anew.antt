@@ -1,5 +1,5 @@
 -- Rewriting an older journal that was opened, with the state alone, before its end returns.
-use Rattle.std.specs.Prelude.{◌≡◌, ◌⊎◌, ◌-◌, ◌^◌, List, ℕ, Some, Result, Ok, Err}
+use Rattle.std.specs.Prelude.{◌≡◌, ◌≢◌, ◌⊎◌, ◌-◌, ◌^◌, List, ℕ, Some, Result, Ok, Err}
 use Rattle.bytetext.specs.declared.failure.Failure.{Failure}
 use Rattle.bytetext.specs.declared.failure.Failure.TheVariants.{Refused, NoMemory}
 use Rattle.disks.specs.declared.disk.DiskFault.{DiskFault as DiskFailed}
@@ -19,13 +19,13 @@ journal_error NoMemory = NoMemory
 abbrev pub IsHeldOr : Type 0 → Pending → Contents → List ℕ → List ℕ → Type 0
 IsHeldOr may pending contents x y = (meaning x y ≡ Some contents) ⊎ (may × (meaning x y ≡ Some (written pending contents)))
 
--- why it can't be rewritten
+-- why it can't be rewritten: memory is asked for only if there is a next generation
 abbrev pub CannotPut : Ledger → Failure JournalFault → Device → Type 0
 CannotPut ledger (Refused DiskFault) now = Failed ledger.device now
 CannotPut ledger (Refused NotAJournal) now = ⊥
 CannotPut ledger (Refused Spent) now = ⊥
 CannotPut ledger (Refused GenerationsSpent) now = ledger.account.contents.generation ≡ 2 ^ 32 - 1
-CannotPut ledger NoMemory now = Unit {0}
+CannotPut ledger NoMemory now = ledger.account.contents.generation ≢ 2 ^ 32 - 1
 
 -- the disks that are handed back
 abbrev pub returned_device : {D : Type 0} → (D → State) → Returned D → Device

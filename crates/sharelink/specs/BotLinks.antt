@@ -5,6 +5,7 @@ use Rattle.bytetext.specs.declared.failure.Failure.TheVariants.{Refused, NoMemor
 use Rattle.userfile.specs.declared.change.Change.{Change as UserChange}
 use Rattle.sharewire.specs.declared.packet.Packet.{Packet}
 use Rattle.disks.specs.State.{State, may_leave}
+use Rattle.bytejournal.specs.Meaning.{IsWhole}
 use Rattle.botjournal.specs.Contents.{Contents, meaning}
 use Rattle.botjournal.specs.Ledger.{Device, Reopens, AtEachMoment}
 use Rattle.protocol.specs.Packets.{from_wire}
@@ -73,11 +74,17 @@ RenewsEnd number leaves before end = end ≡ compacted number leaves before
 -- ---- what is left behind
 
 -- these bytes of two disks mean what a restart finds, with the record in doubt or without it
-pub record AreOf (link : BotEnd) (x y : List ℕ) : Type 0 where
+pub record MeanEnd (link : BotEnd) (x y : List ℕ) : Type 0 where
   pub contents : Contents
   pub found : meaning x y ≡ Some contents
   pub means : (end_meaning link.number link.leaves contents ≡ Some (did link Restart Works).after)
       ⊎ (end_meaning link.number link.leaves contents ≡ Some (did link Restart Counts).after)
+
+-- these bytes are the bot's: they mean what a restart finds, and all gates exist
+pub record AreOf (link : BotEnd) (x y : List ℕ) : Type 0 where
+  pub mean : MeanEnd link x y
+  pub first_whole : IsWhole x
+  pub second_whole : IsWhole y
 
 -- whatever a crash leaves on the disks is the bot's
 abbrev pub MayLeave : State → State → BotEnd → Type 0

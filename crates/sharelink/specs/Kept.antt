@@ -4,6 +4,7 @@ use Rattle.bytetext.specs.declared.failure.Failure.{Failure}
 use Rattle.bytetext.specs.declared.failure.Failure.TheVariants.{Refused, NoMemory}
 use Rattle.disks.specs.State.{State, may_leave}
 use Rattle.disks.specs.declared.disk.DiskFault.{DiskFault}
+use Rattle.bytejournal.specs.Meaning.{IsWhole}
 use Rattle.botjournal.specs.declared.TheConstants.{LAYOUT}
 use Rattle.botjournal.specs.Contents.{Contents, meaning}
 use Rattle.botjournal.specs.Ledger.{Ledger, Pending, Account, Device, Failed, AtEachMoment, LeavesEither, Writes, FailsAt, counted as contents_counted}
@@ -62,11 +63,13 @@ module _ {S R : Type 0} (state_of : Contents → Option S) (folded : S → R →
   Stands kept false doubt account = IsUp kept doubt account
   Stands kept true doubt account = IsDown kept doubt account
 
-  -- these bytes of two disks mean the state, or that with the record in doubt
+  -- these bytes of two disks mean the state, or that with the record in doubt, and all gates exist
   pub record AreOf (kept : S) (doubt : Option R) (x y : List ℕ) : Type 0 where
     pub contents : Contents
     pub found : meaning x y ≡ Some contents
     pub means : MeansEither kept doubt contents
+    pub first_whole : IsWhole x
+    pub second_whole : IsWhole y
 
   -- whatever a crash leaves on the disks is the end's
   abbrev pub MayLeave : S → Option R → State → State → Type 0

@@ -195,9 +195,15 @@ impl<D: Disk> BotLink<D> {
         }
     }
 
-    /// Does the next piece of work. The hub takes its oldest ask: `Accepted`, once that is journaled, with the change
-    /// for each leaf, or `Refused`, or `Idle`. A leaf sends a hello and its outstanding requests, and a new one once
-    /// that is journaled: `Sent`, or `Idle`.
+    /// Does the next piece of work.
+    ///
+    /// The hub takes its oldest ask: `Accepted`, once that is journaled, with the change for each leaf; `Refused` if
+    /// the userfile refuses it; `Idle` if none waits.
+    ///
+    /// A leaf sends a hello, with its journal's layout and its version, and then its outstanding requests, by rising
+    /// number. Then its oldest ask goes under the next number, once that is journaled, if this number is less than
+    /// eight above the lowest outstanding one. It returns `Sent` with the highest number that it sends, or `Idle` if it
+    /// sends only the hello.
     ///
     /// # Errors
     /// `Down`; then `NumbersSpent`; then `NoMemory`; each leaves the bot as it was. `JournalFault` if a disk failed in
@@ -214,14 +220,31 @@ impl<D: Disk> BotLink<D> {
 
     /// Takes `packet`.
     ///
-    /// The hub takes a leaf's hello and its requests. A leaf takes the hub's changes, replies and parts of a userfile.
-    /// Each takes a text of another bot's. A packet for none of them is `Stray`.
+    /// The hub takes:
+    /// - a leaf's hello: `Served`, with the changes that follow the leaf's version, at most 16, or with all records in
+    ///   parts if the hub no longer keeps those changes one by one;
+    /// - a leaf's request: `Accepted` or `Refused`, once that is journaled, with a reply to the leaf, and the change
+    ///   for each leaf if it is accepted. A request that it replied to before is `Repeat`, with the same reply, if that
+    ///   is one of the last eight, and otherwise `Old`. It is `Gap` if an earlier request is missing;
+    /// - a text: `Text` if it is for the hub, and otherwise `Relayed` to the leaf that it is for.
+    ///
+    /// A leaf takes:
+    /// - a change: `Applied` if its number is one above the leaf's version, `Old` if it is lower, `Early` if it is
+    ///   higher;
+    /// - a reply to an outstanding request, which ends it: `Accepted` with the change's number, or `Refused`. Any other
+    ///   reply is `Old`;
+    /// - a part of the records at a later version: `Kept` until the leaf has all parts of that version, and then
+    ///   `Installed`. A part is `Old` if its version is not above the leaf's, or is below that of the kept parts. A
+    ///   part of another version or count replaces all kept parts;
+    /// - a text for the leaf: `Text`.
+    ///
+    /// Any other packet is `Stray`.
     ///
     /// # Errors
-    /// `Down`; then `OtherLayout` at the hub for a hello of another layout; `Diverged` if a leaf's records aren't the
-    /// hub's, which drops its kept parts; then `NumbersSpent`; then `NoMemory`; the last two leave the bot as it was.
-    /// `JournalFault` if a disk failed in this call: the bot is down, sends nothing, and what was being journaled is in
-    /// doubt.
+    /// `Down`; then `OtherLayout` at the hub for a hello of another layout; `Diverged` if a leaf's records refuse the
+    /// next change or the parts are not those of one userfile, which drops the kept parts; then `NumbersSpent`; then
+    /// `NoMemory`; the last two leave the bot as it was. `JournalFault` if a disk failed in this call: the bot is down,
+    /// shows what it showed before, sends nothing, and what was being journaled is in doubt.
     pub fn receive(&mut self, alloc: Global, packet: &Packet) -> Result<Answer, LinkError>
         requires records { HasGoodRecords packet.now }
         ensures row { Calls self.old (took self.old packet.now) result self.new }

@@ -23,13 +23,13 @@ pub enum LinkFault {
     #[error("the other bot has another layout: run one version of the program on all bots")]
     OtherLayout,
     /// S3: the hub's next change doesn't apply to the leaf's records, or its parts are no userfile.
-    #[error("the leaf's records have diverged from the hub's: make the leaf anew")]
+    #[error("the leaf's records have diverged from the hub's: create the leaf again")]
     Diverged,
     /// S4: the version, the request number or the journal's generation is 4,294,967,295.
-    #[error("the numbers are spent: make the net anew")]
+    #[error("the numbers are spent: create the net again")]
     NumbersSpent,
     /// S5: a disk failed while the journal was written. The link is down, and what was being written may count or not.
-    #[error("a disk failed: restart the bot, which tells whether the change counts")]
+    #[error("a disk failed: restart the bot, which shows whether the change counts")]
     JournalFault,
     /// S7: there is no such bot, it is the sender itself, or no bot may send such a text.
     #[error("no such text goes there: 1 to 400 bytes without NUL, CR and LF, to another bot of the net")]

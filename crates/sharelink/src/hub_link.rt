@@ -7,7 +7,7 @@ use crate::hub_record::HubRecord;
 use crate::hub_state::HubState;
 use crate::kept::Kept;
 use crate::note::LinkNote;
-use crate::texts::{text_by, text_fault};
+use crate::texts::{Route, text_by, text_fault};
 use bytejournal::{Disks, Returned};
 use bytetext::{Failure, TryCopy, refuse};
 use disks::Disk;
@@ -16,8 +16,8 @@ use std::collections::VecDeque;
 use std::marker::Model;
 use userfile::{Change, Userfile, shape};
 
-/// The hub's end: what its journal keeps, and the waiting asks, with room for the most that may wait.
-pub struct HubLink<D: Disk> {
+// The hub's end: what its journal keeps, and the waiting asks, with room for the most that may wait.
+pub(crate) struct HubLink<D: Disk> {
     pub(crate) kept: Kept<HubState, D>,
     waiting: VecDeque<Change>,
 }
@@ -66,13 +66,8 @@ impl<D: Disk> HubLink<D> {
     ghost use Rattle.sharelink.specs.StateEnds.{Creates, Opens, OpensAtEachMoment};
     ghost use Rattle.sharelink.specs.HubLinks.{Calls, CallsRestart, RenewsHub, with_oldest};
 
-    /// Creates a hub without records, for `leaves` leaves, on the disks `first` and `second`. What the disks held is
-    /// lost.
-    ///
-    /// # Errors
-    /// Each hands the disks back. `NoMemory`, when nothing was written; `DiskFault` if a disk failed: what the disks
-    /// hold is then unknown.
-    pub fn create(
+    // See `BotLink::create`: the hub of `leaves` leaves.
+    pub(crate) fn create(
         alloc: Global,
         first: D,
         second: D,
@@ -95,17 +90,14 @@ impl<D: Disk> HubLink<D> {
         }
     }
 
-    /// Opens a hub with `leaves` leaves on the disks `first` and `second` that it wrote. A journal of the present
-    /// layout stays as it is. One of an older layout is rewritten before the call returns: its state alone, in the next
-    /// generation, so that the hub no longer keeps the changes so far one by one.
-    ///
-    /// # Errors
-    /// Each hands the disks back; they mean what they meant before, or that rewritten. `DiskFault` if a read failed.
-    /// `NotAJournal` if they hold no journal, or one that means nothing to a hub with `leaves` leaves: another bot's,
-    /// one with a reply to a leaf above the last, with records that no userfile holds, or with an entry that no hub
-    /// writes there. `NoMemory`. Then, only for an older layout: `GenerationsSpent` if there is no next generation,
-    /// `NoMemory`, or `DiskFault` if a disk failed while the journal was rewritten.
-    pub fn open(alloc: Global, first: D, second: D, leaves: u16) -> Result<HubLink<D>, Returned<D>>
+    // See `BotLink::open`. `NotAJournal` also for a journal with a reply to a leaf above `leaves`, with records that no
+    // userfile holds, or with an entry that no hub writes there.
+    pub(crate) fn open(
+        alloc: Global,
+        first: D,
+        second: D,
+        leaves: u16,
+    ) -> Result<HubLink<D>, Returned<D>>
         requires first_settled { IsSettled (D.state first) }
         requires second_settled { IsSettled (D.state second) }
         requires few { leaves ≤ MAX_LEAVES }
@@ -127,50 +119,43 @@ impl<D: Disk> HubLink<D> {
         }
     }
 
-    /// Returns the version: how many changes the hub ever accepted.
-    pub fn version(&self) -> u32
+    // See `BotLink::version`: how many changes the hub ever accepted.
+    pub(crate) fn version(&self) -> u32
         ensures { result ≡ version_of self.now.bot.kept }
     {
         self.kept.state().version()
     }
 
-    /// Returns the userfile at that version.
-    pub fn userfile(&self) -> &Userfile
+    // See `BotLink::userfile`.
+    pub(crate) fn userfile(&self) -> &Userfile
         ensures { result.now ≡ self.now.bot.kept.records }
     {
         self.kept.state().userfile()
     }
 
-    /// Whether, since the journal was last opened, a disk failed or a restart did not finish. The hub then takes only a
-    /// restart.
-    pub fn is_down(&self) -> bool
+    // See `BotLink::is_down`.
+    pub(crate) fn is_down(&self) -> bool
         ensures { result ≡ self.now.bot.down }
     {
         self.kept.is_down()
     }
 
-    /// Returns how many asks wait.
-    pub fn ask_count(&self) -> usize
+    // See `BotLink::ask_count`.
+    pub(crate) fn ask_count(&self) -> usize
         ensures { result ≡ length self.now.bot.loose }
     {
         self.waiting.len()
     }
 
-    /// Keeps the oldest `count` asks and withdraws the others. Allocates nothing.
-    ///
-    /// A caller that asks for several things, all or none, counts the asks before it begins, and returns to that count
-    /// if it has to give up.
-    pub fn keep_asks(&mut self, count: usize)
+    // See `BotLink::keep_asks`.
+    pub(crate) fn keep_asks(&mut self, count: usize)
         ensures { self.new ≡ with_oldest self.old count }
     {
         self.waiting.truncate(count);
     }
 
-    /// Queues `change` for a pump: `Queued`. Allocates nothing.
-    ///
-    /// # Errors
-    /// `Down`, then `BadChange` for a bad shape, then `AsksFull` if 64 asks wait; each leaves the hub as it was.
-    pub fn ask(&mut self, alloc: Global, change: Change) -> Result<Answer, LinkError>
+    // See `BotLink::ask`.
+    pub(crate) fn ask(&mut self, alloc: Global, change: Change) -> Result<Answer, LinkError>
         ensures row { Calls self.old (λ how. hub_asked self.old.bot change) result self.new }
         ensures quiet { self.new.device ≡ self.old.device }
         ensures stays { OnErr result (self.new ≡ self.old) }
@@ -190,14 +175,9 @@ impl<D: Disk> HubLink<D> {
         Ok(Answer::only(alloc, LinkNote::Queued))
     }
 
-    /// Takes the oldest ask. Returns `Accepted` with its number, and the change for each leaf; or `Refused` if the
-    /// userfile refuses it; or `Idle` if none waits.
-    ///
-    /// # Errors
-    /// `Down`; `NumbersSpent` at the last version, when the ask still waits; `NoMemory`, which leaves the hub as it
-    /// was; `JournalFault` if a disk failed: the hub is down, shows what it showed before, and sends nothing, and the
-    /// ask waits until a restart. `Idle` and `Refused` allocate nothing.
-    pub fn pump(&mut self, alloc: Global) -> Result<Answer, LinkError>
+    // See `BotLink::pump`. If `NumbersSpent` or `JournalFault` comes, the ask still waits. `Idle` and `Refused` allocate
+    // nothing.
+    pub(crate) fn pump(&mut self, alloc: Global) -> Result<Answer, LinkError>
         ensures row { Calls self.old (λ how. hub_pumped self.old.leaves how self.old.bot) result self.new }
         ensures packets { GoOut (MAX_LEAVES + 1) result }
     {
@@ -228,13 +208,8 @@ impl<D: Disk> HubLink<D> {
         }
     }
 
-    /// Returns `text` for the leaf `to`, which the caller is to send, when its step has sent `sent` texts so far. The
-    /// hub stays as it was.
-    ///
-    /// # Errors
-    /// `Down`, then `BadBotText` if there is no leaf `to` or no bot may send such a text, then `TextsFull` if `sent` is
-    /// 64 or more, then `NoMemory`.
-    pub fn send_text(
+    // See `BotLink::send_text`: the packet goes to the leaf `to` itself.
+    pub(crate) fn send_text(
         &self,
         alloc: Global,
         to: u16,
@@ -247,16 +222,16 @@ impl<D: Disk> HubLink<D> {
             return Err(Failure::Refused(LinkFault::Down));
         }
         refuse(text_fault(self.kept.who(), 0, to, text, sent))?;
-        Ok(text_by(alloc, to, 0, to, text)?)
+        let route = Route {
+            next: to,
+            from: 0,
+            to,
+        };
+        Ok(text_by(alloc, route, text)?)
     }
 
-    /// Writes the state alone into the journal: `Compacted`. The hub no longer keeps the changes so far one by one, and
-    /// it sends all records to a leaf whose version is below its own now.
-    ///
-    /// # Errors
-    /// `Down`; `NumbersSpent` in the journal's last generation; `NoMemory`, which leaves the hub as it was;
-    /// `JournalFault` if a disk failed: the hub is down, and shows what it showed before.
-    pub fn compact(&mut self, alloc: Global) -> Result<Answer, LinkError>
+    // See `BotLink::compact`. From then on, a leaf whose version is below the hub's gets all records.
+    pub(crate) fn compact(&mut self, alloc: Global) -> Result<Answer, LinkError>
         ensures row { Calls self.old (λ how. hub_compacted self.old.leaves how self.old.bot) result self.new }
         ensures packets { GoOut 0 result }
     {
@@ -272,12 +247,8 @@ impl<D: Disk> HubLink<D> {
         }
     }
 
-    /// Crashes both disks, as if the program that used them had ended, and reopens the journal: `Restarted` with the
-    /// version. The waiting asks are lost. If a record was in doubt, it counts from now on, or it doesn't.
-    ///
-    /// # Errors
-    /// `DiskFault` if a read failed, or `NoMemory`: the hub is down, and all else stays.
-    pub fn restart(&mut self, alloc: Global) -> Result<Answer, LinkError>
+    // See `BotLink::restart`.
+    pub(crate) fn restart(&mut self, alloc: Global) -> Result<Answer, LinkError>
         ensures row { CallsRestart self.old (λ how. hub_restarted self.old.leaves how self.old.bot) result self.new }
         ensures packets { GoOut 0 result }
     {
@@ -290,16 +261,16 @@ impl<D: Disk> HubLink<D> {
         }
     }
 
-    /// States what a crash leaves at this moment, between two calls. It does nothing.
-    pub fn know_disks(&self)
+    // See `BotLink::know_disks`.
+    pub(crate) fn know_disks(&self)
         // What is the hub's, with the record in doubt or without it.
         ensures left { MayLeave (hub_meaning self.now.leaves) hub_folded self.now.bot.kept self.now.bot.doubt self.now.device.first self.now.device.second }
     {
         self.kept.know_disks();
     }
 
-    /// Returns the two disks, in the order in which they were given.
-    pub fn into_disks(self) -> Disks<D>
+    // See `BotLink::into_disks`.
+    pub(crate) fn into_disks(self) -> Disks<D>
         // Whatever a crash leaves on them is the hub's, with the record in doubt or without it.
         ensures left { MayLeave (hub_meaning self.leaves) hub_folded self.bot.kept self.bot.doubt (D.state result.first) (D.state result.second) }
     {

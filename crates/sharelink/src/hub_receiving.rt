@@ -6,7 +6,7 @@ use crate::hub_link::HubLink;
 use crate::hub_packets::{hello_packets, reply_packet};
 use crate::hub_record::HubRecord;
 use crate::note::LinkNote;
-use crate::texts::text_by;
+use crate::texts::{Route, text_by};
 use botjournal::{LAYOUT, Reply, Verdict as Outcome};
 use bytetext::{Failure, Seq, Text, TryCopy};
 use disks::Disk;
@@ -27,22 +27,9 @@ impl<D: Disk> HubLink<D> {
     ghost use Rattle.std.specs.Prelude.{Some};
     ghost use Rattle.sharelink.specs.HubLinks.{Calls};
 
-    /// Takes `packet`.
-    ///
-    /// - A hello of a leaf, at a version that the hub has, is `Served`: with the changes that follow, at most 16, or
-    ///   with all records in parts if the hub no longer keeps those changes one by one.
-    /// - A leaf's request that was replied to before is `Repeat` if that reply is one of the last eight, and the reply
-    ///   goes out again; otherwise it is `Old`. A request is `Gap` if one before it is missing. The next request is
-    ///   `Refused` or `Accepted`: the hub journals that and replies to the leaf. An accepted one goes to each leaf as a
-    ///   change.
-    /// - A text of a bot of the net is `Text` if it is for the hub, and otherwise `Relayed` to the leaf that it is for.
-    /// - Any other packet is `Stray`.
-    ///
-    /// # Errors
-    /// `Down`; `OtherLayout` for a hello of another layout; `NumbersSpent` for a request at the last version;
-    /// `NoMemory`, which leaves the hub as it was; `JournalFault` if a disk failed: the hub is down, shows what it
-    /// showed before, and sends nothing. `Stray`, `Old` and `Gap`, and `Served` without packets, allocate nothing.
-    pub fn receive(&mut self, alloc: Global, packet: &Packet) -> Result<Answer, LinkError>
+    // See `BotLink::receive`. It leaves the hub as it was if memory runs out; `Stray`, `Old` and `Gap`, and `Served`
+    // without packets, allocate nothing.
+    pub(crate) fn receive(&mut self, alloc: Global, packet: &Packet) -> Result<Answer, LinkError>
         ensures row { Calls self.old (λ how. hub_received self.old.leaves how self.old.bot (from_wire packet.now)) result self.new }
         ensures packets { GoOut (MAX_LEAVES + 1) result }
     {
@@ -133,7 +120,7 @@ impl<D: Disk> HubLink<D> {
             let text = text.copy(alloc)?;
             return Ok(Answer::only(alloc, LinkNote::Text { from, text }));
         }
-        let outgoing = text_by(alloc, to, from, to, text.as_bytes())?;
+        let outgoing = text_by(alloc, Route { next: to, from, to }, text.as_bytes())?;
         Ok(Answer {
             note: LinkNote::Relayed,
             packets: Seq::new(vec![in alloc; outgoing]?),

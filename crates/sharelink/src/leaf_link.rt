@@ -9,7 +9,7 @@ use crate::leaf_record::LeafRecord;
 use crate::leaf_state::LeafState;
 use crate::note::LinkNote;
 use crate::parts::KeptParts;
-use crate::texts::{text_by, text_fault};
+use crate::texts::{Route, text_by, text_fault};
 use bytejournal::{Disks, Returned};
 use bytetext::{Failure, Seq, TryCopy, refuse};
 use disks::Disk;
@@ -18,9 +18,9 @@ use std::collections::VecDeque;
 use std::marker::Model;
 use userfile::{Change, Userfile, shape};
 
-/// A leaf's end: its userfile at a version, the waiting asks, with room for the most that may wait, the outstanding
-/// requests, and the journal.
-pub struct LeafLink<D: Disk> {
+// A leaf's end: its userfile at a version, the waiting asks, with room for the most that may wait, the outstanding
+// requests, and the journal.
+pub(crate) struct LeafLink<D: Disk> {
     pub(crate) leaves: u16,
     pub(crate) kept: Kept<LeafState, D>,
     pub(crate) waiting: VecDeque<Change>,
@@ -73,13 +73,8 @@ impl<D: Disk> LeafLink<D> {
     ghost use Rattle.sharelink.specs.LeafLinks.{Calls, CallsRestart, RenewsLeaf, asked, keeps_asks, pumped, pumped_up, sent_again_at, compacted, restarted, told};
     ghost use Rattle.sharelink.specs.Texts.{Sends};
 
-    /// Creates the leaf `number`, from 1 to `leaves`, on the disks `first` and `second`, before the first change. What
-    /// the disks held is lost.
-    ///
-    /// # Errors
-    /// Each hands the disks back. `NoMemory` if it cannot allocate room: nothing was written. `DiskFault` if a disk
-    /// failed: what the disks hold is then unknown.
-    pub fn create(
+    // See `BotLink::create`: the leaf `number`, from 1.
+    pub(crate) fn create(
         alloc: Global,
         first: D,
         second: D,
@@ -109,16 +104,8 @@ impl<D: Disk> LeafLink<D> {
         }
     }
 
-    /// Opens the leaf `number`, in a net of `leaves` leaves, from its journal on the disks `first` and `second`. A
-    /// journal of the present layout stays as it is. One of an older layout is rewritten before the call returns: its
-    /// state alone, in the next generation, with the outstanding request if it has one.
-    ///
-    /// # Errors
-    /// Each hands the disks back; they mean what they meant before, or that rewritten. `DiskFault` if a read failed.
-    /// `NotAJournal` if the disks hold no journal, or one that no leaf of this number writes. `NoMemory` if it cannot
-    /// allocate room for what they hold, or for the asks. Then, only for an older layout: `GenerationsSpent` if there
-    /// is no next generation, `NoMemory`, or `DiskFault` if a disk failed while the journal was rewritten.
-    pub fn open(
+    // See `BotLink::open`. A journal of an older layout is rewritten with the outstanding request, if it has one.
+    pub(crate) fn open(
         alloc: Global,
         first: D,
         second: D,
@@ -152,51 +139,44 @@ impl<D: Disk> LeafLink<D> {
         }
     }
 
-    /// Returns the version: the number of the last change that was applied, or the version of the records that were
-    /// installed.
-    pub fn version(&self) -> u32
+    // See `BotLink::version`: the number of the last change that was applied, or the version of the records that were
+    // installed.
+    pub(crate) fn version(&self) -> u32
         ensures { result ≡ self.now.bot.kept.version }
     {
         self.kept.state().version()
     }
 
-    /// Returns the userfile at that version.
-    pub fn userfile(&self) -> &Userfile
+    // See `BotLink::userfile`.
+    pub(crate) fn userfile(&self) -> &Userfile
         ensures { result.now ≡ self.now.bot.kept.records }
     {
         self.kept.state().userfile()
     }
 
-    /// Whether, since the journal was last opened, a disk failed or a restart did not finish: the leaf then takes
-    /// nothing but a restart.
-    pub fn is_down(&self) -> bool
+    // See `BotLink::is_down`.
+    pub(crate) fn is_down(&self) -> bool
         ensures { result ≡ self.now.bot.down }
     {
         self.kept.is_down()
     }
 
-    /// Returns how many asks wait.
-    pub fn ask_count(&self) -> usize
+    // See `BotLink::ask_count`.
+    pub(crate) fn ask_count(&self) -> usize
         ensures { result ≡ length self.now.bot.loose.waiting }
     {
         self.waiting.len()
     }
 
-    /// Keeps the oldest `count` asks and withdraws the others. Allocates nothing.
-    ///
-    /// A caller that asks for several things, all or none, counts the asks before it begins, and returns to that count
-    /// if it has to give up.
-    pub fn keep_asks(&mut self, count: usize)
+    // See `BotLink::keep_asks`.
+    pub(crate) fn keep_asks(&mut self, count: usize)
         ensures { self.new ≡ keeps_asks self.old count }
     {
         self.waiting.truncate(count);
     }
 
-    /// Queues `change` for a pump: `Queued`. Allocates nothing.
-    ///
-    /// # Errors
-    /// `Down`, then `BadChange` for a bad shape, then `AsksFull` if 64 asks wait; each leaves the leaf as it was.
-    pub fn ask(&mut self, alloc: Global, change: Change) -> Result<Answer, LinkError>
+    // See `BotLink::ask`.
+    pub(crate) fn ask(&mut self, alloc: Global, change: Change) -> Result<Answer, LinkError>
         ensures row { Calls self.old (asked self.old change) result self.new }
         ensures few { IfOk result (λ answer. answer.packets ≡ []) }
         // The call uses no disk, and an error leaves all as it was.
@@ -218,16 +198,11 @@ impl<D: Disk> LeafLink<D> {
         Ok(Answer::only(alloc, LinkNote::Queued))
     }
 
-    /// Sends the hub a hello, with the layout of the journal and the leaf's version, and then the leaf's requests. All
-    /// outstanding requests go again, by rising number. Then the oldest ask goes under the next number, once that is
-    /// journaled, if this number is less than eight above the lowest outstanding one. Returns `Sent` with the highest
-    /// number that is sent, or `Idle` if only the hello is.
-    ///
-    /// # Errors
-    /// `Down`; then `NumbersSpent` after request 4,294,967,295 if an ask waits and no request is outstanding; then
-    /// `NoMemory`; each leaves the leaf as it was. `JournalFault` if a disk failed in this call: the leaf is down, the
-    /// request is in doubt, and nothing is sent.
-    pub fn pump(&mut self, alloc: Global) -> Result<Answer, LinkError>
+    // See `BotLink::pump`. First a hello, with the layout of the journal and the leaf's version; then all outstanding
+    // requests again, by rising number; then the oldest ask under the next number, if that is less than eight above the
+    // lowest outstanding one. `Sent` has the highest number that is sent. `NumbersSpent` after request 4,294,967,295, if an
+    // ask waits and no request is outstanding.
+    pub(crate) fn pump(&mut self, alloc: Global) -> Result<Answer, LinkError>
         ensures row { Calls self.old (pumped self.old) result self.new }
         ensures few { GoOut (WINDOW + 1) result }
     {
@@ -286,13 +261,8 @@ impl<D: Disk> LeafLink<D> {
         })
     }
 
-    /// Returns `text` for the bot `to`, which the caller is to send to the hub, when its step has sent `sent` texts so
-    /// far. The leaf stays as it was.
-    ///
-    /// # Errors
-    /// `Down`; `BadBotText` if there is no bot `to`, it is this leaf, or no bot may send such a text; then `TextsFull`
-    /// if `sent` is 64 or more; then `NoMemory`.
-    pub fn send_text(
+    // See `BotLink::send_text`: the packet goes to the hub, which relays it.
+    pub(crate) fn send_text(
         &self,
         alloc: Global,
         to: u16,
@@ -305,16 +275,16 @@ impl<D: Disk> LeafLink<D> {
             return Err(Failure::Refused(LinkFault::Down));
         }
         refuse(text_fault(self.leaves, self.kept.who(), to, text, sent))?;
-        Ok(text_by(alloc, 0, self.kept.who(), to, text)?)
+        let route = Route {
+            next: 0,
+            from: self.kept.who(),
+            to,
+        };
+        Ok(text_by(alloc, route, text)?)
     }
 
-    /// Writes the state alone into the journal, in its next generation: `Compacted`.
-    ///
-    /// # Errors
-    /// `Down`; then `NumbersSpent` at generation 4,294,967,295; then `NoMemory`; each leaves the leaf as it was.
-    /// `JournalFault` if a disk failed in this call: the leaf is down, and it is in doubt whether the journal was
-    /// written.
-    pub fn compact(&mut self, alloc: Global) -> Result<Answer, LinkError>
+    // See `BotLink::compact`.
+    pub(crate) fn compact(&mut self, alloc: Global) -> Result<Answer, LinkError>
         ensures row { Calls self.old (compacted self.old) result self.new }
         ensures few { IfOk result (λ answer. answer.packets ≡ []) }
     {
@@ -330,13 +300,8 @@ impl<D: Disk> LeafLink<D> {
         }
     }
 
-    /// Crashes both disks, as if the program had ended, and opens the journal on what the crash left: `Restarted` with
-    /// the version. The record that was in doubt counts, or doesn't. The waiting asks and the parts that were kept are
-    /// lost.
-    ///
-    /// # Errors
-    /// `DiskFault` if a disk failed, or `NoMemory`: the leaf is down, and all else is as it was.
-    pub fn restart(&mut self, alloc: Global) -> Result<Answer, LinkError>
+    // See `BotLink::restart`: the parts that were kept are lost too.
+    pub(crate) fn restart(&mut self, alloc: Global) -> Result<Answer, LinkError>
         ensures row { CallsRestart self.old (restarted self.old) result self.new }
         ensures few { IfOk result (λ answer. answer.packets ≡ []) }
     {
@@ -350,16 +315,16 @@ impl<D: Disk> LeafLink<D> {
         }
     }
 
-    /// States what a crash leaves at this moment, between two calls. It does nothing.
-    pub fn know_disks(&self)
+    // See `BotLink::know_disks`.
+    pub(crate) fn know_disks(&self)
         // What is the leaf's, with the record in doubt or without it.
         ensures left { MayLeave (leaf_meaning self.now.number) leaf_folded self.now.bot.kept self.now.bot.doubt self.now.device.first self.now.device.second }
     {
         self.kept.know_disks();
     }
 
-    /// Returns the two disks, in the order in which they were given.
-    pub fn into_disks(self) -> Disks<D>
+    // See `BotLink::into_disks`.
+    pub(crate) fn into_disks(self) -> Disks<D>
         // Whatever a crash leaves on them is the leaf's, with the record in doubt or without it.
         ensures left { MayLeave (leaf_meaning self.number) leaf_folded self.bot.kept self.bot.doubt (D.state result.first) (D.state result.second) }
     {

@@ -26,23 +26,9 @@ impl<D: Disk> LeafLink<D> {
     ghost use Rattle.sharelink.specs.LeafLinks.{Calls};
     ghost use Rattle.sharelink.specs.LeafLinks.{received, received_up, change_placed_at, reply_placed_at, part_placed_at, part_taken_at, text_placed_at};
 
-    /// Takes `packet` from the hub.
-    ///
-    /// - The change numbered one above the version is `Applied`. A lower number is `Old`, a higher one `Early`.
-    /// - A reply to an outstanding request ends it: `Accepted` with the change's number, or `Refused`. Any other reply
-    ///   is `Old`.
-    /// - A part of the records at a later version is `Kept` until the leaf has the others of that version; then it
-    ///   installs all of them, `Installed` with the version. A part is `Old` if its version is not above the leaf's, or
-    ///   is below that of the kept parts. A part of another version, or of another count, replaces all kept parts.
-    /// - A text for this leaf from a bot of the net is `Text`.
-    /// - A packet that is not for this leaf is `Stray`.
-    ///
-    /// # Errors
-    /// `Down`; then `Diverged` if the records refuse the next change, or the parts are not those of one userfile; then
-    /// `NumbersSpent` if the parts are complete at generation 4,294,967,295 of the journal; then `NoMemory`; each
-    /// leaves the leaf as it was, except that `Diverged` drops the kept parts. `JournalFault` if a disk failed in this
-    /// call: the leaf is down, and the effect of the packet is in doubt. `Old`, `Early` and `Stray` allocate nothing.
-    pub fn receive(&mut self, alloc: Global, packet: &Packet) -> Result<Answer, LinkError>
+    // See `BotLink::receive`. `Diverged` drops the kept parts; the other errors but `JournalFault` leave the leaf as it
+    // was. `Old`, `Early` and `Stray` allocate nothing.
+    pub(crate) fn receive(&mut self, alloc: Global, packet: &Packet) -> Result<Answer, LinkError>
         requires records { HasGoodRecords packet.now }
         ensures row { Calls self.old (received self.old packet.now) result self.new }
         ensures few { IfOk result (λ answer. answer.packets ≡ []) }

@@ -1,90 +1,49 @@
-//! What a call of either end of the sharing link returns.
+//! A bot's end of the sharing link, over a journal on two disks.
 //!
-//! An [`Answer`] is a [`LinkNote`], which says what the call did, and the packets that the caller is to send. A
-//! [`LinkFault`] says why a call is rejected. The contracts of both ends use the words of `protocol`: `Meets`, in
-//! `specs/Meets`, says how a call's result matches its row there.
+//! Bot 0 is the hub, and the leaves are numbered from 1. The hub accepts changes of the userfile, numbers them, and
+//! sends them to its leaves. A leaf applies the change numbered one above its version and no other, or installs all
+//! records if it is too far behind. It sends its own changes to the hub as requests, up to eight at a time, and repeats
+//! each until the hub replies. The hub keeps its last eight replies to each leaf, so it never accepts a request twice.
 //!
-//! ```text
-//! match hub.pump(alloc) {
-//!     Ok(answer) => send(answer.note, answer.packets.as_slice()),
-//!     Err(Failure::Refused(fault)) => println!(rt; "{}", fault.code())?,
-//!     Err(Failure::NoMemory) => {}     // the link is as it was
-//! }
-//! ```
+//! - [`BotLink`] is either end. It is created on two disks or opened from them, and takes the calls that any bot may
+//!   get.
+//! - An [`Answer`] is what a call returns: a [`LinkNote`], which says what the call did, and the packets that the
+//!   caller is to send ([`Outgoings`]).
+//! - A [`LinkFault`] says why a link rejects a call; a [`LinkError`] is that, or out of memory.
+//! - [`law_of_left_disks`]: a bot that was killed between two calls, or during a call of an open bot, is never rejected
+//!   as `NotAJournal` when it is opened again.
 //!
-//! What the two ends of the sharing link keep over a restart, and how that is read from their journals.
-//!
-//! A [`HubState`] is what a hub keeps: the userfile, the changes accepted since the journal's base
-//! ([`AcceptedChange`]), and the last eight replies to each leaf ([`LeafReplies`]). A [`LeafState`] is what a leaf
-//! keeps: the userfile at its version, the number of its last request, and its outstanding requests, at most eight.
-//! Both are plain values in memory. A [`Kept`] is one of them with the journal that keeps it, and journals each record
-//! before it keeps it. Opening a [`Kept`] on a journal of an older layout first rewrites that: the state alone, in the
-//! next generation. This crate has no packets.
-//!
-//! Each is read from a journal's base and entries, one entry after another by `take`, which folds in what a link writes
-//! in that state and rejects all else. The contracts state this in the words of `protocol`: `read` returns what the
-//! journal's contents mean, and `NotAJournal` exactly if they mean nothing. `base` gives the base from which a
-//! rewritten journal starts.
-//!
-//! ```text
-//! let hub = HubState::read(alloc, 2, generation, &opened.base, opened.entries.as_slice())?;
-//! hub.version()                                   // the base's version and one for each change since
-//! hub.userfile().handle_of(b"nick!user@host")
-//! let base = hub.base(alloc)?;                    // for the journal's rebase
-//! ```
-//!
-//! The hub's end of the sharing link, over a journal on two disks.
-//!
-//! A [`HubLink`] accepts changes of the userfile, numbers them, and sends them to its leaves. Each change that it
-//! accepts, and each request that it rejects, is in its journal before the hub reports or sends anything about it; so a
-//! restart finds all that was reported. A call makes at most one call of the journal, and allocates everything before
-//! it: a call that runs out of memory leaves the link as it was.
-//!
-//! For each leaf it keeps the replies to the last eight requests. It never accepts a request twice: to a request that
-//! comes again it sends the same reply, if it still keeps that.
-//!
-//! If a disk fails while the journal is written, the link is down: it shows what it showed before, and takes nothing
-//! but a restart, which finds that what was being written counts, or doesn't.
-//!
-//! ```text
-//! let mut hub = HubLink::create(alloc, first, second, 1)?;
-//! hub.ask(alloc, Change::AddUser { handle })?;          // Queued
-//! let answer = hub.pump(alloc)?;                        // Accepted(1), and Change 1 to each leaf
-//! if hub.is_down() {
-//!     hub.restart(alloc)?;                              // Restarted(0) or Restarted(1)
-//! }
-//! ```
-//!
-//! A leaf's end of the sharing link, over a journal.
-//!
-//! A [`LeafLink`] follows the hub: it applies the change numbered one above its version and no other, or installs a
-//! whole set of records if it is too far behind. It also asks the hub for changes, up to eight at a time, and repeats
-//! each request until the hub replies. What it promised survives a restart: each change that it applies, and each
-//! request that it sends, is in its journal first.
-//!
-//! The journal stands on two disks that may fail. After such a fault the link is down: it shows what it showed before,
-//! and takes nothing but a restart, which finds the record that was being written, or doesn't. Every other call either
-//! does all that it says or leaves the link as it was, even if memory runs out.
-//!
-//! ```text
-//! let mut leaf = LeafLink::create(alloc, first, second, 1, 3)?;   // leaf 1 of 3, on two disks
-//! leaf.ask(alloc, change)?;                                       // Queued
-//! let answer = leaf.pump(alloc)?;                                 // Sent(1): a hello and the request, to the hub
-//! leaf.receive(alloc, &packet)?;                                  // Applied(1), say
-//! leaf.restart(alloc)?;                                           // Restarted(1)
-//! ```
-//!
-//! A bot's end of the sharing link over a journal, the hub's or a leaf's.
-//!
-//! Bot 0 is the hub, and the leaves are numbered from 1. A [`BotLink`] takes the calls that any bot may get, and hands
-//! each to its end. Contracts see it as one value, whichever end it is (`specs/Links`).
+//! What a bot promised survives a restart: each change that it accepts or applies, and each request that it sends or
+//! rejects, is in its journal before the bot reports or sends anything about it. A call makes at most one call of the
+//! journal, and allocates everything before it, so a call that runs out of memory leaves the bot as it was. If a disk
+//! fails while the journal is written, the bot is down: it shows what it showed before, and takes nothing but a
+//! restart. The restart finds the record that was being written, or doesn't.
 //!
 //! ```text
 //! let mut hub = BotLink::create(alloc, first, second, 0, 3)?;   // the hub of 3 leaves, on two disks
 //! hub.ask(alloc, change)?;                                      // Queued
-//! let answer = hub.pump(alloc)?;                                // Accepted(1): Change 1 to each leaf
-//! hub.restart(alloc)?;                                          // Restarted(1)
+//! match hub.pump(alloc) {
+//!     Ok(answer) => send(answer.packets.as_slice()),            // Accepted(1), and Change 1 to each leaf
+//!     Err(Failure::Refused(fault)) => println!(rt; "{}", fault.code())?,
+//!     Err(Failure::NoMemory) => {}                              // the hub is as it was
+//! }
+//! if hub.is_down() {
+//!     hub.restart(alloc)?;                                      // Restarted(0) or Restarted(1)
+//! }
 //! ```
+//!
+//! The contracts use the words of [`protocol`], and those that are defined in `specs/`:
+//!
+//! - `BotLinks`, `BotOpening`: a bot's end as one value, how its calls match their rows in `protocol`, how it is
+//!   created and opened, and what it leaves on its disks.
+//! - `Calls`, `Meets`, `Codes`, `Texts`, `Shapes`: what a call returns, and how that matches its row; an error's letter
+//!   and number; when a text may be sent; which packets have records of good shape.
+//! - `HubLinks`, `LeafLinks`, `BotEnds`, `StateEnds`: the hub's end and the leaf's.
+//! - `Kept`, `StateOpening`, `Anew`: an end's state with its journal, how both are created and found, and how a journal
+//!   of an older layout is rewritten before the end is opened.
+//! - `States`, `Records`, `HubRecords`, `LeafRecords`, `Reading`, `EndLaws`: what an end keeps, what it journals, and
+//!   what its journal means.
+//! - `Parts`: a complete set of parts of a userfile.
 #![tactic(auto)]
 
 mod accepted;
@@ -102,6 +61,7 @@ mod hub_record;
 mod hub_state;
 mod journaled;
 mod kept;
+mod laws;
 mod leaf_link;
 mod leaf_packets;
 mod leaf_receiving;
@@ -118,24 +78,11 @@ mod state_fault;
 mod texts;
 mod walk;
 
-pub use crate::accepted::AcceptedChange;
 pub use crate::answer::{Answer, Outgoing, Outgoings};
 pub use crate::bot_link::BotLink;
-pub use crate::end_state::EndState;
 pub use crate::error::{LinkError, LinkFault};
-pub use crate::fields::know_change;
-pub use crate::hub_link::HubLink;
-pub use crate::hub_record::HubRecord;
-pub use crate::hub_state::HubState;
-pub use crate::kept::Kept;
-pub use crate::leaf_link::LeafLink;
-pub use crate::leaf_record::LeafRecord;
-pub use crate::leaf_replies::LeafReplies;
-pub use crate::leaf_state::LeafState;
+pub use crate::laws::law_of_left_disks;
 pub use crate::note::LinkNote;
-pub use crate::records::userfile_of;
-pub use crate::state_fault::{StateError, StateFault};
-pub use crate::texts::{text_by, text_fault};
 pub use sharewire::Packet;
 
 /// The most leaves that a hub has.

@@ -9,9 +9,26 @@ use bytetext::{NoMemory, Text};
 use sharewire::{Packet, is_bot_text};
 use std::alloc::Global;
 
-/// Returns why the bot `number` may not send `text` to the bot `to`, in a net of `leaves` leaves, when its step has
-/// sent `sent` texts: `BadBotText`, then `TextsFull`. Allocates nothing.
-pub fn text_fault(leaves: u16, number: u16, to: u16, text: &[u8], sent: usize) -> Option<LinkFault>
+// The way of a text through the net, by bot numbers.
+#[derive(Clone, Copy)]
+pub(crate) struct Route {
+    // The bot that takes the packet next.
+    pub(crate) next: u16,
+    // The bot that sent the text.
+    pub(crate) from: u16,
+    // The bot that the text is for.
+    pub(crate) to: u16,
+}
+
+// Returns why the bot `number` may not send `text` to the bot `to`, in a net of `leaves` leaves, when its step has
+// sent `sent` texts: `BadBotText`, then `TextsFull`. Allocates nothing.
+pub(crate) fn text_fault(
+    leaves: u16,
+    number: u16,
+    to: u16,
+    text: &[u8],
+    sent: usize,
+) -> Option<LinkFault>
     ensures { result ≡ text_fault leaves number to text.now sent }
 {
     if to > leaves || to == number || !is_bot_text(text) {
@@ -23,21 +40,20 @@ pub fn text_fault(leaves: u16, number: u16, to: u16, text: &[u8], sent: usize) -
     None
 }
 
-/// Returns `text` from the bot `from` to the bot `to`, as a packet for the bot `next`, which takes it next.
-///
-/// # Errors
-/// `NoMemory` if it cannot allocate room for the text; never for the empty text.
-pub fn text_by(
-    alloc: Global,
-    next: u16,
-    from: u16,
-    to: u16,
-    text: &[u8],
-) -> Result<Outgoing, NoMemory>
-    ensures outgoing { IfOk result (λ outgoing. outgoing ≡ text_by next from to text.now) }
+// Returns the packet that takes `text` along `route`. `NoMemory` if it cannot allocate room for the text; never for the
+// empty text.
+pub(crate) fn text_by(alloc: Global, route: Route, text: &[u8]) -> Result<Outgoing, NoMemory>
+    ensures outgoing { IfOk result (λ outgoing. outgoing ≡ text_by route.next route.from route.to text.now) }
     ensures memory { IfErr result (λ _. 0 < length text.now) }
 {
     let text = Text::from_slice(alloc, text)?;
-    let packet = Packet::BotText { from, to, text };
-    Ok(Outgoing { to: next, packet })
+    let packet = Packet::BotText {
+        from: route.from,
+        to: route.to,
+        text,
+    };
+    Ok(Outgoing {
+        to: route.next,
+        packet,
+    })
 }

@@ -3,16 +3,17 @@ use Rattle.std.specs.Prelude.{ℕ, ◌==◌, if◌then◌else◌, Option, None, 
 use Rattle.std.specs.IoError.{error_kind}
 use Rattle.std.specs.declared.io.Error.{Error}
 use Rattle.std.specs.declared.io.ErrorKind.{ErrorKind}
-use Rattle.std.specs.declared.io.ErrorKind.TheVariants.{WouldBlock, Interrupted}
+use Rattle.std.specs.declared.io.ErrorKind.TheVariants.{WouldBlock, Interrupted, NotConnected}
 use Rattle.streams.specs.declared.stream.Given.{Given}
 use Rattle.streams.specs.declared.stream.Given.TheVariants.{Bytes as gives_bytes, End, Stall, Fault as fails_to_give}
 use Rattle.streams.specs.declared.stream.Taken.{Taken}
 use Rattle.streams.specs.declared.stream.Taken.TheVariants.{Bytes as takes_bytes, Nothing, Fault as fails_to_take}
 
--- an interrupted call has no answer
+-- an interrupted call has no answer; a socket that is still connecting has nothing to give yet
 abbrev pub given_at : ErrorKind → Option Given
 given_at Interrupted = None
 given_at WouldBlock = Some Stall
+given_at NotConnected = Some Stall
 given_at _ = Some fails_to_give
 
 -- a read of no byte is the end
@@ -23,6 +24,7 @@ given_by (Err e) = given_at (error_kind e)
 abbrev pub taken_at : ErrorKind → Option Taken
 taken_at Interrupted = None
 taken_at WouldBlock = Some Nothing
+taken_at NotConnected = Some Nothing
 taken_at _ = Some fails_to_take
 
 abbrev pub taken_by : Result ℕ Error → Option Taken

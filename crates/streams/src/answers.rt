@@ -1,5 +1,5 @@
 // What one call of a reader or a writer answers.
-ghost use Rattle.std.specs.Prelude.{◌≡◌, ◌<◌, length, IfSome, IfNone};
+ghost use Rattle.std.specs.Prelude.{◌≡◌, ◌<◌, length};
 ghost use Rattle.std.specs.Io.KnownBytes.{Appends, Consumes, Keeps};
 ghost use Rattle.streams.specs.Answers.{given_by, taken_by};
 ghost use Rattle.streams.specs.Calls.{FitsIn, IsFrontOf, IsTrueEnd, bytes_given, bytes_taken};
@@ -8,31 +8,21 @@ use crate::stream::{Given, Taken};
 use std::io;
 use std::io::{ErrorKind, Read, Write};
 
-// Asks `reader` until a call is not interrupted. Answers `Fault` if 2 ^ 64 - 1 calls are interrupted.
-pub(crate) fn ask<R: Read>(reader: &mut R, buffer: &mut [u8]) -> Given
+/// Asks `reader` for bytes, again after each interruption, and puts them at the front of `buffer`. Returns `Stall` if
+/// the call would block, or if `reader` is a socket that is still connecting, and `Fault` after any other error or
+/// 2 ^ 64 - 1 interruptions. For implementers of [`Stream`](crate::Stream).
+pub fn ask<R: Read>(reader: &mut R, buffer: &mut [u8]) -> Given
     requires { 0 < length buffer.old }
     ensures fits { FitsIn buffer.new result }
     ensures left { Consumes (R.remaining reader.old) (R.remaining reader.new) (bytes_given result buffer.new) }
     ensures end { IsTrueEnd result (R.remaining reader.new) }
 {
     for _turn in 0..u64::MAX {
-        if let Some(answer) = ask_once(reader, buffer) {
+        if let Some(answer) = given_by(reader.read(buffer)) {
             return answer;
         }
     }
     Given::Fault
-}
-
-// Asks `reader` once. Returns `None` if the call was interrupted.
-fn ask_once<R: Read>(reader: &mut R, buffer: &mut [u8]) -> Option<Given>
-    requires { 0 < length buffer.old }
-    ensures fits { IfSome result (FitsIn buffer.new) }
-    ensures left { IfSome result
-        (λ answer. Consumes (R.remaining reader.old) (R.remaining reader.new) (bytes_given answer buffer.new)) }
-    ensures end { IfSome result (λ answer. IsTrueEnd answer (R.remaining reader.new)) }
-    ensures again { IfNone result (Keeps (R.remaining reader.old) (R.remaining reader.new)) }
-{
-    given_by(reader.read(buffer))
 }
 
 // Returns what a reader's `answer` means, or `None` if the call was interrupted.
@@ -44,35 +34,26 @@ fn given_by(answer: io::Result<usize>) -> Option<Given>
         Ok(count) => Some(Given::Bytes(count)),
         Err(error) => match error.kind() {
             ErrorKind::Interrupted => None,
-            ErrorKind::WouldBlock => Some(Given::Stall),
+            ErrorKind::WouldBlock | ErrorKind::NotConnected => Some(Given::Stall),
             _ => Some(Given::Fault),
         },
     }
 }
 
-// Offers `bytes` to `writer` until a call is not interrupted. Answers `Fault` if 2 ^ 64 - 1 calls are interrupted.
-pub(crate) fn offer<W: Write>(writer: &mut W, bytes: &[u8]) -> Taken
+/// Offers `bytes` to `writer`, again after each interruption. Returns `Nothing` if the call would block, or if `writer`
+/// is a socket that is still connecting, and `Fault` after any other error or 2 ^ 64 - 1 interruptions. For implementers
+/// of [`Stream`](crate::Stream).
+pub fn offer<W: Write>(writer: &mut W, bytes: &[u8]) -> Taken
     requires { 0 < length bytes.now }
     ensures front { IsFrontOf bytes.now result }
     ensures holds { Appends (W.contents writer.old) (W.contents writer.new) (bytes_taken result bytes.now) }
 {
     for _turn in 0..u64::MAX {
-        if let Some(answer) = offer_once(writer, bytes) {
+        if let Some(answer) = taken_by(writer.write(bytes)) {
             return answer;
         }
     }
     Taken::Fault
-}
-
-// Offers `bytes` to `writer` once. Returns `None` if the call was interrupted.
-fn offer_once<W: Write>(writer: &mut W, bytes: &[u8]) -> Option<Taken>
-    requires { 0 < length bytes.now }
-    ensures front { IfSome result (IsFrontOf bytes.now) }
-    ensures holds { IfSome result
-        (λ answer. Appends (W.contents writer.old) (W.contents writer.new) (bytes_taken answer bytes.now)) }
-    ensures again { IfNone result (Keeps (W.contents writer.old) (W.contents writer.new)) }
-{
-    taken_by(writer.write(bytes))
 }
 
 // Returns what a writer's `answer` means, or `None` if the call was interrupted.
@@ -84,7 +65,7 @@ fn taken_by(answer: io::Result<usize>) -> Option<Taken>
         Ok(count) => Some(Taken::Bytes(count)),
         Err(error) => match error.kind() {
             ErrorKind::Interrupted => None,
-            ErrorKind::WouldBlock => Some(Taken::Nothing),
+            ErrorKind::WouldBlock | ErrorKind::NotConnected => Some(Taken::Nothing),
             _ => Some(Taken::Fault),
         },
     }

@@ -9,9 +9,9 @@ use std::io::{Read, Write};
 
 /// Any reader and any writer as one stream. Either may be borrowed: `Duplex::new(&mut reader, &mut writer)`.
 ///
-/// A reader's `WouldBlock` becomes a [`Given::Stall`]. A writer's `WouldBlock`, or a write of no bytes, becomes
-/// [`Taken::Nothing`]. After `Interrupted` the call is made again. Any other error is a fault, and so is any error of a
-/// flush.
+/// A reader's `WouldBlock` or `NotConnected` becomes a [`Given::Stall`]. A writer's `WouldBlock` or `NotConnected`, or a
+/// write of no bytes, becomes [`Taken::Nothing`]. After `Interrupted` the call is made again. Any other error is a fault,
+/// and so is any error of a flush.
 ///
 /// ```text
 /// let mut stream = Duplex::new(file, Vec::new(alloc));

@@ -23,6 +23,7 @@ mod stream;
 mod writing;
 
 pub use crate::account::Account;
+pub use crate::answers::{ask, offer};
 pub use crate::duplex::Duplex;
 pub use crate::memory::Memory;
 pub use crate::reading::{ReadError, read_up_to};

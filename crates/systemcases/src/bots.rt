@@ -7,17 +7,18 @@ use crate::seen::{Seen, done, yes};
 use botfolder::{Begun, BotFolder, FolderError, FolderFault, Stopped, read_stopped};
 use bytejournal::Journal;
 use bytetext::Failure;
-use disks::{FileDisk, Pair};
+use disks::Pair;
 use std::fs;
 use std::fs::{DirBuilder, File};
-use std::os::unix::fs::DirBuilderExt;
+use std::os::unix::fs::DirBuilderExt as _;
 use std::rt::Files;
+use std::time::Clock;
 
 // The folder's name.
 const BOT: &str = "bot";
 
 /// Makes a bot's journal in a folder: after starts that are stopped, and beside other starts.
-pub fn bot_folders<R: AllocGlobal + Files<File = File>>(rt: &R, seen: &mut Seen) {
+pub fn bot_folders<R: AllocGlobal + Files<File = File> + Clock>(rt: &R, seen: &mut Seen) {
     refused_folders(rt, seen);
     seen.note("a bot is read before it is made", read(rt));
     stopped_starts(rt, seen);
@@ -25,10 +26,11 @@ pub fn bot_folders<R: AllocGlobal + Files<File = File>>(rt: &R, seen: &mut Seen)
     later_starts(rt, seen);
     controls(rt, seen);
     missing_files(rt, seen);
+    other_files(rt, seen);
 }
 
 // Tries folders that a bot can't use.
-fn refused_folders<R: AllocGlobal + Files<File = File>>(rt: &R, seen: &mut Seen) {
+fn refused_folders<R: AllocGlobal + Files<File = File> + Clock>(rt: &R, seen: &mut Seen) {
     seen.note("a bot's folder below none", taken(rt, "none/bot"));
     let long =
         "a123456789b123456789c123456789d123456789e123456789f123456789g123456789h123456789i123456789j123456789";
@@ -37,10 +39,17 @@ fn refused_folders<R: AllocGlobal + Files<File = File>>(rt: &R, seen: &mut Seen)
     seen.note("a folder that others may enter", done(made));
     seen.note("taken", taken(rt, BOT));
     seen.note("removed", done(fs::remove_dir(rt, BOT).is_ok()));
+    let made = DirBuilder::new().mode(0o500).create(rt, BOT).is_ok();
+    seen.note("one in which its owner may write nothing", done(made));
+    seen.note("taken", taken(rt, BOT));
+    seen.note("removed", done(fs::remove_dir(rt, BOT).is_ok()));
+    seen.note("a file", done(fs::write(rt, BOT, "").is_ok()));
+    seen.note("taken", taken(rt, BOT));
+    seen.note("removed", done(remove(rt, BOT)));
 }
 
 // Stops starts while they make the journal; after each, the next start begins from the beginning.
-fn stopped_starts<R: AllocGlobal + Files<File = File>>(rt: &R, seen: &mut Seen) {
+fn stopped_starts<R: AllocGlobal + Files<File = File> + Clock>(rt: &R, seen: &mut Seen) {
     seen.note("a start", started(rt));
     seen.note("after one that made two empty files", started(rt));
     seen.note("removed", done(remove(rt, "bot/new/second")));
@@ -69,7 +78,7 @@ fn stopped_starts<R: AllocGlobal + Files<File = File>>(rt: &R, seen: &mut Seen) 
 }
 
 // Makes the whole journal in one start, with another start beside it.
-fn whole_start<R: AllocGlobal + Files<File = File>>(rt: &R, seen: &mut Seen) {
+fn whole_start<R: AllocGlobal + Files<File = File> + Clock>(rt: &R, seen: &mut Seen) {
     match BotFolder::take(rt, BOT) {
         Ok(folder) => {
             seen.note("a second start beside the first", taken(rt, BOT));
@@ -84,7 +93,7 @@ fn whole_start<R: AllocGlobal + Files<File = File>>(rt: &R, seen: &mut Seen) {
 }
 
 // Starts again, and finds the journal.
-fn later_starts<R: AllocGlobal + Files<File = File>>(rt: &R, seen: &mut Seen) {
+fn later_starts<R: AllocGlobal + Files<File = File> + Clock>(rt: &R, seen: &mut Seen) {
     seen.note("a later start", started(rt));
     seen.note("its journal is the one that was made", yes(is_found(rt)));
     seen.note("a bot is read", read(rt));
@@ -107,7 +116,7 @@ fn later_starts<R: AllocGlobal + Files<File = File>>(rt: &R, seen: &mut Seen) {
 }
 
 // Removes the socket that a bot left.
-fn controls<R: AllocGlobal + Files<File = File>>(rt: &R, seen: &mut Seen) {
+fn controls<R: AllocGlobal + Files<File = File> + Clock>(rt: &R, seen: &mut Seen) {
     seen.note(
         "a socket's file left",
         done(fs::write(rt, "bot/control", "").is_ok()),
@@ -126,7 +135,7 @@ fn controls<R: AllocGlobal + Files<File = File>>(rt: &R, seen: &mut Seen) {
 }
 
 // Starts with a journal that lacks a file.
-fn missing_files<R: AllocGlobal + Files<File = File>>(rt: &R, seen: &mut Seen) {
+fn missing_files<R: AllocGlobal + Files<File = File> + Clock>(rt: &R, seen: &mut Seen) {
     seen.note(
         "the second file removed",
         done(remove(rt, "bot/journal/second")),
@@ -139,8 +148,44 @@ fn missing_files<R: AllocGlobal + Files<File = File>>(rt: &R, seen: &mut Seen) {
     );
 }
 
+// Starts with a folder that has the name of a file, and reads a number of a net that is too short.
+fn other_files<R: AllocGlobal + Files<File = File> + Clock>(rt: &R, seen: &mut Seen) {
+    let made = DirBuilder::new().create(rt, "bot/journal/second").is_ok();
+    seen.note("a folder with its name", done(made));
+    seen.note("a later start", started(rt));
+    seen.note("a bot is read", read(rt));
+    seen.note(
+        "removed",
+        done(fs::remove_dir(rt, "bot/journal/second").is_ok()),
+    );
+    seen.note(
+        "a net's number of 3 bytes",
+        done(fs::write(rt, "bot/net", "123").is_ok()),
+    );
+    seen.note("it is read", net_read(rt));
+    seen.note(
+        "16 bytes",
+        done(fs::write(rt, "bot/net", "0123456789abcdef").is_ok()),
+    );
+    seen.note("they are read", net_read(rt));
+    seen.note("removed", done(remove(rt, "bot/net")));
+    seen.note("none is read", net_read(rt));
+}
+
+// Reads the number of the net, and returns what is found.
+fn net_read<R: AllocGlobal + Files<File = File> + Clock>(rt: &R) -> &'static str {
+    match BotFolder::take(rt, BOT) {
+        Ok(folder) => match folder.net(rt) {
+            Ok(Some(digits)) => done(&digits == b"0123456789abcdef"),
+            Ok(None) => "no number",
+            Err(error) => word_of(error),
+        },
+        Err(error) => word_of(error),
+    }
+}
+
 // Takes the folder, and returns how that ends.
-fn taken<R: AllocGlobal + Files<File = File>>(rt: &R, folder: &str) -> &'static str {
+fn taken<R: AllocGlobal + Files<File = File> + Clock>(rt: &R, folder: &str) -> &'static str {
     match BotFolder::take(rt, folder) {
         Ok(_) => "done",
         Err(error) => word_of(error),
@@ -148,7 +193,7 @@ fn taken<R: AllocGlobal + Files<File = File>>(rt: &R, folder: &str) -> &'static 
 }
 
 // Starts, ends at once, and returns what the start finds.
-fn started<R: AllocGlobal + Files<File = File>>(rt: &R) -> &'static str {
+fn started<R: AllocGlobal + Files<File = File> + Clock>(rt: &R) -> &'static str {
     match begun(rt) {
         Ok(Begun::Found(_)) => "finds a journal",
         Ok(Begun::Empty(_)) => "begins anew",
@@ -156,20 +201,20 @@ fn started<R: AllocGlobal + Files<File = File>>(rt: &R) -> &'static str {
     }
 }
 
-fn begun<R: AllocGlobal + Files<File = File>>(rt: &R) -> Result<Begun, FolderError> {
+fn begun<R: AllocGlobal + Files<File = File> + Clock>(rt: &R) -> Result<Begun, FolderError> {
     let folder = BotFolder::take(rt, BOT)?;
     folder.begin(rt)
 }
 
 // Starts, makes a journal, and names it if `is_named`. Returns whether that worked.
-fn made<R: AllocGlobal + Files<File = File>>(rt: &R, is_named: bool) -> bool {
+fn made<R: AllocGlobal + Files<File = File> + Clock>(rt: &R, is_named: bool) -> bool {
     match BotFolder::take(rt, BOT) {
         Ok(folder) => is_made(rt, &folder, is_named),
         Err(_) => false,
     }
 }
 
-fn is_made<R: AllocGlobal + Files<File = File>>(
+fn is_made<R: AllocGlobal + Files<File = File> + Clock>(
     rt: &R,
     folder: &BotFolder,
     is_named: bool,
@@ -184,7 +229,7 @@ fn is_made<R: AllocGlobal + Files<File = File>>(
 }
 
 // Returns whether the journal that a start finds is the one that was made.
-fn is_found<R: AllocGlobal + Files<File = File>>(rt: &R) -> bool {
+fn is_found<R: AllocGlobal + Files<File = File> + Clock>(rt: &R) -> bool {
     match BotFolder::take(rt, BOT) {
         Ok(folder) => match folder.begin(rt) {
             Ok(Begun::Found(disks)) => is_base(rt, disks),
@@ -204,7 +249,7 @@ fn is_base<R: AllocGlobal>(rt: &R, disks: Pair) -> bool
 }
 
 // Reads the bot while it does not run, and returns what is found.
-fn read<R: AllocGlobal + Files<File = File>>(rt: &R) -> &'static str {
+fn read<R: AllocGlobal + Files<File = File> + Clock>(rt: &R) -> &'static str {
     match read_stopped(rt, BOT) {
         Ok(copies) => copied(rt, copies),
         Err(error) => word_of(error),
@@ -241,11 +286,20 @@ fn word_of_fault(fault: FolderFault) -> &'static str {
     match fault {
         FolderFault::LongName => "too long a name",
         FolderFault::NoParent => "no folder above it",
-        FolderFault::Unusable => "unusable",
+        FolderFault::NotAFolder => "no folder",
         FolderFault::LetsOthersIn => "lets others in",
+        FolderFault::BarsOwner => "bars its owner",
+        FolderFault::NotRegular(file) => file.name(),
         FolderFault::InUse => "in use",
         FolderFault::LacksFile => "lacks a file",
+        FolderFault::ShortNet => "too short a number of its net",
         FolderFault::NoBot => "no bot",
+        FolderFault::Unusable => "unusable",
+        FolderFault::ProcessFiles => "too many files of this process",
+        FolderFault::MachineFiles => "too many files of this machine",
+        FolderFault::ReadOnly => "read-only",
+        FolderFault::Full => "full",
         FolderFault::DiskFails => "not kept",
+        FolderFault::System(_) => "another error",
     }
 }

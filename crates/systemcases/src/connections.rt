@@ -5,7 +5,7 @@ use crate::texts::{given, taken};
 use net::{DialFault, Dialling, TcpDoor, TcpSocket, Watch};
 use std::io;
 use std::net::{Ipv4Addr, Net, SocketAddr};
-use streams::Stream;
+use streams::Stream as _;
 
 // The token of the door, and below it that of the caller who connects to it.
 const DOOR: usize = 7;

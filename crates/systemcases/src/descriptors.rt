@@ -1,10 +1,10 @@
 // Descriptors: one that is closed under a disk, and one that belongs to a standard stream.
 use crate::seen::{Seen, word_of, yes};
 use crate::writes::{put, synced};
-use disks::{Disk, FileDisk};
+use disks::{Disk as _, FileDisk};
 use std::fs;
 use std::fs::{File, OpenOptions};
-use std::os::fd::AsRawFd;
+use std::os::fd::AsRawFd as _;
 use std::rt::Files;
 
 /// Closes the descriptors of two disks, which then refuse what goes to the file.

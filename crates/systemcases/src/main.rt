@@ -41,9 +41,10 @@ use crate::stops::stops;
 use crate::writes::writes;
 use std::fs::File;
 use std::io;
-use std::io::Write;
+use std::io::Write as _;
 use std::net::Net;
 use std::rt::Files;
+use std::time::Clock;
 
 /// The layout of the journals that are made here, whose texts are read as they are.
 const LAYOUT: u8 = 2;
@@ -60,7 +61,7 @@ fn main(rt: HostRuntime) -> anyhow::Result<()> {
 }
 
 // Plays the cases of files.
-fn play<R: AllocGlobal + Files<File = File>>(rt: &R, seen: &mut Seen) {
+fn play<R: AllocGlobal + Files<File = File> + Clock>(rt: &R, seen: &mut Seen) {
     names(rt, seen);
     lone_files(rt, seen);
     writes(rt, seen);

@@ -2,7 +2,7 @@
 use net::{Socket, TcpDoor, TcpSocket, Watch};
 use std::io;
 use std::io::{Read, Write};
-use streams::{Given, Stream};
+use streams::{Given, Stream as _};
 
 /// How often to wait for something, at most; `TURN` is how long each time, in milliseconds.
 const TURNS: u32 = 100;

@@ -3,7 +3,7 @@ use crate::seen::{Seen, done, word_of, yes};
 use disks::{FileDisk, Pair};
 use std::fs;
 use std::fs::File;
-use std::os::unix::fs::MetadataExt;
+use std::os::unix::fs::MetadataExt as _;
 use std::rt::Files;
 
 /// Opens files that are missing, makes them, and opens them while they are in use.
@@ -76,11 +76,12 @@ pub fn tidy<R: Files>(rt: &R) {
         "bot/new/first",
         "bot/new/second",
         "bot/lock",
+        "bot/net",
         "bot/control",
     ] {
         let _ = fs::remove_file(rt, file);
     }
-    for folder in ["bot/journal", "bot/new", "bot"] {
+    for folder in ["bot/journal/second", "bot/journal", "bot/new", "bot"] {
         let _ = fs::remove_dir(rt, folder);
     }
 }

@@ -7,7 +7,7 @@ use std::io::ErrorKind;
 use std::net::Net;
 use std::rt::Files;
 use std::{fs, io};
-use streams::Stream;
+use streams::Stream as _;
 
 // The path.
 const PATH: &str = "control";

@@ -6,7 +6,7 @@ ghost use Rattle.disks.specs.Memory.{state_of};
 use crate::LAYOUT;
 use crate::seen::Seen;
 use bytejournal::{Disks, Journal, was_never_made};
-use disks::{Disk, MemDisk, Tear};
+use disks::{Disk as _, MemDisk, Tear};
 use std::alloc::Global;
 
 /// What a crash leaves of the bytes that were not kept.

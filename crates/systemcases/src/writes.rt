@@ -1,9 +1,9 @@
 // What is written, as another opening of the file reads it.
 use crate::seen::{Seen, done, yes};
-use disks::{Disk, FileDisk};
+use disks::{Disk as _, FileDisk};
 use std::fs;
 use std::fs::File;
-use std::os::unix::fs::MetadataExt;
+use std::os::unix::fs::MetadataExt as _;
 use std::rt::Files;
 use std::time::UNIX_EPOCH;
 

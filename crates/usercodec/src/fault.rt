@@ -15,7 +15,7 @@ pub enum CodecFault {
     /// flags have a bit above 51 set, a mark is neither 0 nor 1, a channel of a user has no flags, a count is above
     /// its limit, or a user has a mask or a channel twice. A text and its length byte are one field, so a text that
     /// is cut is X1; a count is a field of its own.
-    #[error("a field breaks its rule: write the value anew")]
+    #[error("a field breaks its rule: write the value again in its one spelling")]
     NotCanonical,
 }
 

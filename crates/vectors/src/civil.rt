@@ -1,5 +1,5 @@
 // Civil time.
-use bottimers::{CivilMinute, ClockFault, Zone};
+use bottimers::{CivilMinute, ClockFault};
 use bytetext::{NoMemory, Text, Texts};
 use caselines::{BAD_WORDS, CaseError, Sink, number, zone_of};
 use std::alloc::Global;

@@ -2,9 +2,9 @@
 use crate::puppet::{Puppet, Silence};
 use bytetext::Text;
 use caselines::{BAD_WORDS, CaseError, Sink, cut, number};
-use net::{Bounds, Wire};
+use net::{Bounds, Connection};
 use std::alloc::Global;
-use streams::{Given, Taken};
+use streams::Given;
 
 /// Answers `wire HEARD UNSENT STEP..` on `out`: what each step of a connection answers, with ` ; ` between.
 pub fn wire(alloc: Global, words: &[Text], out: &mut Sink) -> Result<(), CaseError> {
@@ -15,75 +15,83 @@ pub fn wire(alloc: Global, words: &[Text], out: &mut Sink) -> Result<(), CaseErr
         heard: number(heard.as_bytes())?,
         unsent: number(unsent.as_bytes())?,
     };
-    let mut wire = Wire::new(alloc, Puppet::new(Vec::new(alloc)), bounds);
+    let mut connection = Connection::new(alloc, Puppet::new(Vec::new(alloc)), bounds);
     for (place, step) in steps.iter().enumerate() {
         out.between(b" ; ", place);
-        make(alloc, &mut wire, step.as_bytes(), out)?;
+        make(alloc, &mut connection, step.as_bytes(), out)?;
     }
     Ok(())
 }
 
 fn make(
     alloc: Global,
-    wire: &mut Wire<Puppet>,
+    connection: &mut Connection<Puppet>,
     step: &[u8],
     out: &mut Sink,
 ) -> Result<(), CaseError> {
     let (name, rest) = cut(step, b' ');
     match name {
         b"give" => {
-            wire.stream.bytes.extend_from_slice(rest)?;
-            read(wire, Silence::Stall, out)
+            connection.stream.bytes.extend_from_slice(rest)?;
+            read(connection, Silence::Stall, out)
         }
-        b"end" => read(wire, Silence::End, out),
-        b"stall" => read(wire, Silence::Stall, out),
-        b"fault" => read(wire, Silence::Fault, out),
-        b"tell" => tell(wire, rest, out),
+        b"end" => read(connection, Silence::End, out),
+        b"stall" => read(connection, Silence::Stall, out),
+        b"fault" => read(connection, Silence::Fault, out),
+        b"tell" => tell(connection, rest, out),
         b"take" => {
-            send(wire, number(rest)?, false, out);
+            send(connection, number(rest)?, false, out);
             Ok(())
         }
         b"refuse" => {
-            send(wire, 0, false, out);
+            send(connection, 0, false, out);
             Ok(())
         }
         b"break" => {
-            send(wire, 0, true, out);
+            send(connection, 0, true, out);
             Ok(())
         }
-        _ => show(alloc, wire, name, out),
+        _ => show(alloc, connection, name, out),
     }
 }
 
 // The steps that show a connection.
 fn show(
     alloc: Global,
-    wire: &mut Wire<Puppet>,
+    connection: &mut Connection<Puppet>,
     name: &[u8],
     out: &mut Sink,
 ) -> Result<(), CaseError> {
     match name {
         b"heard" => {
             out.put(b"heard");
-            out.quoted(&wire.take_heard(alloc));
+            out.quoted(&connection.take_heard(alloc));
         }
         b"unsent" => {
             out.put(b"unsent");
-            out.quoted(&wire.unsent);
+            out.quoted(&connection.unsent);
         }
-        b"over" => out.put(if wire.is_over { b"over" } else { b"not over" }),
+        b"over" => out.put(if connection.is_over {
+            b"over"
+        } else {
+            b"not over"
+        }),
         _ => return Err(BAD_WORDS),
     }
     Ok(())
 }
 
-fn read(wire: &mut Wire<Puppet>, silence: Silence, out: &mut Sink) -> Result<(), CaseError> {
-    if wire.is_full() {
+fn read(
+    connection: &mut Connection<Puppet>,
+    silence: Silence,
+    out: &mut Sink,
+) -> Result<(), CaseError> {
+    if connection.is_full() {
         out.put(b"full");
         return Ok(());
     }
-    wire.stream.silence = silence;
-    match wire.read()? {
+    connection.stream.silence = silence;
+    match connection.ask()? {
         Given::Bytes(count) => out.number(count as u64),
         Given::End => out.put(b"end"),
         Given::Stall => out.put(b"stall"),
@@ -92,22 +100,27 @@ fn read(wire: &mut Wire<Puppet>, silence: Silence, out: &mut Sink) -> Result<(),
     Ok(())
 }
 
-fn tell(wire: &mut Wire<Puppet>, text: &[u8], out: &mut Sink) -> Result<(), CaseError> {
-    let is_told = wire.tell(text)?;
+fn tell(connection: &mut Connection<Puppet>, text: &[u8], out: &mut Sink) -> Result<(), CaseError> {
+    let is_told = connection.tell(text, b"")?;
     out.put(if is_told { b"told" } else { b"too much" });
     Ok(())
 }
 
-fn send(wire: &mut Wire<Puppet>, room: usize, is_broken: bool, out: &mut Sink) {
-    if wire.unsent.is_empty() {
+fn send(connection: &mut Connection<Puppet>, room: usize, is_broken: bool, out: &mut Sink) {
+    if connection.unsent.is_empty() {
         out.put(b"none");
         return;
     }
-    wire.stream.room = room;
-    wire.stream.is_broken = is_broken;
-    match wire.send() {
-        Taken::Bytes(count) => out.number(count as u64),
-        Taken::Nothing => out.put(b"nothing"),
-        Taken::Fault => out.put(b"fault"),
+    connection.stream.room = room;
+    connection.stream.is_broken = is_broken;
+    let before = connection.unsent.len();
+    if connection.send() {
+        out.number((before - connection.unsent.len()) as u64);
+    } else {
+        out.put(if connection.is_over {
+            b"fault"
+        } else {
+            b"nothing"
+        });
     }
 }

@@ -41,6 +41,9 @@ returns-clause-same_calls_ignoring_channels g c =
     λ ignores count w deeds is run i j one other s t a b. run_same_calls_ignoring_channels g.P.Promise.promised count w deeds is
     run ignores i j one other s t a b
 
+pub returns-clause-stopped : goal.returns-clause-stopped
+returns-clause-stopped g c = λ first second link leaves x y left right. (leaves x y left right).mean
+
 pub returns-clause-died : goal.returns-clause-died
 returns-clause-died g c = λ names event was after report x y leaves takes crash.
     step_dies g.P.Promise.promised names event was report after x y leaves takes crash

@@ -4,7 +4,7 @@ use Rattle.bindtable.specs.Calls.{seen}
 use Rattle.botcalls.specs.Calls.{Telling}
 use Rattle.botcalls.specs.Dispatched.{setting_in}
 use Rattle.botcalls.specs.Made.{Adds, AddsFront}
-use Rattle.chanstate.specs.Speech.{first_word}
+use Rattle.bytetext.specs.Words.{first_word}
 use Rattle.botcalls.specs.Occasions.{by_nobody, said_seen, said_call}
 use Rattle.botcalls.proofs.HeardLemmas.{told_seen-same}
 use Rattle.botcalls.proofs.dispatch.Dispatch.call_said.Goals as goal

@@ -4,6 +4,6 @@ use Rattle.peers.proofs.guest.Guest.heed.Goals as goal
 
 pub returns-in_ok-tell-in-Welcome-clause-shown : goal.returns-in_ok-tell-in-Welcome-clause-shown
 returns-in_ok-tell-in-Welcome-clause-shown c =
-    joined c.args.self.now.side c.heard.result.now c.in-Welcome.leaf c.in-Welcome.used c.in-Welcome.line _
-    c.read.new.self.wire.heard.items _ c.read.ensures c.heard.ensures c.in-Welcome.ensures
-    (c.take_front.ensures ∙ ap (drop c.in-Welcome.used) c.in_ok-tell-in-Welcome.ensures.heard)
+    joined c.args.self.now.side c.as_slice.result.now c.in-Welcome.leaf c.in-Welcome.used c.in-Welcome.line _
+    c.read.new.self.heard.items _ c.read.ensures.grows c.as_slice.ensures.value c.in-Welcome.ensures
+    (c.take_front.ensures.rest ∙ ap (drop c.in-Welcome.used) c.in_ok-tell-in-Welcome.ensures.heard)

@@ -1,0 +1,109 @@
+// The files of a bot's folder, and how one is opened.
+ghost use Rattle.std.specs.Prelude.{◌≢◌};
+ghost use Rattle.std.specs.Prelude.{Err};
+ghost use Rattle.bytetext.specs.declared.failure.Failure.TheVariants.{Refused};
+ghost use Rattle.botfolder.specs.declared.fault.FolderFault.TheVariants.{LongName};
+
+use crate::fault::{FolderError, FolderFault, system_error};
+use bytetext::Failure;
+use std::fmt::Display;
+use std::fs::{File, OpenOptions};
+use std::io::ErrorKind;
+use std::rt::Files;
+use std::{fmt, fs};
+
+/// A file in a bot's folder.
+#[derive(Clone, Copy, Debug, PartialEq, Eq)]
+pub enum FolderFile {
+    /// `lock`
+    Lock,
+    /// `journal/first`
+    First,
+    /// `journal/second`
+    Second,
+    /// `new/first`
+    NewFirst,
+    /// `new/second`
+    NewSecond,
+    /// `net`
+    Net,
+    /// `net.new`
+    NewNet,
+    /// `control`
+    Control,
+}
+
+impl FolderFile {
+    /// Returns the file's name in the folder.
+    pub fn name(self) -> &'static str {
+        match self {
+            FolderFile::Lock => "lock",
+            FolderFile::First => "journal/first",
+            FolderFile::Second => "journal/second",
+            FolderFile::NewFirst => "new/first",
+            FolderFile::NewSecond => "new/second",
+            FolderFile::Net => "net",
+            FolderFile::NewNet => "net.new",
+            FolderFile::Control => "control",
+        }
+    }
+}
+
+impl Display for FolderFile {
+    fn fmt<W: fmt::Write>(&self, f: &mut fmt::Formatter<W>) -> fmt::Result {
+        f.write_str(self.name())
+    }
+}
+
+// Opens `file`, whose path is `path`, with these options. Returns `None` if it is missing, or its folder is. A file
+// that is not regular is not opened: opening a FIFO would wait for a writer.
+pub(crate) fn open_file<R: Files<File = File>>(
+    rt: &R,
+    path: &str,
+    file: FolderFile,
+    options: &OpenOptions,
+) -> Result<Option<File>, FolderError>
+    ensures { result ≢ Err (Refused LongName) }
+{
+    keep_regular(rt, path, file)?;
+    match options.open(rt, path) {
+        Ok(opened) => Ok(Some(opened)),
+        Err(error) => match error.kind() {
+            ErrorKind::NotFound => Ok(None),
+            _ => Err(system_error(&error)),
+        },
+    }
+}
+
+// Refuses a path at which something else stands than a regular file.
+fn keep_regular<R: Files>(rt: &R, path: &str, file: FolderFile) -> Result<(), FolderError>
+    ensures { result ≢ Err (Refused LongName) }
+{
+    match fs::metadata(rt, path) {
+        Ok(found) => {
+            if found.is_file() {
+                Ok(())
+            } else {
+                Err(Failure::Refused(FolderFault::NotRegular(file)))
+            }
+        }
+        Err(error) => match error.kind() {
+            ErrorKind::NotFound => Ok(()),
+            _ => Err(system_error(&error)),
+        },
+    }
+}
+
+// Removes `file`, whose path is `path`, if it exists.
+pub(crate) fn remove_file<R: Files>(rt: &R, path: &str, file: FolderFile) -> Result<(), FolderError>
+    ensures { result ≢ Err (Refused LongName) }
+{
+    match fs::remove_file(rt, path) {
+        Ok(()) => Ok(()),
+        Err(error) => match error.kind() {
+            ErrorKind::NotFound => Ok(()),
+            ErrorKind::IsADirectory => Err(Failure::Refused(FolderFault::NotRegular(file))),
+            _ => Err(system_error(&error)),
+        },
+    }
+}

@@ -1,6 +1,0 @@
-use Rattle.std.specs.Prelude.{[]}
-use Rattle.linkcases.proofs.play.packets_in.Goals as goal
-
--- the reader was new, so what it told is what these bytes tell
-pub returns : goal.returns
-returns c = (c.in_ok-feed.ensures.told [] [] c.new-reader.ensures.told).good

@@ -1,7 +1,0 @@
-use Rattle.std.proofs.Common.{◌≡◌, drop}
-use Rattle.bytetext.specs.Numerals.{number_from}
-use Rattle.settings.specs.Words.{number_of}
-use Rattle.settings.proofs.numeral.number.Given as goal
-
-abbrev pub invariant-loop-byte : goal.invariant-loop-byte
-invariant-loop-byte l = number_from l.value (drop l.byte-index l.word) ≡ number_of l.word
