@@ -52,6 +52,7 @@ mod checking;
 mod deeds;
 mod ending;
 mod entry;
+mod looking;
 mod netting;
 mod noticing;
 mod obeying;

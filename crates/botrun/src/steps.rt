@@ -11,17 +11,17 @@ ghost use Rattle.botrun.specs.Taking.{Hears, TakesTurn, TakesChanges};
 
 use crate::ending::RunError;
 use crate::entry::Entry;
+use crate::looking::look_at_all;
 use crate::outcome::{Outcome, outcome_of};
 use crate::passing::pass_all;
 use crate::process::Process;
 use bytetext::{NoMemory, Text, TryCopy};
 use net::log;
 use procstore::{ProcStore, Promise, Run};
-use serverlink::new_nick;
 use settings::Settings;
 use sharelink::MAX_ASKS;
 use std::alloc::Global;
-use turns::{Heard, HeardLine, Told, TurnEnd, take_turn};
+use turns::{Heard, Told, TurnEnd, take_turn};
 use userfile::Change;
 
 impl Process {
@@ -40,15 +40,11 @@ impl Process {
         ensures hears { OnOk result (Hears P.promised store.now self.old.bot self.old.lines
             (heard_in (talk_in self.old.uplink.session)) self.old.others.links) }
     {
-        let alloc = rt.alloc();
-        let bytes = self.uplink.take_heard(alloc);
-        let heard = self.others.hear(alloc, connected, bytes, now)?;
-        let said = !heard.packets.is_empty();
-        let pumped = heard.pump;
-        let nick = self.nick_before(alloc, connected)?;
-        let told = take_turn(alloc, &mut self.bot, store, &mut self.lines, heard);
-        self.look(rt, settings, nick, told.lines.as_slice(), now)?;
-        let outcome = self.pass(rt, settings, &told, pumped, now)?;
+        let Taken {
+            outcome,
+            said,
+            pumped,
+        } = self.take_sent(rt, store, settings, connected, now)?;
         if !self.others.links.is_leaf() {
             self.pump(rt, store, settings, outcome, now)?;
         }
@@ -59,6 +55,43 @@ impl Process {
         // A proc may have had a leaf ask for a change. If this turn pumped and more is due at once, the link took
         // bytes, so the next turn comes at once too.
         Ok(said || (!pumped && self.others.links.is_pump_due(now)))
+    }
+
+    // Has the bot take what its server and the other bots sent, in one turn. Then the connection to the server looks at
+    // the server's lines, before the bot's lines are queued.
+    fn take_sent<R: AllocGlobal + Print, P: Promise, B: Run>(
+        &mut self,
+        rt: &R,
+        store: &ProcStore<P, B>,
+        settings: &Settings,
+        connected: bool,
+        now: u64,
+    ) -> Result<Taken, RunError>
+        requires moment { now < MOMENTS_END }
+        ensures hears { OnOk result (Hears P.promised store.now self.old.bot self.old.lines
+            (heard_in (talk_in self.old.uplink.session)) self.old.others.links) }
+    {
+        let alloc = rt.alloc();
+        let bytes = self.uplink.take_heard(alloc);
+        let heard = self.others.hear(alloc, connected, bytes, now)?;
+        let said = !heard.packets.is_empty();
+        let pumped = heard.pump;
+        let nick = self.nick_before(alloc, connected)?;
+        let told = take_turn(alloc, &mut self.bot, store, &mut self.lines, heard);
+        look_at_all(
+            rt,
+            &mut self.uplink,
+            settings,
+            nick,
+            told.lines.as_slice(),
+            now,
+        )?;
+        let outcome = self.pass(rt, settings, &told, pumped, now)?;
+        Ok(Taken {
+            outcome,
+            said,
+            pumped,
+        })
     }
 
     // Pumps until nothing waits, or the link refuses. Logs each outcome, beginning with `first`, the one of the pump
@@ -146,31 +179,6 @@ impl Process {
         }
     }
 
-    // Has the connection to the server see the lines of a turn, in order, each with whether the bot's step logs it.
-    // The bot's nick before them is `nick`.
-    fn look<R: AllocGlobal + Print>(
-        &mut self,
-        rt: &R,
-        settings: &Settings,
-        nick: Text,
-        lines: &[HeardLine],
-        now: u64,
-    ) -> Result<(), NoMemory>
-        requires moment { now < MOMENTS_END }
-        ensures bot { self.new.bot ≡ self.old.bot }
-        ensures held { self.new.lines ≡ self.old.lines }
-    {
-        let mut nick = nick;
-        for HeardLine { line, logged } in lines {
-            self.uplink
-                .look(rt, settings, line, *logged, nick.as_bytes(), now)?;
-            if let Some(given) = new_nick(line, nick.as_bytes()) {
-                nick = Text::from_slice(rt.alloc(), given)?;
-            }
-        }
-        Ok(())
-    }
-
     // Queues the lines of a turn for the server, and sends its packets and answers. Returns what the turn says about
     // changes.
     fn pass<R: AllocGlobal + Print>(
@@ -203,6 +211,17 @@ impl Process {
             TurnEnd::NoMemory => Err(RunError::NoMemory),
         }
     }
+}
+
+// What came of the turn that takes what the server and the other bots sent.
+#[derive(Drop)]
+struct Taken {
+    // What the turn says about changes.
+    outcome: Outcome,
+    // Whether another bot sent something.
+    said: bool,
+    // Whether the turn pumped.
+    pumped: bool,
 }
 
 // What a turn has read from a server, with a pump, and without packets or changes.

@@ -1,0 +1,30 @@
+// What the connection to the server makes of the server's lines.
+ghost use Rattle.std.specs.Prelude.{◌<◌};
+ghost use Rattle.bytetext.specs.declared.moment.TheConstants.{MOMENTS_END};
+
+use bytetext::{NoMemory, Text};
+use serverlink::{IrcConnection, new_nick};
+use settings::Settings;
+use turns::HeardLine;
+
+// Has the connection look at the lines of a turn, in order, each with whether the bot's step has it logged. Before
+// them the bot's nick is `nick`.
+pub(crate) fn look_at_all<R: AllocGlobal + Print>(
+    rt: &R,
+    uplink: &mut IrcConnection,
+    settings: &Settings,
+    nick: Text,
+    lines: &[HeardLine],
+    now: u64,
+) -> Result<(), NoMemory>
+    requires moment { now < MOMENTS_END }
+{
+    let mut nick = nick;
+    for HeardLine { line, logged } in lines {
+        uplink.look(rt, settings, line, *logged, nick.as_bytes(), now)?;
+        if let Some(given) = new_nick(line, nick.as_bytes()) {
+            nick = Text::from_slice(rt.alloc(), given)?;
+        }
+    }
+    Ok(())
+}
