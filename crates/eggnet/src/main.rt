@@ -23,13 +23,13 @@
 #![tactic(auto)]
 
 mod configuration;
-mod live;
+mod scripts;
 mod serve;
 mod talk;
 mod words;
 
 use crate::configuration::{check_file, run_file};
-use crate::live::live_script;
+use crate::scripts::live_script;
 use crate::serve::serve_port;
 use crate::talk::{show_folder, tell_folder};
 use crate::words::{Task, refused, task_of, version_of};
