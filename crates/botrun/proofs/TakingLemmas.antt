@@ -8,7 +8,7 @@ use Rattle.turns.specs.declared.turn.Told.{Told}
 use Rattle.turns.specs.Turns.{Turns}
 use Rattle.peers.specs.declared.links.Links.{Links}
 use Rattle.peers.specs.Tells.{TakesPackets}
-use Rattle.serverlink.specs.Told.{Talk}
+use Rattle.net.specs.Connections.{Talk}
 use Rattle.botrun.specs.declared.outcome.Outcome.{Outcome}
 use Rattle.botrun.specs.Outcomes.{outcome_of}
 use Rattle.botrun.specs.Passing.{told_of}

@@ -1,7 +1,7 @@
 -- What a turn's steps send to a server.
 use Rattle.std.specs.Prelude.{ℕ, List, [], ◌∷◌, Option, option_map}
 use Rattle.botcore.specs.declared.report.Report.{Report}
-use Rattle.serverlink.specs.Told.{Talk}
+use Rattle.net.specs.Connections.{Talk}
 use Rattle.serverlink.specs.Talks.{told}
 
 -- these lines, one after another
