@@ -1,4 +1,4 @@
-//! Which binds an event calls, as `bindtable` answers it, in plain Rust: the same binds and subjects as
+//! Which binds an event calls, as `procs` answers it, in plain Rust: the same binds and subjects as
 //! `benchmarks/timings/src/binds.rt`. Minutes and whole lines have no counterpart here.
 //!
 //! The text is folded once, and masks are tried on it one after another; keywords are found in a hash map.

@@ -60,7 +60,7 @@ def hello(leaf, version):
 
 
 def strangers(tally, net):
-    """Each is let go, and the net goes on."""
+    """Each is disconnected, and the net goes on."""
     hub = net.bots[0]
     last = net.leaves
     net.bots[last].kill()
@@ -113,7 +113,7 @@ def wrong_codes(tally, net):
 
 
 def slow_reader(tally, net, last):
-    """A leaf that asks and never reads is let go, and the hub goes on."""
+    """A leaf that asks and never reads is disconnected, and the hub goes on."""
     it = Stranger(net)
     it.says(last)
     it.socket.settimeout(1)
@@ -132,7 +132,7 @@ def slow_reader(tally, net, last):
             net.bots[0].answers("status")
             slow = max(slow, time.monotonic() - began)
     tally.note("a leaf that says hello and never reads", slow < 5,
-               f"{count} hellos, {'let go' if gone else 'not read any more'}; the hub answered within {slow:.2f} s")
+               f"{count} hellos, {'disconnected' if gone else 'not read any more'}; the hub answered within {slow:.2f} s")
     it.close()
 
 

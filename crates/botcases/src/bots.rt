@@ -2,16 +2,14 @@
 ghost use Rattle.std.specs.Prelude.{IfOk};
 ghost use Rattle.botcore.specs.Steps.{IsGoodEvent};
 
-use crate::procs::{Built, Ours, Runs, counted_store, no_runs};
-use bindtable::BindKind;
-use botcalls::MadeCall;
+use crate::case_procs::{Built, Ours, Runs, counted_store, no_runs};
 use botcore::{Bot, BotError, BotEvent, Config, End, NewBind, Note, Report, StepFault};
 use bottimers::Zone;
 use bytetext::{NoMemory, Text, Texts, TryCopy, copies_of};
 use caselines::{BAD_WORDS, CaseError, Sink, cut, number, zone_of};
 use disks::MemDisk;
 use ircline::read_line;
-use procstore::{CallKind, Code, ProcStore};
+use procs::{BindKind, CallKind, Code, MadeCall, ProcStore};
 use std::alloc::Global;
 
 /// Answers `config NICK LEAVES NUMBER ZONE CHANNEL..`: `ok`, or the code of why no bot can be made so. `words` are

@@ -9,7 +9,7 @@ use caselines::{BAD_NUMBER, BAD_WORDS, CaseError, Sink, cut, number};
 use disks::MemDisk;
 use ircline::LineReader;
 use peers::Inbox;
-use procstore::{Nobodies, ProcStore};
+use procs::{Nobodies, ProcStore};
 use std::alloc::Global;
 use turns::{Heard, take_turn};
 use userfile::Change;

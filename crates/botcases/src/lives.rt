@@ -1,5 +1,5 @@
 // Live scripts of a botnet, over sockets of this machine.
-use crate::procs::store_of;
+use crate::case_procs::store_of;
 use crate::scripts::{put_fault, put_lines, script_of};
 use bytetext::Text;
 use caselines::{CaseError, Sink};

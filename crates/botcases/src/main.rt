@@ -59,12 +59,12 @@
 
 mod bots;
 mod case;
+mod case_procs;
 mod drives;
 mod hubs;
 mod inboxes;
 mod lives;
 mod packets;
-mod procs;
 mod reports;
 mod scripts;
 

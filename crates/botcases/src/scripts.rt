@@ -1,5 +1,5 @@
 // Scripts of a botnet.
-use crate::procs::store_of;
+use crate::case_procs::store_of;
 use botcore::{BotEvent, NewBind, OldBind};
 use botworld::Step;
 use bytetext::{NoMemory, Text, TryCopy};

@@ -1,10 +1,11 @@
 -- What actions leave of the link and the rest.
 use Rattle.std.proofs.Common.{◌≡◌, ◌≢◌, ◌∙◌, ℕ, ◌+◌, ◌<◌, nat_lt, Bool, true, false, if◌then◌else◌, List, [], ◌∷◌, ◌++◌, length, drop, get_or, refl, ap, sym, subst, append_assoc, Option, Some, None, Result, Ok, Err}
 use Rattle.std.proofs.lemmas.List.{append-nil, drop_more}
+use Rattle.std.proofs.Math.Seq.{take-append_seam}
 use Rattle.userfile.specs.Apply.{bad_shape}
 use Rattle.userfile.specs.declared.change.Change.{Change}
 use Rattle.userfile.specs.declared.error.ChangeFault.{ChangeFault}
-use Rattle.procstore.specs.declared.action.Action.{Action}
+use Rattle.procs.specs.declared.action.Action.{Action}
 use Rattle.bytetext.specs.declared.failure.Failure.{Failure}
 use Rattle.bytetext.specs.declared.failure.Failure.TheVariants.{Refused, NoMemory}
 use Rattle.protocol.specs.Notes.{Note as Meaning, LinkFault as Meant}
@@ -18,14 +19,14 @@ use Rattle.sharelink.specs.declared.answer.Answer.{Answer}
 use Rattle.sharelink.specs.declared.error.LinkFault.{LinkFault}
 use Rattle.sharelink.specs.declared.error.LinkFault.TheVariants as fault
 use Rattle.sharelink.specs.Calls.{note_of, IsFault}
-use Rattle.protocol.specs.Ends.{End, AtHub, AtLeaf, end_asks, with_asks, end_did}
-use Rattle.sharelink.specs.BotLinks.{BotEnd, Asks}
+use Rattle.protocol.specs.Ends.{End, AtHub, AtLeaf, end_asks, with_asks, with_oldest, end_did}
+use Rattle.sharelink.specs.BotLinks.{BotEnd, Asks, keeps_asks}
 use Rattle.botcore.specs.declared.fault.ActionFault.{ActionFault}
 use Rattle.botcore.specs.declared.fault.StepFault.{StepFault}
 use Rattle.botcore.specs.declared.report.End.TheVariants.{NoMemory as ends_no_memory}
-use Rattle.botcalls.specs.declared.made_call.MadeCall.{MadeCall}
+use Rattle.procs.specs.declared.made_call.MadeCall.{MadeCall}
 use Rattle.botcore.specs.Acting.{Acting, acted, acted_all, with_fault, action_faults, actions_of}
-use Rattle.botcore.specs.Links.{link_with_asks, fault_told}
+use Rattle.botcore.specs.Links.{ask_count, link_with_asks, fault_told}
 use Rattle.botcore.specs.Progress.{Progress, Leaves, LeavesAll, HasMoreAsks, acting_at}
 use Rattle.botcore.specs.Putting.{HasMoreLines}
 use Rattle.botcore.specs.Reports.{answer_report}
@@ -60,6 +61,18 @@ link_with_asks-append link xs ys = ap (λ (end : End). record link { end = end }
 pub HasMoreAsks-then : (a b c : BotEnd) → HasMoreAsks a b → HasMoreAsks b c → HasMoreAsks a c
 HasMoreAsks-then a b c one other =
     (one.0 ++ other.0, other.1 ∙ ap (λ (l : BotEnd). link_with_asks l other.0) one.1 ∙ link_with_asks-append a one.0 other.0)
+
+-- the asks of before are the oldest
+oldest_asks : (end : End) (more : List Change) → with_oldest (with_asks end (end_asks end ++ more)) (length (end_asks end)) ≡ end
+oldest_asks (AtHub hub) more = ap (λ (asks : List Change). AtHub (record hub { loose = asks })) (take-append_seam hub.loose more)
+oldest_asks (AtLeaf leaf) more =
+    ap (λ (asks : List Change). AtLeaf (record leaf { loose = record leaf.loose { waiting = asks } })) (take-append_seam leaf.loose.waiting more)
+
+pub asks_back : (old new : BotEnd) (count : ℕ) → HasMoreAsks old new → count ≡ ask_count old → keeps_asks new count ≡ old
+asks_back old new count more counted =
+    ap (λ (l : BotEnd). keeps_asks l count) more.1
+    ∙ ap (keeps_asks (link_with_asks old more.0)) counted
+    ∙ ap (λ (end : End). record old { end = end }) (oldest_asks old.end more.0)
 
 -- an ask that is taken leaves one ask more
 taken_waits : {S : Type 0} (old with_it : S) (waiting : ℕ) (fault : Option ChangeFault) (note : Meaning)

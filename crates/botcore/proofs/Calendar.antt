@@ -7,8 +7,8 @@ use Rattle.jiff.proofs.SpanFacts.{signed_arith}
 use Rattle.chanstate.specs.declared.event.IrcEvent.{IrcEvent as MessageEvent}
 use Rattle.bottimers.specs.declared.calendar.CivilMinute.{CivilMinute}
 use Rattle.bottimers.specs.Civil.{IsCalendarMinute}
-use Rattle.botcalls.specs.declared.trigger.Trigger.{Trigger}
-use Rattle.botcalls.specs.declared.trigger.Trigger.TheVariants.{Heard, Due, Time, Cron, Said}
+use Rattle.procs.specs.declared.trigger.Trigger.{Trigger}
+use Rattle.procs.specs.declared.trigger.Trigger.TheVariants.{Heard, Due, Time, Cron, Said}
 use Rattle.botcore.specs.Happenings.{Happening}
 use Rattle.botcore.specs.Happenings.Happening.{Heard as heard_event, Due as due_proc, Time as time_minute, Cron as cron_minute, Said as said_text}
 use Rattle.botcore.specs.Shown.{IsShown, AreOccasions}

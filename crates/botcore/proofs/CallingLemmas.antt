@@ -1,26 +1,33 @@
 -- What is reported of what calls procs, by the calls that were made.
-use Rattle.std.proofs.Common.{◌≡◌, ◌≢◌, ◌∙◌, ℕ, List, [], ◌++◌, Option, None, Some, Result, Ok, Err, OnOk, OnErr, refl, ap, sym, subst}
+use Rattle.std.proofs.Common.{◌≡◌, ◌≢◌, ◌∙◌, ℕ, ◌<◌, Bool, false, if◌then◌else◌, List, [], ◌++◌, map, Option, None, Some, Result, Ok, Err, OnOk, OnErr, refl, ap, sym, subst}
 use Rattle.std.specs.Prelude.{IsOk, IfOk}
+use Rattle.std.proofs.lemmas.Bool.{lt-ltb}
 use Rattle.std.proofs.lemmas.List.{append-nil}
 use Rattle.std.proofs.lemmas.List.Elements.{filter_map-append}
-use Rattle.procstore.specs.Promises.{Promised}
-use Rattle.procstore.specs.Seen.{Seen}
-use Rattle.botcalls.specs.declared.made_call.MadeCall.{MadeCall}
+use Rattle.procs.specs.Promises.{Promised}
+use Rattle.procs.specs.Seen.{Seen}
+use Rattle.procs.specs.declared.made_call.MadeCall.{MadeCall}
+use Rattle.procs.specs.declared.made_call.Unbound.{Unbound}
+use Rattle.sharelink.specs.declared.answer.Outgoing.{Outgoing}
 use Rattle.bytetext.specs.declared.memory.NoMemory.{NoMemory}
+use Rattle.bytetext.specs.declared.moment.TheConstants.{MOMENTS_END}
+use Rattle.bottimers.specs.declared.fault.ClockFault.TheVariants.{BadMoment}
 use Rattle.outqueue.specs.Sending.{sent, after as after_sending}
+use Rattle.botcore.specs.declared.fault.StepFault.{StepFault}
 use Rattle.botcore.specs.declared.report.End.TheVariants.{Done, NoMemory as ends_no_memory}
 use Rattle.botcore.specs.declared.report.Note.{Note}
 use Rattle.botcore.specs.declared.report.Report.{Report}
-use Rattle.bottimers.specs.Seconds.{seconds_run}
-use Rattle.botcalls.specs.declared.trigger.Trigger.{Trigger}
+use Rattle.bottimers.specs.Seconds.{reading_fault, seconds_run}
+use Rattle.procs.specs.declared.trigger.Trigger.{Trigger}
 use Rattle.botcore.specs.Bots.{Bot, bot_seen, bot_setting, seen_at}
-use Rattle.botcalls.specs.Calls.{Telling, called_in, calls_in}
-use Rattle.botcalls.specs.Dispatching.{told_of}
+use Rattle.procs.specs.Tellings.{Telling, called_in, calls_in}
+use Rattle.procs.specs.Dispatching.{told_of, is_logged}
 use Rattle.botcore.specs.Happenings.{seconds_of}
-use Rattle.botcore.specs.Lines.{Finish, finish_reading}
-use Rattle.botcalls.specs.Made.{Made, IsMade, IsFrontMade}
+use Rattle.botcore.specs.Acting.{faults_of}
+use Rattle.botcore.specs.Lines.{Finish, acting_of, acting_after, finish_reading}
+use Rattle.procs.specs.Made.{Made, AllKept, IsMade, IsFrontMade, entry_of}
 use Rattle.botcore.specs.Reports.{cut_short, told as told_as}
-use Rattle.botcore.specs.Steps.{IsCutShort, TakesCalls, TakesSeconds, run_to}
+use Rattle.botcore.specs.Steps.{IsCutShort, TakesCalls, TakesMoment, TakesReading, TakesSeconds, is_stale, run_to}
 use Rattle.botcore.specs.Shown.{AreOccasions, AreTaken}
 use Rattle.botcore.proofs.RunningLemmas.{AreFirst-all}
 
@@ -62,6 +69,70 @@ module _ (promised : Promised) where
         front same_calls same reported,
   )
 
+  -- the seconds of a reading, of which nothing was called
+  pub none-seconds : (names : List (List ℕ)) (old new : Bot) (now : ℕ) (report : Report) → new ≡ old → report ≡ cut_short []
+      → TakesSeconds promised names old now report new
+  none-seconds names old new now report same reported =
+      subst (λ (r : Report). TakesSeconds promised names old now r new) (sym reported) (
+        [],
+        tt,
+        record {
+          rest = [];
+          calls = refl;
+          kept = tt;
+          note = refl;
+          packets = refl;
+          lines = refl;
+          faults = refl;
+          logged = refl;
+          after = same;
+        },
+      )
+
+  -- a report of all calls
+  pub told-takes : (told : List Telling) (old new start : Bot) (came : Option Note) (finish : List MadeCall → Finish) (made : Made) (calls : List MadeCall)
+      (unbound : List Unbound) (packets : List Outgoing) (lines : List (List ℕ)) (faults : List StepFault) (report : Report)
+      → IsMade promised (bot_seen start) made told → calls ≡ made.calls → unbound ≡ made.unbound → packets ≡ (acting_after start calls).sent
+      → lines ≡ (finish calls).lines → faults ≡ faults_of (acting_of start) calls unbound ++ (finish calls).faults → new ≡ (finish calls).after
+      → report ≡ told_as came calls packets lines faults → TakesCalls report.end promised told old start came finish report new
+  told-takes told old new start came finish made calls unbound packets lines faults report is same_calls same_unbound went goes refused after reported =
+      let entries = ap (map entry_of) same_calls ∙ is.calls in
+      subst (λ (r : Report). TakesCalls r.end promised told old start came finish r new) (sym reported)
+      (record {
+        calls = entries;
+        kept = subst (AllKept promised (bot_seen start)) (sym same_calls) is.kept;
+        note = refl;
+        packets = went;
+        lines = goes;
+        faults = refused ∙ ap (λ (us : List Unbound). faults_of (acting_of start) calls us ++ (finish calls).faults) (same_unbound ∙ is.unbound);
+        logged = ap is_logged entries;
+        after = after;
+      })
+
+  -- the seconds of a reading, all of whose calls were made
+  pub told-seconds : (names : List (List ℕ)) (old new : Bot) (now : ℕ) (occasions : List Trigger) (made : Made) (calls : List MadeCall)
+      (unbound : List Unbound) (packets : List Outgoing) (lines : List (List ℕ)) (faults : List StepFault) (report : Report)
+      → AreOccasions (seconds_of old.config.zone old.timers (seconds_run old.clock now)) occasions
+      → IsMade promised (seen_at old (Some now)) made (told_of (bot_setting promised names old) occasions) → calls ≡ made.calls → unbound ≡ made.unbound
+      → packets ≡ (acting_after (run_to old now) calls).sent → lines ≡ (finish_reading (run_to old now) now calls).lines
+      → faults ≡ faults_of (acting_of (run_to old now)) calls unbound → new ≡ (finish_reading (run_to old now) now calls).after
+      → report ≡ told_as None calls packets lines faults → TakesSeconds promised names old now report new
+  told-seconds names old new now occasions made calls unbound packets lines faults report all is same_calls same_unbound went goes refused after reported = (
+    occasions,
+    subst (λ (r : Report). AreTaken r.end (seconds_of old.config.zone old.timers (seconds_run old.clock now)) occasions) (sym reported) all,
+    told-takes (told_of (bot_setting promised names old) occasions) old new (run_to old now) None (finish_reading (run_to old now) now) made calls unbound
+        packets lines faults report is same_calls same_unbound went goes
+        (refused ∙ sym (append-nil (faults_of (acting_of (run_to old now)) calls unbound))) after reported,
+  )
+
+  -- a reading that is a moment above the last runs its seconds
+  pub seconds-reading : (names : List (List ℕ)) (old new : Bot) (now : ℕ) (report : Report) → now < MOMENTS_END
+      → is_stale old.clock now ≡ false → TakesSeconds promised names old now report new
+      → TakesReading (reading_fault now) promised names old now report new
+  seconds-reading names old new now report moment fresh seconds =
+      subst (λ (b : Bool). TakesReading (if b then None else Some BadMoment) promised names old now report new) (sym (lt-ltb now MOMENTS_END moment))
+      (subst (λ (b : Bool). TakesMoment b promised names old now report new) (sym fresh) seconds)
+
   -- all is the first of it
   pub front_all : (seen : Seen) (made : Made) (told : List Telling) → IsMade promised seen made told → IsFrontMade promised seen made told
   front_all seen made told is = (told, [], sym (append-nil told), is)
@@ -88,22 +159,7 @@ module _ (promised : Promised) where
           after = ok;
         },
       )
-  quiet_takes names old new now (Err e) report none said lacks goes ok err =
-      subst (λ (r : Report). TakesSeconds promised names old now r new) (sym lacks) (
-        [],
-        tt,
-        record {
-          rest = [];
-          calls = refl;
-          kept = tt;
-          note = refl;
-          packets = refl;
-          lines = refl;
-          faults = refl;
-          logged = refl;
-          after = err;
-        },
-      )
+  quiet_takes names old new now (Err e) report none said lacks goes ok err = none-seconds names old new now report err lacks
 
 -- such a reading ends where no line goes
 pub quiet_ends : (lines : Result (List (List ℕ)) NoMemory) (report : Report) → IsOk lines

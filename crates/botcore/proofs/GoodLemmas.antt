@@ -7,11 +7,11 @@ use Rattle.bottimers.specs.declared.timer.Timer.{Timer}
 use Rattle.bottimers.specs.declared.timer.TimerKind.TheVariants.{Minutes, Seconds}
 use Rattle.bottimers.specs.Held.{add_fault, holds_named}
 use Rattle.bottimers.specs.Seconds.{reading_fault}
-use Rattle.procstore.specs.declared.action.Action.{Action}
-use Rattle.procstore.specs.Promises.{Promised}
-use Rattle.procstore.specs.declared.action.Action.TheVariants.{Ask, Timer as timer_wished, Utimer, KillTimer, SendBot, Put}
-use Rattle.procstore.specs.declared.action.PutWish.{PutWish}
-use Rattle.procstore.specs.declared.action.TimerName.{TimerName}
+use Rattle.procs.specs.declared.action.Action.{Action}
+use Rattle.procs.specs.Promises.{Promised}
+use Rattle.procs.specs.declared.action.Action.TheVariants.{Ask, Timer as timer_wished, Utimer, KillTimer, SendBot, Put}
+use Rattle.procs.specs.declared.action.PutWish.{PutWish}
+use Rattle.procs.specs.declared.action.TimerName.{TimerName}
 use Rattle.ircline.specs.declared.line.Line.{Line as ReadLine}
 use Rattle.ircline.specs.declared.line.Line.TheVariants.{Message as a_message, Bad as a_bad_line}
 use Rattle.ircline.specs.declared.message.Message.{Message}
@@ -33,9 +33,9 @@ use Rattle.sharelink.specs.Calls.{note_of}
 use Rattle.sharelink.specs.Shapes.{AreGood, GoOut}
 use Rattle.protocol.specs.Ends.{End as LinkEnd, AtHub, AtLeaf, of_hub, of_leaf, end_did}
 use Rattle.sharelink.specs.BotLinks.{asked, told}
-use Rattle.botcalls.specs.declared.made_call.MadeCall.{MadeCall}
-use Rattle.botcalls.specs.Calls.{Telling}
-use Rattle.botcalls.specs.Dispatching.{told_of}
+use Rattle.procs.specs.declared.made_call.MadeCall.{MadeCall}
+use Rattle.procs.specs.Tellings.{Telling}
+use Rattle.procs.specs.Dispatching.{told_of}
 use Rattle.botcore.specs.declared.event.BotEvent.TheVariants.{Line, Clock}
 use Rattle.botcore.specs.declared.report.End.{End}
 use Rattle.botcore.specs.declared.report.End.TheVariants.{Done, Refused, NoMemory}
@@ -44,7 +44,7 @@ use Rattle.botcore.specs.declared.report.Report.{Report}
 use Rattle.botcore.specs.Acting.{Acting, acted, acted_all, asked_if, timer_of, made_unless, killed_if, sent_if, put_unless, actions_of}
 use Rattle.botcore.specs.Bots.{Bot, bot_setting}
 use Rattle.botcore.specs.Happenings.{Saying, saying_in}
-use Rattle.botcore.specs.Lines.{Finish, acting_of, finish_text, finish_line, finish_reading}
+use Rattle.botcore.specs.Lines.{Finish, acting_of, acting_after, finish_text, finish_line, finish_reading}
 use Rattle.botcore.specs.Links.{outgoing_told, text_sent}
 use Rattle.botcore.specs.Reports.{answer_report}
 use Rattle.botcore.specs.Steps.{TakesCalls, TakesText, TakesMessage, TakesMoment, TakesReading, TakesStep, text_note, said_occasions, message_told, run_to, is_stale}
@@ -139,12 +139,15 @@ acts_good : (acting : Acting) (actions : List Action) → AreGood acting.sent �
 acts_good acting [] good = good
 acts_good acting (a ∷ actions) good = acts_good (acted acting a).after actions (act_good acting a good)
 
+pub sent_good : (start : Bot) (calls : List MadeCall) → AreGood (acting_after start calls).sent
+sent_good start calls = acts_good (acting_of start) (actions_of calls) tt
+
 -- whatever is called, its packets are good
 pub calls_good : (promised : Promised) (told : List Telling) (old start : Bot)
     (came : Option Note) (finish : List MadeCall → Finish) (report : Report) (new : Bot) (end : End)
     → TakesCalls end promised told old start came finish report new → AreGood report.packets
 calls_good promised told old start came finish report new Done c =
-    subst AreGood (sym c.packets) (acts_good (acting_of start) (actions_of report.calls) tt)
+    subst AreGood (sym c.packets) (sent_good start report.calls)
 calls_good promised told old start came finish report new (Refused why) c = absurd c
 calls_good promised told old start came finish report new NoMemory c = subst AreGood (sym c.packets) tt
 

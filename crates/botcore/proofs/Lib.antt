@@ -5,6 +5,7 @@ pub mod Calendar
 pub mod CallingLemmas
 pub mod GoodLemmas
 pub mod JoiningLemmas
+pub mod LineLemmas
 pub mod MomentLemmas
 pub mod PacketLemmas
 pub mod PutLemmas

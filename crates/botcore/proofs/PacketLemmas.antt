@@ -2,7 +2,7 @@
 use Rattle.std.proofs.Common.{◌≡◌, ◌∙◌, ℕ, List, Option, Some, None, Result, Ok, Err, refl, ap, sym, subst}
 use Rattle.bytetext.specs.declared.failure.Failure.{Failure}
 use Rattle.bytetext.specs.declared.failure.Failure.TheVariants.{Refused, NoMemory}
-use Rattle.procstore.specs.Promises.{Promised}
+use Rattle.procs.specs.Promises.{Promised}
 use Rattle.sharewire.specs.declared.packet.Packet.{Packet}
 use Rattle.protocol.specs.Notes.{Note as Meaning, LinkFault as Meant}
 use Rattle.protocol.specs.Packets.{from_wire}
@@ -15,8 +15,8 @@ use Rattle.protocol.specs.Ends.{End}
 use Rattle.sharelink.specs.BotLinks.{BotEnd, Calls, took}
 use Rattle.botcore.specs.declared.report.Report.{Report}
 use Rattle.botcore.specs.Bots.{Bot, bot_setting, with_device}
-use Rattle.botcalls.specs.Calls.{calls_in}
-use Rattle.botcalls.specs.Dispatching.{told_of}
+use Rattle.procs.specs.Tellings.{calls_in}
+use Rattle.procs.specs.Dispatching.{told_of}
 use Rattle.botcore.specs.Happenings.{Saying, saying_in, saying_of}
 use Rattle.botcore.specs.Reports.{answer_report}
 use Rattle.botcore.specs.Steps.{TakesPacket, TakesText, GivesRow, said_occasions}

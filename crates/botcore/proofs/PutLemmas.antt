@@ -1,9 +1,13 @@
 -- What puts leave of queues, and how it is taken back.
-use Rattle.std.proofs.Common.{◌≡◌, ◌∙◌, ℕ, List, [], ◌++◌, length, take, ap, sym, append_assoc}
+use Rattle.std.proofs.Common.{◌≡◌, ◌∙◌, ℕ, ◌-◌, List, [], ◌∷◌, ◌++◌, length, take, refl, ap, sym, subst, append_assoc}
 use Rattle.std.proofs.lemmas.List.{append-nil}
 use Rattle.std.proofs.Math.Seq.{take-append_seam}
-use Rattle.outqueue.specs.Sending.{Sending}
-use Rattle.procstore.specs.declared.action.PutWish.{PutWish}
+use Rattle.outqueue.specs.declared.queue.Queue.{Queue}
+use Rattle.outqueue.specs.declared.queue.Queue.TheVariants.{Mode, Server, Help}
+use Rattle.outqueue.specs.declared.queues.Counts.{Counts}
+use Rattle.outqueue.specs.Refusals.{put_last}
+use Rattle.outqueue.specs.Sending.{Sending, Room, no_room, counts_of, with_first}
+use Rattle.procs.specs.declared.action.PutWish.{PutWish}
 use Rattle.botcore.specs.declared.fault.StepFault.{StepFault}
 use Rattle.botcore.specs.Putting.{Continues, HasMoreLines, put_all, put_faults}
 
@@ -26,6 +30,33 @@ HasMoreLines_same old new same = record {
   room = λ none. ap (λ (q : Sending). q.room) same ∙ none;
 }
 
+-- one line more
+line_more : (old : Sending) (queue : Queue) (line : List ℕ) → HasMoreLines old (put_last old queue line)
+line_more old Mode line = record {
+  mode = (line ∷ [], refl);
+  server = Continues_same old.server old.server refl;
+  help = Continues_same old.help old.help refl;
+  timer = refl;
+  room = λ none. ap (λ (room : Room). record room { mode = room.mode - 1 }) none;
+}
+line_more old Server line = record {
+  mode = Continues_same old.mode old.mode refl;
+  server = (line ∷ [], refl);
+  help = Continues_same old.help old.help refl;
+  timer = refl;
+  room = λ none. ap (λ (room : Room). record room { server = room.server - 1 }) none;
+}
+line_more old Help line = record {
+  mode = Continues_same old.mode old.mode refl;
+  server = Continues_same old.server old.server refl;
+  help = (line ∷ [], refl);
+  timer = refl;
+  room = λ none. ap (λ (room : Room). record room { help = room.help - 1 }) none;
+}
+
+pub HasMoreLines_last : (old new : Sending) (queue : Queue) (line : List ℕ) → new ≡ put_last old queue line → HasMoreLines old new
+HasMoreLines_last old new queue line last = subst (HasMoreLines old) (sym last) (line_more old queue line)
+
 pub HasMoreLines-then : (a b c : Sending) → HasMoreLines a b → HasMoreLines b c → HasMoreLines a c
 HasMoreLines-then a b c one other = record {
   mode = Continues-then a.mode b.mode c.mode one.mode other.mode;
@@ -39,6 +70,19 @@ HasMoreLines-then a b c one other = record {
 
 taken : (old new : List (List ℕ)) → Continues old new → take (length old) new ≡ old
 taken old new more = ap (take (length old)) more.1 ∙ take-append_seam old more.0
+
+-- queues without room have the lines of before again
+pub lines_back : (old new : Sending) (counts : Counts) → HasMoreLines old new → counts ≡ counts_of old → old.room ≡ no_room
+    → with_first new counts ≡ old
+lines_back old new counts more counted none =
+    let server = take (length old.server) new.server in
+    let help = take (length old.help) new.help in
+    ap (with_first new) counted
+    ∙ ap (λ (l : List (List ℕ)). record new { mode = l; server = server; help = help }) (taken old.mode new.mode more.mode)
+    ∙ ap (λ (l : List (List ℕ)). record new { mode = old.mode; server = l; help = help }) (taken old.server new.server more.server)
+    ∙ ap (λ (l : List (List ℕ)). record new { mode = old.mode; server = old.server; help = l }) (taken old.help new.help more.help)
+    ∙ ap (λ (t : ℕ). record old { timer = t; room = new.room }) more.timer
+    ∙ ap (λ (room : Room). record old { room = room }) (more.room none ∙ sym none)
 
 -- puts after puts --------------------------------------------------------------------------------------------------------
 

@@ -9,8 +9,8 @@ use Rattle.bottimers.specs.declared.call.TimerCall.{TimerCall}
 use Rattle.bottimers.specs.Held.{Held, IsAbove, passed}
 use Rattle.bottimers.specs.Seconds.{seconds_run, last_after}
 use Rattle.bottimers.specs.Zones.{TzText}
-use Rattle.botcalls.specs.declared.trigger.Trigger.{Trigger}
-use Rattle.botcalls.specs.declared.trigger.Trigger.TheVariants.{Due as due_occasion}
+use Rattle.procs.specs.declared.trigger.Trigger.{Trigger}
+use Rattle.procs.specs.declared.trigger.Trigger.TheVariants.{Due as due_occasion}
 use Rattle.botcore.specs.Happenings.{Happening, second_of, seconds_of, passed_all}
 use Rattle.botcore.specs.Happenings.Happening.{Due}
 use Rattle.botcore.specs.Rising.{IsReached, Rise}

@@ -9,8 +9,10 @@ use Rattle.std.proofs.lemmas.List.{at_drop_more}
 use Rattle.std.proofs.lemmas.List.Concat.{flat_map-append}
 use Rattle.rfccase.specs.Casemapping.{is_same}
 use Rattle.ircline.specs.declared.message.Message.{Message}
+use Rattle.ircline.specs.declared.numeric.Numeric.{Numeric}
+use Rattle.ircline.specs.declared.numeric.Numeric.TheVariants.{Welcome, ErroneousNickname, NicknameInUse, NickCollision, UnavailableResource, Other}
 use Rattle.ircline.specs.Sources.{Source, Nobody, Server, Person, source_of}
-use Rattle.procstore.specs.declared.action.PutWish.{PutWish}
+use Rattle.procs.specs.declared.action.PutWish.{PutWish}
 use Rattle.userfile.specs.declared.ban.Ban.{Ban}
 use Rattle.chanstate.specs.declared.channel.Channel.{Channel}
 use Rattle.chanstate.specs.declared.member.Mark.{Mark}
@@ -33,7 +35,7 @@ use Rattle.rfccase.proofs.SameLemmas.{is_same-refl}
 use Rattle.chanstate.proofs.FindLemmas.{pointwise-same, none-is}
 use Rattle.chanstate.proofs.LookLemmas.{find-changed}
 use Rattle.botcore.specs.declared.watched_command.WatchedCommand.TheVariants as cue
-use Rattle.botcore.specs.Automatic.{cue_of, guarded_as, is_own, mode_wishes, modes_in, set_again}
+use Rattle.botcore.specs.Automatic.{cue_of, numeric_cue, guarded_as, is_own, mode_wishes, modes_in, set_again}
 use Rattle.chanstate.proofs.ItemLemmas.{mark_keeps}
 use Rattle.botcore.specs.Operators.{is_op_after, op_left, op_marked}
 use Rattle.botcore.proofs.AutomaticLemmas.{nothing_left, nothing_right}
@@ -329,18 +331,20 @@ lines_none sup f on string i d arguments old all less is none =
 -- ---- the command
 
 -- the command whose cue is MODE
-third_of : (a b c d e : Bool)
-    → (if a then cue.Ping else (if b then cue.Join else (if c then cue.Mode else (if d then cue.RplWelcome else (if e then cue.ErrNicknameInUse else cue.Other)))))
-    ≡ cue.Mode → c ≡ true
-third_of true b c d e is = cc
-third_of false true c d e is = cc
-third_of false false true d e is = refl
-third_of false false false true e is = cc
-third_of false false false false true is = cc
-third_of false false false false false is = cc
+third_of : (a b c : Bool) (n : Numeric)
+    → (if a then cue.Ping else (if b then cue.Join else (if c then cue.Mode else numeric_cue n))) ≡ cue.Mode → c ≡ true
+third_of true b c n is = cc
+third_of false true c n is = cc
+third_of false false true n is = refl
+third_of false false false Welcome is = cc
+third_of false false false ErroneousNickname is = cc
+third_of false false false NicknameInUse is = cc
+third_of false false false NickCollision is = cc
+third_of false false false UnavailableResource is = cc
+third_of false false false Other is = cc
 
 mode_verb : (command : List ℕ) → cue_of command ≡ cue.Mode → verb_of command ≡ verb.Mode
-mode_verb command is = ap verb_of (pointwise-same command (codes "MODE") (third_of _ _ _ _ _ is))
+mode_verb command is = ap verb_of (pointwise-same command (codes "MODE") (third_of _ _ _ _ is))
 
 -- the channels after a MODE
 pub after_mode : (message : Message) (s : ChanState) → cue_of message.command ≡ cue.Mode

@@ -9,14 +9,14 @@ use Rattle.bottimers.specs.declared.timer.Timer.{Timer}
 use Rattle.bottimers.specs.declared.timer.TimerKind.{TimerKind}
 use Rattle.bottimers.specs.declared.timer.TimerKind.TheVariants.{Minutes, Seconds}
 use Rattle.bottimers.specs.Held.{Held, add_fault, with_timer, holds_named, without_named}
-use Rattle.procstore.specs.declared.action.Action.{Action}
+use Rattle.procs.specs.declared.action.Action.{Action}
 use Rattle.outqueue.specs.declared.fault.QueueFault.{QueueFault}
 use Rattle.outqueue.specs.Refusals.{refusal, put_last}
 use Rattle.outqueue.specs.Sending.{Sending}
-use Rattle.procstore.specs.declared.action.Action.TheVariants.{Ask, Timer as timer_wished, Utimer, KillTimer, SendBot, Put}
-use Rattle.procstore.specs.declared.action.PutWish.{PutWish}
-use Rattle.procstore.specs.declared.action.TimerName.{TimerName}
-use Rattle.procstore.specs.declared.action.TimerWish.{TimerWish}
+use Rattle.procs.specs.declared.action.Action.TheVariants.{Ask, Timer as timer_wished, Utimer, KillTimer, SendBot, Put}
+use Rattle.procs.specs.declared.action.PutWish.{PutWish}
+use Rattle.procs.specs.declared.action.TimerName.{TimerName}
+use Rattle.procs.specs.declared.action.TimerWish.{TimerWish}
 use Rattle.sharelink.specs.declared.answer.Outgoing.{Outgoing}
 use Rattle.sharelink.specs.declared.error.LinkFault.{LinkFault}
 use Rattle.protocol.specs.Notes.{Note as Meaning, LinkFault as Meant}
@@ -27,8 +27,8 @@ use Rattle.botcore.specs.declared.fault.ActionFault.{ActionFault}
 use Rattle.botcore.specs.declared.fault.ActionFault.TheVariants.{Link as link_fault, Clock as clock_fault, Queue as queue_fault}
 use Rattle.botcore.specs.declared.fault.StepFault.{StepFault}
 use Rattle.botcore.specs.declared.fault.StepFault.TheVariants.{Unbound as unbound_fault, Action as action_fault}
-use Rattle.botcalls.specs.declared.made_call.MadeCall.{MadeCall}
-use Rattle.botcalls.specs.declared.made_call.Unbound.{Unbound}
+use Rattle.procs.specs.declared.made_call.MadeCall.{MadeCall}
+use Rattle.procs.specs.declared.made_call.Unbound.{Unbound}
 use Rattle.botcore.specs.Links.{fault_told, link_text}
 
 -- what actions change: the link, the timers, the texts to send, and the queues of lines for the server; new timers are

@@ -8,9 +8,11 @@ use Rattle.std.specs.Prelude.{ℕ, ◌==◌, nat_lt, Bool, true, false, not, ◌
 use Rattle.std.specs.Prelude.{if◌then◌else◌, codes, drop, Option, Some, None, unwrap_or}
 use Rattle.std.specs.List.{concat, filter_map, flat_map}
 use Rattle.std.specs.Option.{option_to_list}
-use Rattle.std.specs.Str.{bytes_eq}
 use Rattle.rfccase.specs.Casemapping.{is_same}
 use Rattle.ircline.specs.declared.message.Message.{Message}
+use Rattle.ircline.specs.declared.numeric.Numeric.{Numeric}
+use Rattle.ircline.specs.declared.numeric.Numeric.TheVariants.{Welcome, ErroneousNickname, NicknameInUse, NickCollision, UnavailableResource, Other}
+use Rattle.ircline.specs.Numeric.{is_command, numeric_of}
 use Rattle.ircline.specs.Printing.{canonical}
 use Rattle.ircline.specs.Sources.{Source, Nobody, Server as a_server, Person, source_of}
 use Rattle.outqueue.specs.declared.queue.Queue.{Queue}
@@ -23,7 +25,7 @@ use Rattle.chanstate.specs.Given.{address_of, text_at}
 use Rattle.chanstate.specs.Items.{Single, channels_in, singles}
 use Rattle.chanstate.specs.Steps.{after}
 use Rattle.chanstate.specs.Views.{member_in, is_op}
-use Rattle.procstore.specs.declared.action.PutWish.{PutWish}
+use Rattle.procs.specs.declared.action.PutWish.{PutWish}
 use Rattle.botcore.specs.declared.config.Config.{Config}
 use Rattle.botcore.specs.declared.watched_command.WatchedCommand.{WatchedCommand}
 use Rattle.botcore.specs.declared.watched_command.WatchedCommand.TheVariants as cue
@@ -148,21 +150,32 @@ mode_wishes bans now who params s =
 -- ---- any message
 
 -- which message makes the bot queue lines, by the command
-abbrev pub is_command : List ℕ → List ℕ → Bool
-is_command word command = bytes_eq command word
+abbrev pub numeric_cue : Numeric → WatchedCommand
+numeric_cue Welcome = cue.RplWelcome
+numeric_cue ErroneousNickname = cue.Other
+numeric_cue NicknameInUse = cue.ErrNicknameInUse
+numeric_cue NickCollision = cue.Other
+numeric_cue UnavailableResource = cue.Other
+numeric_cue Other = cue.Other
 
 abbrev pub cue_of : List ℕ → WatchedCommand
 cue_of command =
     if is_command (codes "PING") command then cue.Ping
     else (if is_command (codes "JOIN") command then cue.Join
     else (if is_command (codes "MODE") command then cue.Mode
-    else (if is_command (codes "001") command then cue.RplWelcome
-    else (if is_command (codes "433") command then cue.ErrNicknameInUse
-    else cue.Other))))
+    else numeric_cue (numeric_of command)))
 
 -- the server has welcomed the bot
+abbrev pub welcomes : Numeric → Bool
+welcomes Welcome = true
+welcomes ErroneousNickname = false
+welcomes NicknameInUse = false
+welcomes NickCollision = false
+welcomes UnavailableResource = false
+welcomes Other = false
+
 abbrev pub is_welcome : Message → Bool
-is_welcome message = is_command (codes "001") message.command && not (length message.params == 0)
+is_welcome message = welcomes (numeric_of message.command) && not (length message.params == 0)
 
 -- the channels of a message on which it checks a person who has joined
 abbrev pub watched_by : WatchedCommand → Message → ChanState → List (List ℕ)

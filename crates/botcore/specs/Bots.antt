@@ -6,12 +6,12 @@ use Rattle.sharelink.specs.BotLinks.{BotEnd, new_bot_end}
 use Rattle.chanstate.specs.declared.state.ChanState.{ChanState}
 use Rattle.chanstate.specs.Views.{connected}
 use Rattle.outqueue.specs.Sending.{Sending, idle}
-use Rattle.procstore.specs.Promises.{Promised, code_at}
-use Rattle.procstore.specs.Seen.{Sight, Seen}
-use Rattle.bindtable.specs.Tables.{Table, no_binds}
+use Rattle.procs.specs.Promises.{Promised, code_at}
+use Rattle.procs.specs.Seen.{Sight, Seen}
+use Rattle.procs.specs.Tables.{Table, no_binds}
 use Rattle.botcore.specs.declared.config.Config.{Config}
-use Rattle.botcalls.specs.Dispatching.{Setting}
-use Rattle.botcalls.specs.Dispatched.{setting_of}
+use Rattle.procs.specs.Dispatching.{Setting}
+use Rattle.procs.specs.Dispatched.{setting_of}
 use Rattle.botcore.specs.Links.{link_records}
 
 -- who it is, its end of the link, its binds, oldest first, the channels that it is on, the last second of its clock,

@@ -1,6 +1,6 @@
 -- The letters and numbers of refusals, and the words of faults.
 use Rattle.std.specs.Prelude.{ℕ, List, Option, Some, None, codes}
-use Rattle.bindtable.specs.Tables.{code_of}
+use Rattle.procs.specs.Tables.{code_of}
 use Rattle.bottimers.specs.Faults.{letters_of}
 use Rattle.outqueue.specs.Refusals.{code_of as queue_code}
 use Rattle.sharelink.specs.Codes.{link_code}

@@ -4,15 +4,15 @@ use Rattle.ircline.specs.declared.message.Message.{Message}
 use Rattle.chanstate.specs.declared.state.ChanState.{ChanState}
 use Rattle.chanstate.specs.Steps.{after}
 use Rattle.outqueue.specs.Sending.{sent, after as after_sending}
-use Rattle.procstore.specs.declared.action.PutWish.{PutWish}
+use Rattle.procs.specs.declared.action.PutWish.{PutWish}
 use Rattle.botcore.specs.declared.fault.StepFault.{StepFault}
-use Rattle.botcalls.specs.declared.made_call.MadeCall.{MadeCall}
+use Rattle.procs.specs.declared.made_call.MadeCall.{MadeCall}
 use Rattle.botcore.specs.Acting.{Acting, actions_of, acted_all}
 use Rattle.botcore.specs.Automatic.{automatic_lines, is_welcome}
 use Rattle.botcore.specs.Bots.{Bot}
-use Rattle.botcalls.specs.Dispatching.{has_raw_one}
+use Rattle.procs.specs.Dispatching.{has_raw_one}
 use Rattle.botcore.specs.Links.{link_records}
-use Rattle.botcalls.specs.Made.{entry_of}
+use Rattle.procs.specs.Made.{entry_of}
 use Rattle.botcore.specs.Putting.{put_all, put_faults}
 
 -- before the first action

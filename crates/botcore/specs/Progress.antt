@@ -4,7 +4,7 @@ use Rattle.outqueue.specs.Sending.{Sending, with_first}
 use Rattle.outqueue.specs.declared.queues.Counts.{Counts}
 use Rattle.bottimers.specs.Held.{Held}
 use Rattle.userfile.specs.declared.change.Change.{Change}
-use Rattle.procstore.specs.declared.action.Action.{Action}
+use Rattle.procs.specs.declared.action.Action.{Action}
 use Rattle.sharelink.specs.declared.answer.Outgoing.{Outgoing}
 use Rattle.botcore.specs.declared.fault.StepFault.{StepFault}
 use Rattle.sharelink.specs.BotLinks.{BotEnd, keeps_asks}

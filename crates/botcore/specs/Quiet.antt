@@ -9,7 +9,7 @@ use Rattle.ircline.specs.declared.line.Line.TheVariants.{Message as a_message, B
 use Rattle.ircline.specs.declared.message.Message.{Message}
 use Rattle.chanstate.specs.Memory.{takes_memory}
 use Rattle.chanstate.specs.Views.{connected}
-use Rattle.bindtable.specs.Hearing.{hear_messages}
+use Rattle.procs.specs.Hearing.{hear_messages}
 use Rattle.botcore.specs.declared.event.BotEvent.{BotEvent}
 use Rattle.botcore.specs.declared.event.BotEvent.TheVariants.{Connect, Line, Ask, Pump, Receive, Clock, Bind, Unbind, Compact, Restart}
 use Rattle.botcore.specs.Automatic.{automatic_lines, watched_in}

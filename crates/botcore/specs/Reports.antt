@@ -2,21 +2,21 @@
 use Rattle.std.specs.Prelude.{ℕ, List, [], true, map, Option, Some, None, Result, Ok, Err}
 use Rattle.bytetext.specs.declared.failure.Failure.{Failure}
 use Rattle.bytetext.specs.declared.failure.Failure.TheVariants.{Refused as refused_by, NoMemory as no_memory}
-use Rattle.bindtable.specs.declared.fault.BindFault.{BindFault}
+use Rattle.procs.specs.declared.bind_fault.BindFault.{BindFault}
 use Rattle.sharelink.specs.declared.answer.Answer.{Answer}
 use Rattle.sharelink.specs.declared.answer.Outgoing.{Outgoing}
 use Rattle.sharelink.specs.declared.error.LinkFault.{LinkFault}
 use Rattle.botcore.specs.declared.fault.StepFault.{StepFault}
 use Rattle.botcore.specs.declared.fault.Refusal.{Refusal}
 use Rattle.botcore.specs.declared.fault.Refusal.TheVariants.{Link as link_refusal, Bind as bind_refusal}
-use Rattle.botcalls.specs.declared.made_call.MadeCall.{MadeCall}
+use Rattle.procs.specs.declared.made_call.MadeCall.{MadeCall}
 use Rattle.botcore.specs.declared.report.End.{End}
 use Rattle.botcore.specs.declared.report.End.TheVariants.{Done, Refused, NoMemory}
 use Rattle.botcore.specs.declared.report.Note.{Note}
 use Rattle.botcore.specs.declared.report.Note.TheVariants.{Link as link_note, Bound, Unbound}
 use Rattle.botcore.specs.declared.report.Report.{Report}
-use Rattle.botcalls.specs.Dispatching.{is_logged}
-use Rattle.botcalls.specs.Made.{entry_of}
+use Rattle.procs.specs.Dispatching.{is_logged}
+use Rattle.procs.specs.Made.{entry_of}
 
 -- an end and a note, no call, nothing to send, and no fault
 abbrev pub plain : End → Option Note → Report

@@ -1,8 +1,8 @@
 -- Occasions are happenings, with each minute as a calendar and a clock show it.
 use Rattle.std.specs.Prelude.{◌≡◌, List, [], ◌∷◌}
 use Rattle.bottimers.specs.Civil.{IsCalendarMinute}
-use Rattle.botcalls.specs.declared.trigger.Trigger.{Trigger}
-use Rattle.botcalls.specs.declared.trigger.Trigger.TheVariants.{Heard, Due, Time, Cron, Said}
+use Rattle.procs.specs.declared.trigger.Trigger.{Trigger}
+use Rattle.procs.specs.declared.trigger.Trigger.TheVariants.{Heard, Due, Time, Cron, Said}
 use Rattle.botcore.specs.declared.report.End.{End}
 use Rattle.botcore.specs.declared.report.End.TheVariants.{Done, Refused, NoMemory}
 use Rattle.botcore.specs.Happenings.{Happening}

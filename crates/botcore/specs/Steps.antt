@@ -8,12 +8,12 @@ use Rattle.bytetext.specs.Words.{first_word}
 use Rattle.chanstate.specs.Views.{connected}
 use Rattle.bottimers.specs.declared.fault.ClockFault.{ClockFault}
 use Rattle.bottimers.specs.Seconds.{reading_fault, seconds_run}
-use Rattle.procstore.specs.Promises.{Promised}
-use Rattle.procstore.specs.Seen.{Seen}
-use Rattle.bindtable.specs.declared.bind.Bind.{Bind as HeldBind}
-use Rattle.bindtable.specs.declared.fault.BindFault.{BindFault}
-use Rattle.bindtable.specs.declared.fault.BindFault.TheVariants.{NoSuchBind}
-use Rattle.bindtable.specs.Tables.{Table, Asked, refusal, number_of, bound, is_such, without_such}
+use Rattle.procs.specs.Promises.{Promised}
+use Rattle.procs.specs.Seen.{Seen}
+use Rattle.procs.specs.declared.bind.Bind.{Bind as HeldBind}
+use Rattle.procs.specs.declared.bind_fault.BindFault.{BindFault}
+use Rattle.procs.specs.declared.bind_fault.BindFault.TheVariants.{NoSuchBind}
+use Rattle.procs.specs.Tables.{Table, Asked, refusal, number_of, bound, is_such, without_such}
 use Rattle.sharewire.specs.declared.packet.Packet.{Packet}
 use Rattle.botjournal.specs.Ledger.{Device}
 use Rattle.protocol.specs.Bots.{How, Works, Fails, Row}
@@ -32,15 +32,15 @@ use Rattle.botcore.specs.declared.event.OldBind.{OldBind}
 use Rattle.botcore.specs.declared.fault.Refusal.TheVariants.{Bind as bind_refusal, Clock as clock_refusal}
 use Rattle.botcore.specs.declared.report.End.{End}
 use Rattle.botcore.specs.declared.report.End.TheVariants.{Done, Refused, NoMemory}
-use Rattle.botcalls.specs.declared.made_call.MadeCall.{MadeCall}
-use Rattle.botcalls.specs.declared.trigger.Trigger.{Trigger}
-use Rattle.botcalls.specs.declared.trigger.Trigger.TheVariants.{Heard, Said}
+use Rattle.procs.specs.declared.made_call.MadeCall.{MadeCall}
+use Rattle.procs.specs.declared.trigger.Trigger.{Trigger}
+use Rattle.procs.specs.declared.trigger.Trigger.TheVariants.{Heard, Said}
 use Rattle.botcore.specs.declared.report.Note.{Note}
 use Rattle.botcore.specs.declared.report.Note.TheVariants.{Link as link_note, Bound, Unbound, Bad}
 use Rattle.botcore.specs.declared.report.Report.{Report}
 use Rattle.botcore.specs.Bots.{Bot, bot_seen, bot_setting, restarted, with_device}
-use Rattle.botcalls.specs.Calls.{Entry, Telling, calls_in, unbound_in}
-use Rattle.botcalls.specs.Dispatching.{told_of, is_logged}
+use Rattle.procs.specs.Tellings.{Entry, Telling, calls_in, unbound_in}
+use Rattle.procs.specs.Dispatching.{told_of, is_logged}
 use Rattle.botcore.specs.Acting.{faults_of}
 use Rattle.botcore.specs.Happenings.{Saying, saying_of, seconds_of, passed_all}
 use Rattle.botcore.specs.Automatic.{greeting}
@@ -48,7 +48,7 @@ use Rattle.botcore.specs.Lines.{acting_of, acting_after, Finish, finish_text, fi
 use Rattle.botcore.specs.Putting.{put_all, put_faults}
 use Rattle.outqueue.specs.Sending.{idle}
 use Rattle.botcore.specs.Shown.{AreTaken}
-use Rattle.botcalls.specs.Made.{entry_of, AllKept}
+use Rattle.procs.specs.Made.{entry_of, AllKept}
 use Rattle.botcore.specs.Reports.{done, refused, out_of_memory, answer_report}
 
 -- ---- events that call nothing

@@ -1,14 +1,12 @@
 // Carries out the actions of calls.
 
 use crate::fault::{ActionFault, StepFault};
-use crate::putting::put;
 use crate::report::Faults;
-use botcalls::MadeCall;
 use bottimers::{TimerKind, Timers};
 use bytetext::{Failure, NoMemory, Seq, TryCopy};
 use disks::Disk;
 use outqueue::Queues;
-use procstore::{Action, BotWish, PutWish, TimerName, TimerWish};
+use procs::{Action, BotWish, MadeCall, PutWish, TimerName, TimerWish};
 use sharelink::{BotLink, Outgoings};
 use std::alloc::Global;
 use std::marker::Model;
@@ -208,15 +206,17 @@ impl Doing {
     }
 
     // Queues a line, or records why not.
+    #[tactic(auto, using(crate::proofs::PutLemmas::HasMoreLines_same, crate::proofs::PutLemmas::HasMoreLines_last))]
     fn put(&mut self, alloc: Global, wish: &PutWish) -> Result<(), NoMemory>
         ensures done { OnOk result ((link : BotEnd) → Leaves self.old (put_unless
             (refusal self.old.queues wish.now.queue wish.now.line) (acting_at link self.old) wish.now) link self.new) }
         ensures lines { HasMoreLines self.old.queues self.new.queues }
     {
-        let wish = wish.copy(alloc)?;
-        match put(&mut self.queues, wish)? {
-            None => Ok(()),
-            Some(fault) => self.tell(ActionFault::Queue(fault)),
+        let line = wish.line.copy(alloc)?;
+        match self.queues.put(wish.queue, line) {
+            Ok(()) => Ok(()),
+            Err(Failure::Refused(fault)) => self.tell(ActionFault::Queue(fault)),
+            Err(Failure::NoMemory) => Err(NoMemory),
         }
     }
 

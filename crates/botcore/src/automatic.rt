@@ -1,7 +1,7 @@
 // The lines that a bot queues by itself.
 ghost use Rattle.std.specs.Prelude.{◌≡◌, ◌∷◌, [], map, slice_get, IfOk, IsOk};
 ghost use Rattle.ircline.specs.Printing.{wants_colon};
-ghost use Rattle.botcore.specs.Automatic.{greeting, is_welcome, if_there, join_wish, other_nick, pong_wish};
+ghost use Rattle.botcore.specs.Automatic.{greeting, is_welcome, if_there, join_wish, other_nick, pong_wish, welcomes};
 
 use crate::bot::Bot;
 use crate::config::Config;
@@ -12,9 +12,9 @@ use crate::watched_command::{WatchedCommand, cue_of};
 use crate::wish::{alone, wish};
 use bytetext::{NoMemory, Text};
 use disks::Disk;
-use ircline::{Message, source};
+use ircline::{Message, Numeric, numeric_of, source};
 use outqueue::Queue;
-use procstore::PutWish;
+use procs::PutWish;
 use std::alloc::Global;
 
 impl<D: Disk> Bot<D> {
@@ -74,7 +74,21 @@ impl<D: Disk> Bot<D> {
 pub(crate) fn is_welcome(message: &Message) -> bool
     ensures { result ≡ is_welcome message.now }
 {
-    message.command.is_same(b"001") && !message.params.is_empty()
+    welcomes(numeric_of(message.command.as_bytes())) && !message.params.is_empty()
+}
+
+// Whether a numeric is the server's welcome.
+fn welcomes(numeric: Numeric) -> bool
+    ensures { result ≡ welcomes numeric }
+{
+    match numeric {
+        Numeric::Welcome => true,
+        Numeric::ErroneousNickname
+        | Numeric::NicknameInUse
+        | Numeric::NickCollision
+        | Numeric::UnavailableResource
+        | Numeric::Other => false,
+    }
 }
 
 // Returns the lines that a bot queues as soon as it has connected.

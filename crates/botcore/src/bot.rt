@@ -1,11 +1,11 @@
 // One bot.
 use crate::config::Config;
 use crate::presence::Presence;
-use bindtable::BindTable;
 use bottimers::{Clock, Timers};
 use bytejournal::Disks;
 use disks::Disk;
 use outqueue::Queues;
+use procs::BindTable;
 use sharelink::BotLink;
 use std::marker::Model;
 use userfile::Userfile;

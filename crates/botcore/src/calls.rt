@@ -7,12 +7,13 @@ use crate::acting::Doing;
 use crate::bot::Bot;
 use crate::fault::StepFault;
 use crate::report::Faults;
-use botcalls::{Dispatch, MadeCall, Scene, Trigger, Unbound, call_procs};
 use bottimers::Timers;
 use bytetext::{NoMemory, Seq, Texts, TryCopy};
 use disks::Disk;
 use outqueue::Queues;
-use procstore::{ProcStore, Promise, Run, View};
+use procs::{
+    Dispatch, MadeCall, ProcStore, Promise, Run, Scene, Trigger, Unbound, View, call_procs,
+};
 use sharelink::Outgoings;
 use std::alloc::Global;
 use std::mem;
@@ -40,12 +41,12 @@ pub(crate) struct Told {
 }
 
 impl<D: Disk> Bot<D> {
-    ghost use Rattle.std.specs.Prelude.{◌≡◌, ◌≤◌, ◌++◌, [], length, unwrap_or, IfOk, IfSome, IsOk, OnOk};
+    ghost use Rattle.std.specs.Prelude.{◌≡◌, ◌≤◌, [], length, unwrap_or, IfOk, IfSome, IsOk, OnOk};
     ghost use Rattle.botcore.specs.Rising.{IsReached};
     ghost use Rattle.sharelink.specs.declared.TheConstants.{MAX_TEXTS};
-    ghost use Rattle.botcore.specs.Acting.{action_faults, actions_of, faults_of};
+    ghost use Rattle.botcore.specs.Acting.{faults_of};
     ghost use Rattle.botcore.specs.Bots.{bot_setting, seen_at};
-    ghost use Rattle.botcalls.specs.Dispatched.{IsDispatched};
+    ghost use Rattle.procs.specs.Dispatched.{IsDispatched};
     ghost use Rattle.botcore.specs.Lines.{acting_of, acting_after};
     ghost use Rattle.botcore.specs.Progress.{HasMore};
 
@@ -73,7 +74,7 @@ impl<D: Disk> Bot<D> {
 
     // Carries out the actions of calls on the link and the queues, and returns what else they change. Out of memory,
     // some asks and lines may have been added.
-    pub(crate) fn act(
+    pub(crate) fn carry_out(
         &mut self,
         alloc: Global,
         calls: &[MadeCall],
@@ -99,28 +100,6 @@ impl<D: Disk> Bot<D> {
                 faults,
             });
         }
-        self.act_for(alloc, calls, faults)
-    }
-
-    // Carries out the actions of calls, and appends the refusals to the faults.
-    fn act_for(
-        &mut self,
-        alloc: Global,
-        calls: &[MadeCall],
-        faults: Faults,
-    ) -> Result<Left, NoMemory>
-        ensures faults { IfOk result (λ left. left.faults ≡
-            faults ++ action_faults (acting_of self.old) (actions_of calls.now)) }
-        ensures packets { IfOk result (λ left. left.packets ≡ (acting_after self.old calls.now).sent) }
-        ensures few { IfOk result (λ left. length left.packets ≤ MAX_TEXTS) }
-        ensures timers { IfOk result (λ left. unwrap_or left.timers self.old.timers ≡ (acting_after self.old calls.now).timers) }
-        ensures reading { IfOk result (λ left. IfSome left.timers (λ timers. IsReached timers.last self.old.clock)) }
-        ensures ok { OnOk result (self.new ≡ record self.old {
-          link = (acting_after self.old calls.now).link;
-          queues = (acting_after self.old calls.now).queues;
-        }) }
-        ensures kept { HasMore self.old self.new }
-    {
         let timers = self.timers.copy(alloc)?;
         let queues = mem::replace(&mut self.queues, Queues::new(alloc));
         let mut doing = Doing::new(alloc, timers, self.clock.last(), queues, faults);

@@ -1,7 +1,7 @@
 // The events that a bot handles.
-use bindtable::BindKind;
 use bytetext::{NoMemory, Text, TryCopy};
 use ircline::Line;
+use procs::BindKind;
 use sharelink::Packet;
 use std::alloc::Global;
 use userfile::Change;
@@ -48,7 +48,7 @@ impl TryCopy for BotEvent {
     }
 }
 
-/// A requested bind. See [`BindTable::bind`](bindtable::BindTable::bind) for the limits of each field.
+/// A requested bind. See [`BindTable::bind`](procs::BindTable::bind) for the limits of each field.
 pub struct NewBind {
     /// The kind of event.
     pub kind: BindKind,

@@ -5,12 +5,11 @@ ghost use Rattle.botcore.specs.Configs.{code_of};
 ghost use Rattle.botcore.specs.Making.{of_journal};
 ghost use Rattle.botcore.specs.Codes.{action_code, refusal_code, fault_word, fault_proc};
 
-use bindtable::BindFault;
-use botcalls::Unbound;
 use bottimers::ClockFault;
 use bytejournal::{JournalError, JournalFault};
 use bytetext::{Failure, NoMemory, TryCopy};
 use outqueue::QueueFault;
+use procs::{BindFault, Unbound};
 use sharelink::LinkFault;
 use std::alloc::Global;
 use thiserror::Error;

@@ -15,7 +15,7 @@ use bytetext::{NoMemory, Text};
 use chanstate::ChanState;
 use ircline::{Person, Source};
 use outqueue::Queue;
-use procstore::PutWish;
+use procs::PutWish;
 use rfccase::{is_channel_name, same};
 use std::alloc::Global;
 use userfile::{Ban, Userfile};

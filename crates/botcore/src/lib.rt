@@ -9,7 +9,7 @@
 //! a reading calls see the second of that reading, from which their timers count.
 //!
 //! `specs/Steps.antt` states in full what a step may report and leave. `specs/Happenings.antt` defines what happens in
-//! an event. Its calls are those of `botcalls`, each with a reply that keeps its proc's promise, and
+//! an event. Its calls are those of `procs`, each with a reply that keeps its proc's promise, and
 //! `specs/Acting.antt` defines what their actions do. Lines for the server wait in queues: the lines that procs queue,
 //! and the lines that the bot queues by itself (`specs/Automatic.antt`). A reading of the clock reports the lines that
 //! may go. A step that runs out of memory leaves the bot as it was. A restart that runs out of memory leaves its end

@@ -1,60 +1,74 @@
 // What a line of the server and a text of another bot do to a bot.
 ghost use Rattle.std.specs.Prelude.{◌≡◌, map, IfOk};
 ghost use Rattle.chanstate.specs.Events.{events_of};
-ghost use Rattle.botcalls.specs.declared.trigger.Trigger.TheVariants.{Heard};
+ghost use Rattle.procs.specs.declared.trigger.Trigger.TheVariants.{Heard};
 ghost use Rattle.botcore.specs.Steps.{said_occasions};
 
 use crate::automatic::is_welcome;
 use crate::bot::Bot;
 use crate::calls::{Left, Told};
+use crate::event::BotEvent;
 use crate::putting::put_all;
 use crate::report::{End, Faults, Note, Report};
-use botcalls::{Dispatch, MadeCall, Trigger, Unbound, has_raw_one, starts_with_word};
 use bytetext::{NoMemory, Seq, Text, TryCopy};
 use chanstate::{ChanState, events};
 use disks::Disk;
-use ircline::Message;
-use procstore::{ProcStore, Promise, PutWish, Run};
+use ircline::{Line, Message};
+use procs::{
+    Dispatch, MadeCall, ProcStore, Promise, PutWish, Run, Trigger, Unbound, has_raw_one,
+    starts_with_word,
+};
 use std::alloc::Global;
 
 impl<D: Disk> Bot<D> {
-    ghost use Rattle.std.specs.Prelude.{◌≡◌, ◌≢◌, ◌≤◌, ◌++◌, [], false, length, map, IfOk, IsOk, IsOkAnd, OnOk, OnErr};
-    ghost use Rattle.bindtable.specs.Hearing.{hear_messages};
+    ghost use Rattle.std.specs.Prelude.{◌≡◌, ◌≢◌, ◌≤◌, ◌++◌, ◌||◌, [], false, length, map, IfOk, IsOk, IsOkAnd, OnOk, OnErr};
+    ghost use Rattle.procs.specs.Hearing.{hear_messages};
     ghost use Rattle.chanstate.specs.Events.{events_of};
     ghost use Rattle.chanstate.specs.Memory.{takes_memory};
+    ghost use Rattle.chanstate.specs.Steps.{after};
     ghost use Rattle.chanstate.specs.Views.{connected};
     ghost use Rattle.sharelink.specs.declared.TheConstants.{MAX_TEXTS};
-    ghost use Rattle.botcalls.specs.declared.trigger.Trigger.TheVariants.{Heard as heard_event};
+    ghost use Rattle.sharelink.specs.Shapes.{AreGood};
+    ghost use Rattle.procs.specs.declared.trigger.Trigger.TheVariants.{Heard as heard_event};
     ghost use Rattle.botcore.specs.Acting.{faults_of};
     ghost use Rattle.botcore.specs.Bots.{bot_seen, bot_setting};
-    ghost use Rattle.botcalls.specs.Dispatched.{IsDispatched};
+    ghost use Rattle.procs.specs.Dispatched.{IsDispatched};
     ghost use Rattle.botcore.specs.Lines.{acting_of, acting_after, after_calls, after_line, finish_line};
-    ghost use Rattle.botcore.specs.Lines.{channels_after, own_lines, welcomed_after};
     ghost use Rattle.botcore.specs.Progress.{HasMore};
     ghost use Rattle.botcore.specs.Putting.{put_all, put_faults};
-    ghost use Rattle.botcore.specs.Automatic.{watched_in};
-    ghost use Rattle.botcore.specs.Quiet.{BringsNothing};
-    ghost use Rattle.botcore.specs.Steps.{TakesMessage, TakesText, said_occasions as occasions_of_text};
+    ghost use Rattle.botcore.specs.Automatic.{is_welcome};
+    ghost use Rattle.botcore.specs.Quiet.{BringsNothing, NeedsNone};
+    ghost use Rattle.botcore.specs.Steps.{TakesStep, TakesText, said_occasions as occasions_of_text};
 
-    // Handles a message of the server: calls its procs, and then carries out all of their actions, or none.
-    pub(crate) fn hear<P: Promise, B: Run>(
+    /// Makes the step of `line`, which stays the caller's, with the procs of `store`, as [`Bot::step`] does for
+    /// [`BotEvent::Line`]. It sends at most 64 packets.
+    pub fn take_line<P: Promise, B: Run>(
         &mut self,
         alloc: Global,
         store: &ProcStore<P, B>,
-        message: &Message,
+        line: &Line,
     ) -> Report
-        ensures takes { TakesMessage P.promised store.now self.old message.now result self.new }
+        ensures takes { TakesStep P.promised store.now self.old (BotEvent.Line line.now) result self.new }
         ensures few { length result.packets ≤ MAX_TEXTS }
-        ensures needs_none { BringsNothing self.old message.now → result.end ≢ End.NoMemory }
+        ensures good_records { AreGood result.packets }
+        ensures needs_none { NeedsNone self.old (BotEvent.Line line.now) → result.end ≢ End.NoMemory }
     {
+        let message = match line {
+            Line::Message(message) => message,
+            Line::Bad(fault) => return Report::done(alloc, Some(Note::Bad(*fault))),
+        };
         let made = match self.call_for_message(alloc, store, message) {
             Ok(made) => made,
             Err(made) => return Report::cut_short(alloc, made.into_parts().0),
         };
         let (calls, unbound) = made.into_parts();
-        match self.settle_message(alloc, calls.as_slice(), unbound, message) {
+        let marks = self.marks();
+        match self.act_on_message(alloc, calls.as_slice(), unbound, message) {
             Ok(told) => Report::told(None, calls, told.packets, told.lines, told.faults),
-            Err(NoMemory) => Report::cut_short(alloc, calls),
+            Err(NoMemory) => {
+                self.take_back(marks);
+                Report::cut_short(alloc, calls)
+            }
         }
     }
 
@@ -80,34 +94,8 @@ impl<D: Disk> Bot<D> {
         }
     }
 
-    // Carries out the actions of calls, takes their message in and queues the bot's own lines: all of it, or nothing.
-    fn settle_message(
-        &mut self,
-        alloc: Global,
-        calls: &[MadeCall],
-        unbound: Vec<Unbound>,
-        message: &Message,
-    ) -> Result<Told, NoMemory>
-        ensures faults { IfOk result (λ told. told.faults ≡
-            faults_of (acting_of self.old) calls.now unbound.items ++ (finish_line self.old message.now calls.now).faults) }
-        ensures packets { IfOk result (λ told. told.packets ≡ (acting_after self.old calls.now).sent) }
-        ensures lines { IfOk result (λ told. told.lines ≡ []) }
-        ensures few { IfOk result (λ told. length told.packets ≤ MAX_TEXTS) }
-        ensures ok { OnOk result (self.new ≡ after_line self.old message.now calls.now) }
-        ensures err { OnErr result (self.new ≡ self.old) }
-        ensures needs_none { calls.now ≡ [] → unbound.items ≡ [] → BringsNothing self.old message.now → IsOk result }
-    {
-        let marks = self.marks();
-        match self.act_on_message(alloc, calls, unbound, message) {
-            Ok(told) => Ok(told),
-            Err(NoMemory) => {
-                self.take_back(marks);
-                Err(NoMemory)
-            }
-        }
-    }
-
-    // Does the same, but out of memory some asks and lines may have been added. The message is taken in last.
+    // Carries out the actions of calls. Then, unless a raw proc has answered 1, queues the bot's own lines and takes the
+    // message in. Out of memory, some asks and lines may have been added.
     fn act_on_message(
         &mut self,
         alloc: Global,
@@ -124,14 +112,17 @@ impl<D: Disk> Bot<D> {
         ensures err { OnErr result (HasMore self.old self.new) }
         ensures needs_none { calls.now ≡ [] → unbound.items ≡ [] → BringsNothing self.old message.now → IsOk result }
     {
-        let wishes = self.own_lines(alloc, calls, message)?;
+        if has_raw_one(calls) {
+            return self.act_alone(alloc, calls, unbound);
+        }
+        let wishes = self.automatic_lines(alloc, self.welcomed, message)?;
         let Left {
             timers,
             packets,
             mut faults,
-        } = self.act(alloc, calls, unbound)?;
+        } = self.carry_out(alloc, calls, unbound)?;
         self.put_own(wishes, &mut faults)?;
-        self.take_in(alloc, calls, message)?;
+        self.take_in(alloc, message)?;
         self.put_timers(timers);
         let lines = Seq::empty(alloc);
         Ok(Told {
@@ -141,21 +132,33 @@ impl<D: Disk> Bot<D> {
         })
     }
 
-    // Returns the bot's own lines for a message with these calls.
-    fn own_lines(
-        &self,
+    // Carries out the actions of calls, and nothing more. Out of memory, some asks and lines may have been added.
+    fn act_alone(
+        &mut self,
         alloc: Global,
         calls: &[MadeCall],
-        message: &Message,
-    ) -> Result<Vec<PutWish>, NoMemory>
-        ensures lines { IfOk result (λ wishes. wishes.items ≡ own_lines self.now message.now calls.now) }
-        ensures needs_none { own_lines self.now message.now calls.now ≡ [] → watched_in message.now self.now.channels ≡ []
-            → IsOk result }
+        unbound: Vec<Unbound>,
+    ) -> Result<Told, NoMemory>
+        ensures faults { IfOk result (λ told. told.faults ≡ faults_of (acting_of self.old) calls.now unbound.items) }
+        ensures packets { IfOk result (λ told. told.packets ≡ (acting_after self.old calls.now).sent) }
+        ensures lines { IfOk result (λ told. told.lines ≡ []) }
+        ensures few { IfOk result (λ told. length told.packets ≤ MAX_TEXTS) }
+        ensures ok { OnOk result (self.new ≡ after_calls self.old calls.now) }
+        ensures err { OnErr result (HasMore self.old self.new) }
+        ensures needs_none { calls.now ≡ [] → unbound.items ≡ [] → IsOk result }
     {
-        if has_raw_one(calls) {
-            return Ok(Vec::new(alloc));
-        }
-        self.automatic_lines(alloc, self.welcomed, message)
+        let Left {
+            timers,
+            packets,
+            faults,
+        } = self.carry_out(alloc, calls, unbound)?;
+        self.put_timers(timers);
+        let lines = Seq::empty(alloc);
+        Ok(Told {
+            packets,
+            lines,
+            faults,
+        })
     }
 
     // Queues lines of the bot's own, and appends the refusals to the faults.
@@ -172,24 +175,16 @@ impl<D: Disk> Bot<D> {
         }
     }
 
-    // Applies a message with these calls to the channel state, unless a raw proc has answered 1.
-    fn take_in(
-        &mut self,
-        alloc: Global,
-        calls: &[MadeCall],
-        message: &Message,
-    ) -> Result<(), NoMemory>
+    // Applies a message to the channel state.
+    fn take_in(&mut self, alloc: Global, message: &Message) -> Result<(), NoMemory>
         ensures ok { OnOk result (self.new ≡ record self.old {
-          channels = channels_after self.old.channels calls.now message.now;
-          welcomed = welcomed_after self.old.welcomed calls.now message.now;
+          channels = after message.now self.old.channels;
+          welcomed = self.old.welcomed || is_welcome message.now;
         }) }
         ensures err { OnErr result (self.new ≡ self.old) }
         ensures needs_none { takes_memory message.now self.old.channels ≡ false
             → self.old.channels ≢ connected self.old.config.nick → IsOk result }
     {
-        if has_raw_one(calls) {
-            return Ok(());
-        }
         match self.channels.apply(alloc, message) {
             Ok(()) => {
                 self.welcomed = self.welcomed || is_welcome(message);
@@ -239,15 +234,8 @@ impl<D: Disk> Bot<D> {
         ensures err { OnErr result (self.new ≡ self.old) }
     {
         let marks = self.marks();
-        match self.act(alloc, calls, unbound) {
-            Ok(left) => {
-                self.put_timers(left.timers);
-                Ok(Told {
-                    packets: left.packets,
-                    lines: Seq::empty(alloc),
-                    faults: left.faults,
-                })
-            }
+        match self.act_alone(alloc, calls, unbound) {
+            Ok(told) => Ok(told),
             Err(NoMemory) => {
                 self.take_back(marks);
                 Err(NoMemory)

@@ -8,12 +8,12 @@ use crate::bot::Bot;
 use crate::config::Config;
 use crate::fault::{BotError, of_journal};
 use crate::presence::Presence;
-use bindtable::BindTable;
 use bottimers::{Clock, Timers};
 use bytejournal::Disks;
 use bytetext::{Failure, NoMemory};
 use disks::Disk;
 use outqueue::Queues;
+use procs::BindTable;
 use sharelink::BotLink;
 use std::alloc::Global;
 

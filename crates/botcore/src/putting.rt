@@ -1,13 +1,13 @@
 // Puts lines into queues.
-ghost use Rattle.std.specs.Prelude.{◌≡◌, ◌++◌, [], IfOk, OnOk};
+ghost use Rattle.std.specs.Prelude.{◌≡◌, ◌++◌, [], OnOk};
 ghost use Rattle.outqueue.specs.Refusals.{refusal};
 ghost use Rattle.botcore.specs.Putting.{HasMoreLines, put_all, put_faults, queued, with_line_fault};
 
 use crate::fault::StepFault;
 use crate::report::Faults;
 use bytetext::{Failure, NoMemory};
-use outqueue::{QueueFault, Queues};
-use procstore::PutWish;
+use outqueue::Queues;
+use procs::PutWish;
 
 // Queues lines of the bot's own, in order, and appends the refusals to the faults. Out of memory, some of them may be
 // queued.
@@ -27,26 +27,15 @@ pub(crate) fn put_all(
 }
 
 // Queues a line of the bot's own, or appends the refusal to the faults.
+#[tactic(auto, using(crate::proofs::PutLemmas::HasMoreLines_same, crate::proofs::PutLemmas::HasMoreLines_last))]
 fn put_one(queues: &mut Queues, faults: &mut Faults, wish: PutWish) -> Result<(), NoMemory>
     ensures queues { OnOk result (queues.new ≡ queued queues.old wish) }
     ensures faults { OnOk result (faults.new ≡ faults.old ++ with_line_fault (refusal queues.old wish.queue wish.line) []) }
     ensures kept { HasMoreLines queues.old queues.new }
 {
-    match put(queues, wish)? {
-        Some(fault) => faults.push(StepFault::Line(fault)),
-        None => Ok(()),
-    }
-}
-
-// Appends a line to its queue, or returns why the queue refuses it.
-pub(crate) fn put(queues: &mut Queues, wish: PutWish) -> Result<Option<QueueFault>, NoMemory>
-    ensures refusal { IfOk result (λ fault. fault ≡ refusal queues.old wish.queue wish.line) }
-    ensures queues { OnOk result (queues.new ≡ queued queues.old wish) }
-    ensures kept { HasMoreLines queues.old queues.new }
-{
     match queues.put(wish.queue, wish.line) {
-        Ok(()) => Ok(None),
-        Err(Failure::Refused(fault)) => Ok(Some(fault)),
+        Ok(()) => Ok(()),
+        Err(Failure::Refused(fault)) => faults.push(StepFault::Line(fault)),
         Err(Failure::NoMemory) => Err(NoMemory),
     }
 }

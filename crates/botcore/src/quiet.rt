@@ -41,7 +41,7 @@ impl<D: Disk> Bot<D> {
         ensures err { OnErr result (self.new ≡ self.old) }
         ensures needs_none { sent self.old.queues now ≡ [] → IsOk result }
     {
-        match self.send(alloc, now) {
+        match self.queues.drain(alloc, now) {
             Ok(lines) => {
                 self.run_on(now);
                 Ok(lines)

@@ -8,11 +8,10 @@ use crate::calls::{Left, Told};
 use crate::fault::Refusal;
 use crate::report::{End, Report};
 use crate::running::run_seconds;
-use botcalls::{MadeCall, Trigger, Unbound};
 use bottimers::{Clock, ClockFault, Timers};
 use bytetext::{MOMENTS_END, NoMemory, Seq, Texts, TryCopy};
 use disks::Disk;
-use procstore::{ProcStore, Promise, Run};
+use procs::{MadeCall, ProcStore, Promise, Run, Trigger, Unbound};
 use std::alloc::Global;
 use std::mem;
 
@@ -25,7 +24,7 @@ struct Ran {
 }
 
 impl<D: Disk> Bot<D> {
-    ghost use Rattle.std.specs.Prelude.{◌≡◌, ◌≢◌, ◌≤◌, ◌<◌, [], false, Some, length, IfOk, IsOk, OnOk, OnErr};
+    ghost use Rattle.std.specs.Prelude.{◌≡◌, ◌≢◌, ◌≤◌, ◌<◌, false, Some, length, IfOk, OnOk, OnErr};
     ghost use Rattle.bytetext.specs.declared.moment.TheConstants.{MOMENTS_END as end_of_moments};
     ghost use Rattle.botcore.specs.Rising.{IsReached};
     ghost use Rattle.bottimers.specs.Seconds.{reading_fault, seconds_run};
@@ -35,11 +34,10 @@ impl<D: Disk> Bot<D> {
     ghost use Rattle.botcore.specs.Lines.{acting_of, acting_after, finish_reading};
     ghost use Rattle.botcore.specs.Progress.{HasMore};
     ghost use Rattle.botcore.specs.Quiet.{PassesQuietly};
-    ghost use Rattle.outqueue.specs.Sending.{sent, after as after_sending};
     ghost use Rattle.botcore.specs.Shown.{AreOccasions};
-    ghost use Rattle.botcore.specs.Steps.{TakesReading, TakesSeconds, is_stale, run_to};
+    ghost use Rattle.botcore.specs.Steps.{TakesReading, is_stale, run_to};
 
-    /// Makes the step of the reading `now` with the procs of `store`, as [`Bot::step`] does for [`Event::Clock`]. It
+    /// Makes the step of the reading `now` with the procs of `store`, as [`Bot::step`] does for [`BotEvent::Clock`]. It
     /// sends at most 64 packets.
     pub fn read_clock<P: Promise, B: Run>(
         &mut self,
@@ -57,22 +55,6 @@ impl<D: Disk> Bot<D> {
         if is_stale(self.clock.last(), now) {
             return Report::done(alloc, None);
         }
-        self.take_seconds(alloc, store, now)
-    }
-
-    // Handles a reading that is the first, or above the last.
-    fn take_seconds<P: Promise, B: Run>(
-        &mut self,
-        alloc: Global,
-        store: &ProcStore<P, B>,
-        now: u64,
-    ) -> Report
-        requires moment { now < end_of_moments }
-        requires above { is_stale self.old.clock now ≡ false }
-        ensures takes { TakesSeconds P.promised store.now self.old now result self.new }
-        ensures few { length result.packets ≤ MAX_TEXTS }
-        ensures needs_none { PassesQuietly self.old now → result.end ≢ End.NoMemory }
-    {
         if self.is_still_until(now) {
             return quiet_report(alloc, self.pass_to(alloc, now));
         }
@@ -195,25 +177,14 @@ impl<D: Disk> Bot<D> {
             timers,
             packets,
             faults,
-        } = self.act(alloc, calls, unbound)?;
-        let lines = self.send(alloc, now)?;
+        } = self.carry_out(alloc, calls, unbound)?;
+        let lines = self.queues.drain(alloc, now)?;
         self.put_timers(timers);
         Ok(Told {
             packets,
             lines,
             faults,
         })
-    }
-
-    // Sends the lines that may go. It does not allocate if no line goes.
-    pub(crate) fn send(&mut self, alloc: Global, now: u64) -> Result<Texts, NoMemory>
-        requires { now < end_of_moments }
-        ensures lines { IfOk result (λ lines. lines ≡ sent self.old.queues now) }
-        ensures ok { OnOk result (self.new ≡ record self.old { queues = after_sending self.old.queues now }) }
-        ensures err { OnErr result (self.new ≡ self.old) }
-        ensures nothing_goes { sent self.old.queues now ≡ [] → IsOk result }
-    {
-        self.queues.drain(alloc, now)
     }
 
     // Stores this clock and these timers, and returns the previous ones. Does not allocate.

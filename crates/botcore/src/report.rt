@@ -5,9 +5,8 @@ ghost use Rattle.botcore.specs.Reports.{plain, done, refused, out_of_memory};
 ghost use Rattle.botcore.specs.Reports.{answer_report, bind_report, unbind_report};
 
 use crate::fault::{Refusal, StepFault};
-use bindtable::{BindError, BindFault};
-use botcalls::{MadeCalls, is_logged};
 use bytetext::{Failure, NoMemory, Seq, Texts, TryCopy};
+use procs::{BindError, BindFault, MadeCalls, is_logged};
 use sharelink::{Answer, LinkError, Outgoings};
 use std::alloc::Global;
 

@@ -3,14 +3,14 @@ ghost use Rattle.std.specs.Prelude.{◌≡◌, ◌<◌, map, IfOk, OnOk};
 ghost use Rattle.bytetext.specs.declared.moment.TheConstants.{MOMENTS_END};
 ghost use Rattle.bottimers.specs.Held.{IsAbove, calls_at, passed};
 ghost use Rattle.botcore.specs.Happenings.{minute_of, second_of, seconds_of, passed_all};
-ghost use Rattle.botcalls.specs.declared.trigger.Trigger.TheVariants.{Due};
+ghost use Rattle.procs.specs.declared.trigger.Trigger.TheVariants.{Due};
 ghost use Rattle.botcore.specs.Shown.{AreOccasions};
 ghost use Rattle.botcore.specs.Rising.{Rise};
 
 use crate::config::Config;
-use botcalls::Trigger;
 use bottimers::{Timers, Zone, civil};
 use bytetext::NoMemory;
+use procs::Trigger;
 use std::alloc::Global;
 
 // Advances the timers through these seconds, and returns what happens in them.

@@ -3,30 +3,26 @@ use crate::automatic::greeting;
 use crate::bot::Bot;
 use crate::event::{BotEvent, NewBind, OldBind};
 use crate::putting::put_all;
-use crate::report::{End, Faults, Note, Report};
+use crate::report::{End, Faults, Report};
 use bottimers::{Clock, Timers};
 use bytetext::{NoMemory, Seq};
 use disks::Disk;
-use ircline::Line;
 use outqueue::Queues;
-use procstore::{ProcStore, Promise, Run};
+use procs::{ProcStore, Promise, Run};
 use sharelink::{Answer, Packet};
 use std::alloc::Global;
-use userfile::Change;
 
 impl<D: Disk> Bot<D> {
     ghost use Rattle.std.specs.Prelude.{◌≡◌, ◌≢◌, ◌≤◌, ◌+◌, [], Some, None, Ok, length, IfOk, OnOk, OnErr};
     ghost use Rattle.botcore.specs.Happenings.{Saying, saying_in};
     ghost use Rattle.botcore.specs.Reports.{answer_report};
-    ghost use Rattle.sharelink.specs.declared.TheConstants.{MAX_LEAVES, MAX_TEXTS};
+    ghost use Rattle.sharelink.specs.declared.TheConstants.{MAX_LEAVES};
     ghost use Rattle.sharelink.specs.Calls.{note_of};
     ghost use Rattle.sharelink.specs.Shapes.{AreGood, HasGoodRecords};
-    ghost use Rattle.protocol.specs.Network.Event.{Pump as pumps, Compact as compacts};
-    ghost use Rattle.sharelink.specs.BotLinks.{did};
     ghost use Rattle.botcore.specs.Bots.{restarted};
     ghost use Rattle.botcore.specs.Quiet.{NeedsNone};
     ghost use Rattle.botcore.specs.Steps.{TakesStep, TakesText, IsGoodEvent};
-    ghost use Rattle.botcore.specs.Steps.{Gives, GivesAsk, GivesRow, GivesRestart, GivesBind, GivesUnbind, connect_due, asked_of};
+    ghost use Rattle.botcore.specs.Steps.{Gives, GivesRestart, GivesBind, GivesUnbind, connect_due, asked_of};
 
     /// Makes one step: handles `event` with the procs of `store` and reports what came of it.
     ///
@@ -57,6 +53,7 @@ impl<D: Disk> Bot<D> {
     /// - a reading, if at its seconds no timer is due and no minute begins, and no line may go.
     ///
     /// A step sends at most 1,001 packets.
+    #[tactic(auto, using(crate::proofs::AskLemmas::answer_ends))]
     pub fn step<P: Promise, B: Run>(
         &mut self,
         alloc: Global,
@@ -73,13 +70,13 @@ impl<D: Disk> Bot<D> {
         match event {
             BotEvent::Connect => self.connect(alloc),
             BotEvent::Line(line) => self.take_line(alloc, store, &line),
-            BotEvent::Ask(change) => self.ask(alloc, change),
-            BotEvent::Pump => self.pump(alloc),
+            BotEvent::Ask(change) => Report::of_answer(alloc, self.link.ask(alloc, change)),
+            BotEvent::Pump => Report::of_answer(alloc, self.link.pump(alloc)),
             BotEvent::Receive(packet) => self.receive(alloc, store, &packet),
             BotEvent::Clock(now) => self.read_clock(alloc, store, now),
             BotEvent::Bind(asked) => self.bind(alloc, &asked),
             BotEvent::Unbind(gone) => self.unbind(alloc, &gone),
-            BotEvent::Compact => self.compact(alloc),
+            BotEvent::Compact => Report::of_answer(alloc, self.link.compact(alloc)),
             BotEvent::Restart => self.restart(alloc),
         }
     }
@@ -114,57 +111,6 @@ impl<D: Disk> Bot<D> {
         self.queues = queues;
         self.welcomed = false;
         Ok(faults)
-    }
-
-    /// Makes the step of `line`, which stays the caller's, with the procs of `store`, as [`Bot::step`] does for
-    /// [`BotEvent::Line`]. It sends at most 64 packets.
-    pub fn take_line<P: Promise, B: Run>(
-        &mut self,
-        alloc: Global,
-        store: &ProcStore<P, B>,
-        line: &Line,
-    ) -> Report
-        ensures takes { TakesStep P.promised store.now self.old (BotEvent.Line line.now) result self.new }
-        ensures few { length result.packets ≤ MAX_TEXTS }
-        ensures good_records { AreGood result.packets }
-        ensures needs_none { NeedsNone self.old (BotEvent.Line line.now) → result.end ≢ End.NoMemory }
-    {
-        match line {
-            Line::Message(message) => self.hear(alloc, store, message),
-            Line::Bad(fault) => Report::done(alloc, Some(Note::Bad(*fault))),
-        }
-    }
-
-    // Queues a change. Does not allocate.
-    #[tactic(auto, using(crate::proofs::AskLemmas::answer_ends))]
-    fn ask(&mut self, alloc: Global, change: Change) -> Report
-        ensures takes { GivesAsk self.old change result self.new }
-        ensures few { length result.packets ≤ MAX_LEAVES + 1 }
-        ensures good_records { AreGood result.packets }
-        ensures memory { result.end ≢ End.NoMemory }
-    {
-        let answer = self.link.ask(alloc, change);
-        Report::of_answer(alloc, answer)
-    }
-
-    // Does the next piece of the link's work.
-    fn pump(&mut self, alloc: Global) -> Report
-        ensures takes { GivesRow self.old (did self.old.link pumps) result self.new }
-        ensures few { length result.packets ≤ MAX_LEAVES + 1 }
-        ensures good_records { AreGood result.packets }
-    {
-        let answer = self.link.pump(alloc);
-        Report::of_answer(alloc, answer)
-    }
-
-    // Compacts the journal to the state alone.
-    fn compact(&mut self, alloc: Global) -> Report
-        ensures takes { GivesRow self.old (did self.old.link compacts) result self.new }
-        ensures few { length result.packets ≤ MAX_LEAVES + 1 }
-        ensures good_records { AreGood result.packets }
-    {
-        let answer = self.link.compact(alloc);
-        Report::of_answer(alloc, answer)
     }
 
     // Opens the journal again, and then the bot begins again.

@@ -14,7 +14,7 @@ use bytetext::{NoMemory, Text};
 use chanstate::modes::{argument, is_mode, mark_in, next_arguments, next_sign};
 use chanstate::{ChanState, Mark, Support};
 use ircline::Source;
-use procstore::PutWish;
+use procs::PutWish;
 use rfccase::same;
 use std::alloc::Global;
 use userfile::Userfile;

@@ -1,6 +1,8 @@
 // Which messages make a bot queue lines by itself.
 ghost use Rattle.std.specs.Prelude.{◌≡◌};
-ghost use Rattle.botcore.specs.Automatic.{cue_of};
+ghost use Rattle.botcore.specs.Automatic.{cue_of, numeric_cue};
+
+use ircline::{Numeric, numeric_of};
 
 /// A command, by the lines that a bot queues for it (RFC 2812 sections 3.1 to 3.7 and 5).
 #[derive(Clone, Copy)]
@@ -27,8 +29,20 @@ pub(crate) fn cue_of(command: &[u8]) -> WatchedCommand
         b"PING" => WatchedCommand::Ping,
         b"JOIN" => WatchedCommand::Join,
         b"MODE" => WatchedCommand::Mode,
-        b"001" => WatchedCommand::RplWelcome,
-        b"433" => WatchedCommand::ErrNicknameInUse,
-        _ => WatchedCommand::Other,
+        _ => numeric_cue(numeric_of(command)),
+    }
+}
+
+// Returns the cue of a numeric.
+fn numeric_cue(numeric: Numeric) -> WatchedCommand
+    ensures { result ≡ numeric_cue numeric }
+{
+    match numeric {
+        Numeric::Welcome => WatchedCommand::RplWelcome,
+        Numeric::NicknameInUse => WatchedCommand::ErrNicknameInUse,
+        Numeric::ErroneousNickname
+        | Numeric::NickCollision
+        | Numeric::UnavailableResource
+        | Numeric::Other => WatchedCommand::Other,
     }
 }

@@ -4,7 +4,7 @@ ghost use Rattle.botcore.specs.Automatic.{wish, ban_wish};
 
 use bytetext::{NoMemory, Text};
 use outqueue::Queue;
-use procstore::PutWish;
+use procs::PutWish;
 use std::alloc::Global;
 use userfile::Ban;
 

@@ -21,7 +21,7 @@ pub type LedgerError = Failure<DiskFault>;
 #[derive(Clone, Copy, Debug, PartialEq, Eq, Error)]
 pub enum RebaseFault {
     /// The generations are used up: nothing was written.
-    #[error("make the journal anew on empty disks: its generations are used up")]
+    #[error("make the journal again on empty disks: its generations are used up")]
     GenerationsSpent,
     /// A disk failed in this call. The new base may count or not: a restart shows which.
     #[error("restart: a disk failed, and what was written counts or not")]

@@ -1,8 +1,8 @@
 // The journal of a bot.
 ghost use Rattle.std.specs.Prelude.{◌≡◌, ◌≢◌, ◌<◌, ◌-◌, ◌^◌, ◌↔◌, IsTrue, false, length, option_map};
-ghost use Rattle.bytejournal.specs.Meaning.{added as added_text, rebased as rebased_text};
+ghost use Rattle.bytejournal.specs.Meaning.{rebased as rebased_text};
 ghost use Rattle.bytejournal.specs.Journal.{AnyMoment, HoldsOne, contents_of as texts_of};
-ghost use Rattle.bytejournal.specs.Journal.{IsSound as AreTextsSound, IsEither as IsEitherText, Appends as AppendsText};
+ghost use Rattle.bytejournal.specs.Journal.{IsSound as AreTextsSound, IsEither as IsEitherText};
 ghost use Rattle.bytejournal.specs.Journal.{Rebases as RebasesText};
 ghost use Rattle.botjournal.specs.Bases.{IsGoodBase};
 ghost use Rattle.botjournal.specs.Entries.{IsGoodEntry};
@@ -60,19 +60,7 @@ impl<D: Disk> BotJournal<D> {
             return Err(Failure::Refused(JournalFault::Spent));
         }
         let text = write_entry(alloc, entry)?;
-        self.append_text(alloc, &text)
-    }
-
-    fn append_text(&mut self, alloc: Global, text: &[u8]) -> Result<(), JournalError>
-        requires sound { AreTextsSound D.state self.old }
-        requires small { length text.now < 2 ^ 32 }
-        ensures sound { AreTextsSound D.state self.new }
-        ensures row { AppendsText D.state self.old text.now result self.new }
-        ensures any_moment { self.old.spent ≡ false → AnyMoment D.state self.old self.new
-            (IsEitherText (HoldsOne D.state self.old) (texts_of D.state self.old)
-            (option_map (added_text text.now) (texts_of D.state self.old))) }
-    {
-        match self.texts.append(alloc, text) {
+        match self.texts.append(alloc, &text) {
             Ok(()) => Ok(()),
             Err(Failure::NoMemory) => Err(Failure::NoMemory),
             Err(Failure::Refused(fault)) => {

@@ -1,55 +1,84 @@
--- A turn in which changes are asked for, and one in which a server and other bots are heard.
-use Rattle.std.proofs.Common.{◌≡◌, ℕ, Bool, List, Option, Result, Ok, Err, IfOk, OnOk}
+-- A turn in which changes are asked for, and turns one after another.
+use Rattle.std.proofs.Common.{◌≡◌, ℕ, zero, suc, Bool, not, List, Option, refl, sym, subst}
 use Rattle.userfile.specs.declared.change.Change.{Change}
-use Rattle.procstore.specs.Promises.{Promised}
+use Rattle.procs.specs.Promises.{Promised}
 use Rattle.botcore.specs.Bots.{Bot}
 use Rattle.turns.specs.declared.turn.Heard.{Heard}
 use Rattle.turns.specs.declared.turn.Told.{Told}
 use Rattle.turns.specs.Turns.{Turns}
-use Rattle.peers.specs.declared.links.Links.{Links}
-use Rattle.peers.specs.Tells.{TakesPackets}
 use Rattle.net.specs.Connections.{Talk}
 use Rattle.botrun.specs.declared.outcome.Outcome.{Outcome}
 use Rattle.botrun.specs.Outcomes.{outcome_of}
 use Rattle.botrun.specs.Passing.{told_of}
-use Rattle.botrun.specs.Taking.{Hears, TakesTurn, TakesChanges}
+use Rattle.botrun.specs.Taking.{GoesOn, HearsNothing, TakesChanges, TakesQuietTurn, TakesQuietTurns}
+
+-- ---- turns in which nothing is heard
+
+-- no turn
+pub stays : (promised : Promised) (names : List (List ℕ)) (bot : Bot) (held : List ℕ) → GoesOn promised names bot held bot held
+unfolding TakesQuietTurns
+stays promised names bot held = record { count = zero; turns = (refl, refl) }
+
+-- one turn more
+pub goes_on : (promised : Promised) (names : List (List ℕ)) (old mid new : Bot) (held between after : List ℕ)
+    → GoesOn promised names old held mid between → TakesQuietTurn promised names mid between new after
+    → GoesOn promised names old held new after
+unfolding TakesQuietTurns
+goes_on promised names old mid new held between after far turn =
+    record { count = suc far.count; turns = (mid, between, far.turns, turn) }
+
+goes_far : (count : ℕ) (promised : Promised) (names : List (List ℕ)) (old mid new : Bot) (held between after : List ℕ)
+    → GoesOn promised names old held mid between → TakesQuietTurns count promised names mid between new after
+    → GoesOn promised names old held new after
+unfolding TakesQuietTurns
+goes_far zero promised names old mid new held between after far (same, kept) =
+    subst (λ (bot : Bot). GoesOn promised names old held bot after) (sym same)
+    (subst (λ (line : List ℕ). GoesOn promised names old held mid line) (sym kept) far)
+goes_far (suc count) promised names old mid new held between after far (next, line, turns, turn) =
+    goes_on promised names old next new held line after (goes_far count promised names old mid next held between line far turns) turn
+
+-- turns after turns
+pub goes_further : (promised : Promised) (names : List (List ℕ)) (old mid new : Bot) (held between after : List ℕ)
+    → GoesOn promised names old held mid between → GoesOn promised names mid between new after → GoesOn promised names old held new after
+goes_further promised names old mid new held between after far further =
+    goes_far further.count promised names old mid new held between after far further.turns
+
+-- turns from a bot that is the same
+pub goes_on_from : (promised : Promised) (names : List (List ℕ)) (old start mid new : Bot) (held line between after : List ℕ)
+    → start ≡ old → line ≡ held → GoesOn promised names start line mid between → GoesOn promised names mid between new after
+    → GoesOn promised names old held new after
+goes_on_from promised names old start mid new held line between after same kept far further =
+    subst (λ (bot : Bot). GoesOn promised names bot held new after) same
+    (subst (λ (l : List ℕ). GoesOn promised names start l new after) kept
+    (goes_further promised names start mid new line between after far further))
+
+-- ---- a turn in which changes are asked for
 
 -- a turn whose reports are passed on
-pub takes_turn : {E : Type 0} (promised : Promised) (names : List (List ℕ)) (old : Bot) (held : List ℕ) (heard : Heard) (told : Told)
-    (new : Bot) (after : List ℕ) (talk new_talk : Option Talk) (result : Result Outcome E)
-    → Turns promised names old held heard told new after
-    → IfOk result (λ outcome. outcome ≡ outcome_of told.reports) → OnOk result (new_talk ≡ told_of told.reports talk)
-    → IfOk result (λ outcome. TakesTurn promised names old held heard new after outcome talk new_talk)
-takes_turn promised names old held heard told new after talk new_talk (Ok outcome) turn tells server =
-    record { told = told; turn = turn; tells = tells; server = server }
-takes_turn promised names old held heard told new after talk new_talk (Err error) turn tells server = tt
+pub takes_changes : (promised : Promised) (names : List (List ℕ)) (old : Bot) (held : List ℕ) (changes : List Change) (compacts : Bool)
+    (new : Bot) (after : List ℕ) (outcome : Outcome) (talk new_talk : Option Talk) (heard : Heard) (told : Told) (mid : Bot) (between : List ℕ)
+    → Turns promised names old held heard told mid between → new ≡ mid → after ≡ between
+    → HearsNothing heard → heard.changes.items ≡ changes → heard.compact ≡ compacts → heard.pump ≡ not compacts
+    → outcome ≡ outcome_of told.reports → new_talk ≡ told_of told.reports talk
+    → TakesChanges promised names old held changes compacts new after outcome talk new_talk
+takes_changes promised names old held changes compacts new after outcome talk new_talk heard told mid between turn same kept quiet asked compacted pumped tells server =
+    record {
+      heard = heard;
+      quiet = quiet;
+      asked = asked;
+      compacted = compacted;
+      pumped = pumped;
+      takes = record {
+        told = told;
+        turn = subst (λ (bot : Bot). Turns promised names old held heard told bot after) (sym same)
+            (subst (λ (line : List ℕ). Turns promised names old held heard told mid line) (sym kept) turn);
+        tells = tells;
+        server = server;
+      };
+    }
 
-pub takes_changes : {E : Type 0} (promised : Promised)
-    (names : List (List ℕ)) (old : Bot) (held : List ℕ) (heard : Heard) (changes : List Change) (pumps : Bool) (new : Bot)
-    (after : List ℕ) (talk new_talk : Option Talk) (result : Result Outcome E) → heard.changes.items ≡ changes → heard.pump ≡ pumps
-    → IfOk result (λ outcome. TakesTurn promised names old held heard new after outcome talk new_talk)
-    → IfOk result (λ outcome. TakesChanges promised names old held changes pumps new after outcome talk new_talk)
-takes_changes promised names old held heard changes pumps new after talk new_talk (Ok outcome) asked pumped takes = record {
-  heard = heard;
-  asked = asked;
-  pumped = pumped;
-  takes = takes;
-}
-takes_changes promised names old held heard changes pumps new after talk new_talk (Err error) asked pumped takes = tt
-
-pub hears_all : (promised : Promised) (names : List (List ℕ)) (old : Bot) (held bytes : List ℕ) (links left : Links) (heard : Heard)
-    (new : Bot) (after : List ℕ) (outcome : Outcome) (talk new_talk : Option Talk) → heard.bytes.items ≡ bytes
-    → TakesPackets links heard.packets.items left → TakesTurn promised names old held heard new after outcome talk new_talk
-    → Hears promised names old held bytes links
-hears_all promised names old held bytes links left heard new after outcome talk new_talk same packets takes = record {
-  heard = heard;
-  same = same;
-  left = left;
-  packets = packets;
-  new = new;
-  after = after;
-  outcome = outcome;
-  talk = talk;
-  new_talk = new_talk;
-  takes = takes;
-}
+pub quiet_turn : (promised : Promised) (names : List (List ℕ)) (old : Bot) (held : List ℕ) (changes : List Change) (compacts : Bool)
+    (new : Bot) (after : List ℕ) (outcome : Outcome) (talk new_talk : Option Talk)
+    → TakesChanges promised names old held changes compacts new after outcome talk new_talk → TakesQuietTurn promised names old held new after
+quiet_turn promised names old held changes compacts new after outcome talk new_talk taken =
+    record { heard = taken.heard; told = taken.takes.told; quiet = taken.quiet; turn = taken.takes.turn }

@@ -1,15 +1,15 @@
--- Who asked for the changes that wait at a bot or are out, the oldest first: an operator, a person whose words made a
+-- Who asked for the changes that wait at a bot or are out, the oldest first: an admin, a person whose words made a
 -- proc ask, or nobody who waits for an answer.
 use Rattle.std.specs.Prelude.{ℕ, Bool, true, false, ◌||◌, ◌&&◌, ◌-◌, ◌^◌, ◌==◌, min, List, [], ◌∷◌, ◌++◌, Option, None, Some}
 use Rattle.std.specs.Prelude.{drop, count_by, sum_by, replicate, if◌then◌else◌}
 use Rattle.std.specs.List.{flat_map}
-use Rattle.procstore.specs.declared.action.Action.{Action}
-use Rattle.procstore.specs.declared.action.Action.TheVariants.{Ask, Timer, Utimer, KillTimer, SendBot, Put}
-use Rattle.procstore.specs.declared.call.Call.{Call}
-use Rattle.procstore.specs.declared.call_kind.CallKind.{CallKind}
-use Rattle.procstore.specs.declared.call_kind.CallKind.TheVariants.{Raw, Msg, Msgm, Notc, Pub, Pubm, Join, Part, Sign, Kick, Nick, Mode, Topc}
-use Rattle.procstore.specs.declared.call_kind.CallKind.TheVariants.{Bot, Time, Cron, Timer as timer_kind}
-use Rattle.botcalls.specs.declared.made_call.MadeCall.{MadeCall}
+use Rattle.procs.specs.declared.action.Action.{Action}
+use Rattle.procs.specs.declared.action.Action.TheVariants.{Ask, Timer, Utimer, KillTimer, SendBot, Put}
+use Rattle.procs.specs.declared.call.Call.{Call}
+use Rattle.procs.specs.declared.call_kind.CallKind.{CallKind}
+use Rattle.procs.specs.declared.call_kind.CallKind.TheVariants.{Raw, Msg, Msgm, Notc, Pub, Pubm, Join, Part, Sign, Kick, Nick, Mode, Topc}
+use Rattle.procs.specs.declared.call_kind.CallKind.TheVariants.{Bot, Time, Cron, Timer as timer_kind}
+use Rattle.procs.specs.declared.made_call.MadeCall.{MadeCall}
 use Rattle.sharewire.specs.declared.packet.Packet.{Packet}
 use Rattle.sharewire.specs.declared.packet.Packet.TheVariants as wire
 use Rattle.sharelink.specs.declared.answer.Outgoing.{Outgoing}
@@ -25,7 +25,7 @@ use Rattle.botcore.specs.declared.report.Note.{Note}
 use Rattle.botcore.specs.declared.report.Note.TheVariants.{Link, Bound, Unbound, Bad}
 use Rattle.botcore.specs.declared.report.Report.{Report}
 use Rattle.botrun.specs.declared.asks.Asker.{Asker}
-use Rattle.botrun.specs.declared.asks.Asker.TheVariants.{Nobody, Operator, Person}
+use Rattle.botrun.specs.declared.asks.Asker.TheVariants.{Nobody, Admin, Person}
 use Rattle.botrun.specs.declared.outcome.Outcome.{Outcome}
 use Rattle.botrun.specs.declared.outcome.Outcome.TheVariants.{Nothing, Accepted, Refused, Barred}
 use Rattle.botrun.specs.Outcomes.{told_by}
@@ -35,15 +35,15 @@ abbrev pub first_asker : List Asker → Asker
 first_asker [] = Nobody
 first_asker (asker ∷ askers) = asker
 
-abbrev pub is_operator : ℕ → Asker → Bool
-is_operator number Nobody = false
-is_operator number (Operator other) = other == number
-is_operator number (Person nick) = false
+abbrev pub is_admin : ℕ → Asker → Bool
+is_admin number Nobody = false
+is_admin number (Admin other) = other == number
+is_admin number (Person nick) = false
 
--- the operator whose command is being executed, if there is one
-abbrev pub operator_if : Option ℕ → Asker
-operator_if None = Nobody
-operator_if (Some number) = Operator number
+-- the admin whose command is being executed, if there is one
+abbrev pub admin_if : Option ℕ → Asker
+admin_if None = Nobody
+admin_if (Some number) = Admin number
 
 -- ---- what procs asked for
 
@@ -142,9 +142,9 @@ is_request outgoing = asks_hub outgoing.packet
 
 -- ---- what a step says
 
--- a change waits that this operator, or nobody, asked for
+-- a change waits that this admin, or nobody, asked for
 abbrev pub queued : Option ℕ → LinkNote → List Asker → List Asker
-queued asker says.Queued askers = askers ++ operator_if asker ∷ []
+queued asker says.Queued askers = askers ++ admin_if asker ∷ []
 queued asker says.Idle askers = askers
 queued asker (says.Sent request) askers = askers
 queued asker (says.Accepted n) askers = askers

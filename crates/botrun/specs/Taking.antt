@@ -1,7 +1,7 @@
 -- A turn of a bot, and what it says about changes.
-use Rattle.std.specs.Prelude.{◌≡◌, ℕ, Bool, List, Option}
+use Rattle.std.specs.Prelude.{◌≡◌, ℕ, zero, suc, Bool, false, not, List, [], Option}
 use Rattle.userfile.specs.declared.change.Change.{Change}
-use Rattle.procstore.specs.Promises.{Promised}
+use Rattle.procs.specs.Promises.{Promised}
 use Rattle.botcore.specs.Bots.{Bot}
 use Rattle.turns.specs.declared.turn.Heard.{Heard}
 use Rattle.turns.specs.declared.turn.Told.{Told}
@@ -23,24 +23,54 @@ pub record TakesTurn (promised : Promised)
   pub tells : outcome ≡ outcome_of told.reports
   pub server : new_talk ≡ told_of told.reports talk
 
--- The same for a turn in which these changes are asked for, with a pump after them or not.
+-- no server and no other bot is heard in a turn
+abbrev pub HearsNothing : Heard → Type 0
+HearsNothing heard = (heard.connected ≡ false) × (heard.bytes.items ≡ []) × (heard.packets.items ≡ [])
+
+-- The same for a turn in which nothing is heard and these changes are asked for. It compacts, or else it pumps.
 pub record TakesChanges (promised : Promised)
-    (names : List (List ℕ)) (old : Bot) (held : List ℕ) (changes : List Change) (pumps : Bool) (new : Bot) (after : List ℕ)
+    (names : List (List ℕ)) (old : Bot) (held : List ℕ) (changes : List Change) (compacts : Bool) (new : Bot) (after : List ℕ)
     (outcome : Outcome) (talk new_talk : Option Talk) : Type 0 where
   pub heard : Heard
+  pub quiet : HearsNothing heard
   pub asked : heard.changes.items ≡ changes
-  pub pumped : heard.pump ≡ pumps
+  pub compacted : heard.compact ≡ compacts
+  pub pumped : heard.pump ≡ not compacts
   pub takes : TakesTurn promised names old held heard new after outcome talk new_talk
 
--- A turn of this bot takes exactly these bytes from its server, and the packets that are taken from these connections.
-pub record Hears (promised : Promised) (names : List (List ℕ)) (old : Bot) (held bytes : List ℕ) (links : Links) : Type 0 where
+-- ---- the turns of a bot, one after another
+
+-- a turn in which nothing is heard leads from one bot to the other
+pub record TakesQuietTurn (promised : Promised)
+    (names : List (List ℕ)) (old : Bot) (held : List ℕ) (new : Bot) (after : List ℕ) : Type 0 where
+  pub heard : Heard
+  pub told : Told
+  pub quiet : HearsNothing heard
+  pub turn : Turns promised names old held heard told new after
+
+-- so many such turns
+unfoldable pub TakesQuietTurns : ℕ → Promised → List (List ℕ) → Bot → List ℕ → Bot → List ℕ → Type 0
+TakesQuietTurns zero promised names old held new after = (new ≡ old) × (after ≡ held)
+TakesQuietTurns (suc count) promised names old held new after =
+    (mid : Bot) × (between : List ℕ)
+    × TakesQuietTurns count promised names old held mid between × TakesQuietTurn promised names mid between new after
+
+-- a bot goes on by turns in which nothing is heard
+pub record GoesOn (promised : Promised)
+    (names : List (List ℕ)) (old : Bot) (held : List ℕ) (new : Bot) (after : List ℕ) : Type 0 where
+  pub count : ℕ
+  pub turns : TakesQuietTurns count promised names old held new after
+
+-- A turn takes exactly these bytes from the server, and the packets that are taken from these connections. The bot goes
+-- on from that turn by turns in which nothing is heard.
+pub record Hears (promised : Promised) (names : List (List ℕ)) (old : Bot) (held bytes : List ℕ) (links : Links)
+    (new : Bot) (after : List ℕ) : Type 0 where
   pub heard : Heard
   pub same : heard.bytes.items ≡ bytes
   pub left : Links
   pub packets : TakesPackets links heard.packets.items left
-  pub new : Bot
-  pub after : List ℕ
-  pub outcome : Outcome
-  pub talk : Option Talk
-  pub new_talk : Option Talk
-  pub takes : TakesTurn promised names old held heard new after outcome talk new_talk
+  pub told : Told
+  pub mid : Bot
+  pub between : List ℕ
+  pub turn : Turns promised names old held heard told mid between
+  pub rest : GoesOn promised names mid between new after

@@ -1,4 +1,4 @@
-// The answers to an operator.
+// The answers to an admin.
 use crate::checking::NoBind;
 use crate::ending::{KIND, PROC};
 use crate::outcome::Outcome;

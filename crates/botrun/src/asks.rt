@@ -4,12 +4,11 @@ ghost use Rattle.std.specs.List.{list_any, flat_map};
 ghost use Rattle.std.specs.VecDeque.{deque_len};
 ghost use Rattle.botrun.specs.declared.asks.Asker.TheVariants.{Nobody};
 ghost use Rattle.botrun.specs.Askers.{asked_by_procs, asker_in, askers_of, asks_of, at_most_usize, first_asker, is_ask, is_ask_fault};
-ghost use Rattle.botrun.specs.Askers.{is_operator, is_refused_ask, is_spoken, proc_askers};
+ghost use Rattle.botrun.specs.Askers.{is_admin, is_refused_ask, is_spoken, proc_askers};
 
-use botcalls::{MadeCall, MadeCalls};
 use botcore::{ActionFault, Faults, Report, StepFault};
 use bytetext::{NoMemory, Text, TryCopy};
-use procstore::{Action, Call, CallKind};
+use procs::{Action, Call, CallKind, MadeCall, MadeCalls};
 use sharelink::LinkFault;
 use std::alloc::Global;
 use std::collections::VecDeque;
@@ -19,8 +18,8 @@ use std::collections::VecDeque;
 pub(crate) enum Asker {
     // Nobody who waits for an answer.
     Nobody,
-    // The operator with this number.
-    Operator(u64),
+    // The admin with this number.
+    Admin(u64),
     // The person with this nick, whose words made a proc ask.
     Person(Text),
 }
@@ -30,7 +29,7 @@ pub(crate) enum Asker {
 #[derive(Drop)]
 pub(crate) struct Asks {
     askers: VecDeque<Asker>,
-    // The operator whose command is being executed, if its answer comes later.
+    // The admin whose command is being executed, if its answer comes later.
     pub(crate) asker: Option<u64>,
 }
 
@@ -52,11 +51,11 @@ impl Asks {
         self.askers.len()
     }
 
-    // Whether the operator numbered `number` asked for one of them.
+    // Whether the admin numbered `number` asked for one of them.
     pub(crate) fn holds(&self, number: u64) -> bool
-        ensures { result ≡ list_any (is_operator number) self.now.askers.items }
+        ensures { result ≡ list_any (is_admin number) self.now.askers.items }
     {
-        self.askers.iter().any(|asker| is_operator(asker, number))
+        self.askers.iter().any(|asker| is_admin(asker, number))
     }
 
     // Notes that `asker` asked for a change.
@@ -122,12 +121,12 @@ impl Asks {
     }
 }
 
-// Whether the asker is the operator numbered `number`.
-fn is_operator(asker: &Asker, number: u64) -> bool
-    ensures { result ≡ is_operator number asker.now }
+// Whether the asker is the admin numbered `number`.
+fn is_admin(asker: &Asker, number: u64) -> bool
+    ensures { result ≡ is_admin number asker.now }
 {
     match asker {
-        Asker::Operator(other) => *other == number,
+        Asker::Admin(other) => *other == number,
         Asker::Nobody | Asker::Person(_) => false,
     }
 }

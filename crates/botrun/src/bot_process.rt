@@ -3,12 +3,12 @@ ghost use Rattle.std.specs.Prelude.{◌<◌, IfOk, length};
 ghost use Rattle.bytetext.specs.declared.moment.TheConstants.{MOMENTS_END};
 ghost use Rattle.botrun.specs.Stations.{IsKnownWhereWanted, IsLinkedAs};
 
+use crate::admins::Admins;
 use crate::bases::Bases;
 use crate::checking::check;
 use crate::ending::{RunError, of_folder};
 use crate::entry::Entry;
 use crate::netting::{count_out, keep_net, links_of, secret_of};
-use crate::operators::Operators;
 use crate::others::Others;
 use crate::process::{Process, Turned};
 use crate::starting::{bind_all, bot_of, folder_of};
@@ -17,12 +17,11 @@ use botfolder::BotFolder;
 use ircline::LineReader;
 use net::{Timeline, Watch, log};
 use peers::Key;
-use procstore::{ProcStore, Promise, Run};
+use procs::{ProcStore, Promise, Run};
 use serverlink::IrcConnection;
 use settings::Settings;
 use std::alloc::Global;
 use std::fs::File;
-use std::io::ErrorKind;
 use std::net::Net;
 use std::random::RandomSource;
 use std::rt::Files;
@@ -31,7 +30,7 @@ use std::time::Clock;
 // The most events that one wait reports.
 const EVENTS: usize = 64;
 
-/// Runs the bot of `settings` until an operator ends it. Its binds call the procs of `store`.
+/// Runs the bot of `settings` until an admin ends it. Its binds call the procs of `store`.
 ///
 /// # Errors
 /// - Before anything is opened: the errors of [`check`], then `Secret`.
@@ -54,24 +53,25 @@ where
     check(rt.alloc(), store, settings)?;
     let key = secret_of(rt, settings)?;
     let folder = folder_of(rt, settings)?;
-    let mut watch = watch_of(rt)?;
+    let mut watch = Watch::new(rt, EVENTS)?;
     let mut process = begin(rt, &watch, &folder, settings, key)?;
     bind_all(rt.alloc(), &mut process.bot, store, settings)?;
     look_back(rt.alloc(), &mut process, store)?;
-    go_on(rt, &mut watch, &folder, &mut process, store, settings)?;
+    let mut timeline = Timeline::begin(rt.monotonic()?.as_secs());
+    let up = timeline.read_clocks(rt)?;
+    log(rt, up, &Entry::Up(process.bot.version()));
+    let mut turned = Turned::Busy;
+    for _turn in 0..u64::MAX {
+        let now = wait(rt, &mut watch, &mut timeline, turned)?;
+        turned = process.turn(rt, &watch, store, settings, now)?;
+        keep_new_net(rt, &folder, &mut process, now)?;
+        if turned == Turned::Ended {
+            log(rt, now, &Entry::Ended);
+            break;
+        }
+    }
     let _gone = folder.clear_control(rt);
     Ok(())
-}
-
-// Creates the watch of the process's sockets.
-fn watch_of<R: AllocGlobal + Net>(rt: &R) -> Result<Watch, RunError> {
-    match Watch::new(rt, EVENTS) {
-        Ok(watch) => Ok(watch),
-        Err(error) => match error.kind() {
-            ErrorKind::OutOfMemory => Err(RunError::NoMemory),
-            _ => Err(RunError::System),
-        },
-    }
 }
 
 // Creates the process of the bot in a folder. It is not connected to anybody yet.
@@ -90,13 +90,13 @@ where
 {
     let bot = bot_of(rt, folder, settings)?;
     let links = links_of(rt, watch.registry(), folder, settings, key, bot.version())?;
-    let operators = door_of(rt, watch, folder)?;
+    let admins = door_of(rt, watch, folder)?;
     let bases = Bases::new(bot.version());
     Ok(Process {
         bot,
         lines: LineReader::new(rt.alloc()),
         uplink: IrcConnection::new(rt.alloc(), settings)?,
-        operators,
+        admins,
         others: Others::new(rt.alloc(), links),
         bases,
         sums: Sums::new(),
@@ -104,16 +104,16 @@ where
     })
 }
 
-// Opens the door for operators.
-fn door_of<R>(rt: &R, watch: &Watch, folder: &BotFolder) -> Result<Operators, RunError>
+// Opens the door for admins.
+fn door_of<R>(rt: &R, watch: &Watch, folder: &BotFolder) -> Result<Admins, RunError>
 where
     R: AllocGlobal + Net + Files<File = File>,
 {
     if let Err(error) = folder.clear_control(rt) {
         return Err(of_folder(error));
     }
-    match Operators::open(rt, watch.registry(), folder.control()) {
-        Ok(operators) => Ok(operators),
+    match Admins::open(rt, watch.registry(), folder.control()) {
+        Ok(admins) => Ok(admins),
         Err(fault) => Err(RunError::Control(fault)),
     }
 }
@@ -145,38 +145,6 @@ fn keep_new_net<R: AllocGlobal + Print + Files<File = File>>(
     Ok(())
 }
 
-// Makes turns until the process ends.
-fn go_on<R, P: Promise, B: Run>(
-    rt: &R,
-    watch: &mut Watch,
-    folder: &BotFolder,
-    process: &mut Process,
-    store: &ProcStore<P, B>,
-    settings: &Settings,
-) -> Result<(), RunError>
-where
-    R: AllocGlobal + Net + Clock + Files<File = File> + Print + RandomSource,
-{
-    let mut timeline = timeline_of(rt)?;
-    let mut turned = Turned::Busy;
-    log(
-        rt,
-        second(rt, &mut timeline)?,
-        &Entry::Up(process.bot.version()),
-    );
-    for _turn in 0..u64::MAX {
-        let now = wait(rt, watch, &mut timeline, turned)?;
-        process.wake(watch.tokens());
-        turned = process.turn(rt, watch.registry(), store, settings, now)?;
-        keep_new_net(rt, folder, process, now)?;
-        if turned == Turned::Ended {
-            log(rt, now, &Entry::Ended);
-            return Ok(());
-        }
-    }
-    Ok(())
-}
-
 // Waits until there may be something to do: not at all if there may be more at once, and at most until the next second.
 // Returns the second after the wait.
 fn wait<R: Clock>(
@@ -191,38 +159,12 @@ fn wait<R: Clock>(
         Turned::Busy | Turned::Ended => 0,
         Turned::Rests => rest_of_second(rt)?,
     };
-    match watch.wait(most) {
-        Ok(()) => second(rt, timeline),
-        Err(_) => Err(RunError::System),
-    }
+    watch.wait(most)?;
+    Ok(timeline.read_clocks(rt)?)
 }
 
 // The milliseconds that are left of this second, at least 1.
 fn rest_of_second<R: Clock>(rt: &R) -> Result<u64, RunError> {
-    match rt.since_1970() {
-        Ok(since) => Ok(
-            1_000u64
-                .saturating_sub(u64::from(since.subsec_millis()))
-                .max(1),
-        ),
-        Err(_) => Err(RunError::System),
-    }
-}
-
-// Reads the second from the clocks.
-fn second<R: Clock>(rt: &R, timeline: &mut Timeline) -> Result<u64, RunError>
-    ensures moment { IfOk result (λ now. now < MOMENTS_END) }
-{
-    match timeline.read_clocks(rt) {
-        Ok(now) => Ok(now),
-        Err(_) => Err(RunError::System),
-    }
-}
-
-// Starts a timeline without any reading of the second.
-fn timeline_of<R: Clock>(rt: &R) -> Result<Timeline, RunError> {
-    match rt.monotonic() {
-        Ok(monotonic) => Ok(Timeline::begin(monotonic.as_secs())),
-        Err(_) => Err(RunError::System),
-    }
+    let passed = u64::from(rt.since_1970()?.subsec_millis());
+    Ok(1_000u64.saturating_sub(passed).max(1))
 }

@@ -4,11 +4,10 @@ ghost use Rattle.botrun.specs.declared.checking.NoBind.TheVariants.{NoMemory as 
 ghost use Rattle.botrun.specs.declared.ending.RunError.TheVariants.{NoServer as no_server, Account as account, NoMemory as no_memory};
 
 use crate::ending::RunError;
-use bindtable::{BindKind, BindTable};
 use botcore::{NewBind, OldBind};
 use bytetext::{Failure, NoMemory, TryCopy};
 use control::UnbindWords;
-use procstore::{ProcStore, Promise, Run};
+use procs::{BindKind, BindTable, ProcStore, Promise, Run};
 use settings::{BindLine, BindWords, Settings};
 use std::alloc::Global;
 

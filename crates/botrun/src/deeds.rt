@@ -1,4 +1,4 @@
-// What a bot does for an operator, and how it answers.
+// What a bot does for an admin, and how it answers.
 ghost use Rattle.std.specs.Prelude.{◌<◌};
 ghost use Rattle.bytetext.specs.declared.moment.TheConstants.{MOMENTS_END};
 ghost use Rattle.botcore.specs.Steps.{IsGoodEvent};
@@ -12,29 +12,16 @@ use crate::status::status_of;
 use botcore::BotEvent;
 use bytetext::{NoMemory, Text};
 use control::UnbindWords;
-use procstore::{ProcStore, Promise, Run};
+use procs::{ProcStore, Promise, Run};
 use recordtext::put_records;
 use serverlink::{MAX_LINE, Why};
 use settings::{BindWords, Settings};
 use std::alloc::Global;
-use userfile::Change;
 
 // At the end, the process waits at most this many seconds for what is still unsent.
 const LAST_SECONDS: u64 = 2;
 
 impl Process {
-    pub(crate) fn change<R: AllocGlobal + Print, P: Promise, B: Run>(
-        &mut self,
-        rt: &R,
-        store: &ProcStore<P, B>,
-        settings: &Settings,
-        change: Change,
-        now: u64,
-    ) -> Result<Vec<u8>, RunError> {
-        let outcome = self.ask(rt, store, settings, change, now)?;
-        Ok(of_change(rt.alloc(), outcome)?)
-    }
-
     pub(crate) fn compact_now<R: AllocGlobal + Print, P: Promise, B: Run>(
         &mut self,
         rt: &R,

@@ -3,20 +3,21 @@ ghost use Rattle.std.specs.Prelude.{◌≡◌};
 ghost use Rattle.botrun.specs.Ending.{status_of};
 ghost use Rattle.botrun.specs.declared.ending.RunError.TheVariants.{NoMemory as no_memory};
 
-use bindtable::BindFault;
 use botcore::{BotError, BotFault};
 use botfolder::{FolderError, FolderFault};
 use bytejournal::JournalFault;
 use bytetext::{Failure, NoMemory};
 use net::DoorFault;
 use peers::SecretFault;
+use procs::BindFault;
 use serverlink::put;
 use std::alloc::{AllocError, AllocFailed};
 use std::error::Error;
-use std::fmt;
 use std::fmt::Display;
+use std::io::ErrorKind;
+use std::{fmt, io};
 
-/// Why a bot's process does not run, or ends before an operator ends it. Each text follows its [`Subject`].
+/// Why a bot's process does not run, or ends before an admin ends it. Each text follows its [`Subject`].
 #[derive(Clone, Copy, Debug, PartialEq, Eq)]
 pub enum RunError {
     /// The configuration has a line `account`.
@@ -54,7 +55,7 @@ pub enum RunError {
     OtherJournal,
     /// The folder holds a journal of an older layout that cannot be rewritten, since its generations are used up.
     GenerationsSpent,
-    /// The process cannot listen at the socket for operators.
+    /// The process cannot listen at the socket for admins.
     Control(DoorFault),
     /// A disk failed while the journal was being written. If a disk fails earlier, while the journal is created or
     /// opened, the error is the folder's fault `DiskFails`.
@@ -183,7 +184,7 @@ impl Display for RunError {
 
 impl Error for RunError {}
 
-// The text for a socket for operators that cannot be made.
+// The text for a socket for admins that cannot be made.
 fn of_control(fault: DoorFault) -> &'static str {
     match fault {
         DoorFault::InUse => "is in use: end the program that listens there",
@@ -249,6 +250,15 @@ impl<T: Drop> From<AllocFailed<T>> for RunError {
 
     fn from(_refused: AllocFailed<T>) -> RunError {
         RunError::NoMemory
+    }
+}
+
+impl From<io::Error> for RunError {
+    fn from(error: io::Error) -> RunError {
+        match error.kind() {
+            ErrorKind::OutOfMemory => RunError::NoMemory,
+            _ => RunError::System,
+        }
     }
 }
 

@@ -10,15 +10,15 @@ pub(crate) enum Entry<'a> {
     Up(u32),
     // The bot's records at this version have this sum.
     Records(u32, &'a [u8]),
-    // A proc's change was accepted under this number.
+    // A change was accepted under this number.
     Accepted(u32),
-    // A proc's change, the pump or a compaction was refused with this code.
+    // A change, the pump or a compaction was refused with this code.
     NotDone(&'static str),
     // A step left something out: a word for it, and the proc that the program lacks, if that is why.
     LeftOut(&'static str, &'a [u8]),
-    // An operator asks for this.
+    // An admin asks for this.
     Asked(&'a [u8]),
-    // A silent operator is disconnected, since another one waits.
+    // A silent admin is disconnected, since another one waits.
     GaveWay,
     // A leaf whose journal has another layout says hello.
     OtherLayout,
@@ -45,12 +45,12 @@ impl Display for Entry<'_> {
                 put(f, "left out: ", &word)?;
                 put(f, " ", &Shown(proc))
             }
-            Entry::Asked(line) => put(f, "operator: ", &Shown(line)),
-            Entry::GaveWay => f.write_str("operator gone: it was silent, and another waited"),
+            Entry::Asked(line) => put(f, "admin: ", &Shown(line)),
+            Entry::GaveWay => f.write_str("admin gone: it was silent, and another waited"),
             Entry::OtherLayout => {
                 f.write_str("a leaf has another layout: run one version of the program on all bots")
             }
-            Entry::Compacted => f.write_str("journal written anew"),
+            Entry::Compacted => f.write_str("journal rewritten"),
             Entry::Ended => f.write_str("ended"),
         }
     }

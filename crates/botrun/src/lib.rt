@@ -1,4 +1,4 @@
-//! A bot as a process that runs until an operator ends it: a bot that is alone, a hub with its leaves, or a leaf.
+//! A bot as a process that runs until an admin ends it: a bot that is alone, a hub with its leaves, or a leaf.
 //!
 //! - [`run`] runs the bot of a folder.
 //! - [`check`] finds what is wrong with a configuration before anything is opened.
@@ -7,22 +7,22 @@
 //! ```text
 //! let settings = Settings::read(alloc, bytes)?;
 //! check(alloc, &store, &settings)?;                  // what can be said before anything is opened
-//! run(&rt, &store, &settings)?;                      // until an operator says die
+//! run(&rt, &store, &settings)?;                      // until an admin says die
 //! ```
 //!
 //! [`run`] takes the bot's folder, opens or creates its journal, connects to the servers of its configuration in turn,
-//! and listens for operators at the socket `control` in the folder. Then it makes turns. A turn waits for sockets,
+//! and listens for admins at the socket `control` in the folder. Then it makes turns. A turn waits for sockets,
 //! reads the clocks, connects what is lost and due, reads, has the bot take the turn, executes up to 16 commands of
-//! each operator, writes, and closes the connections that are over.
+//! each admin, writes, and closes the connections that are over.
 //!
-//! [`turns::take_turn`] does what the bot itself does, and a bind of an operator is one step of it: nothing is decided
+//! [`turns::take_turn`] does what the bot itself does, and a bind of an admin is one step of it: nothing is decided
 //! here for the bot. [`serverlink`] keeps the connection to the server, and sends there what the process sends by
-//! itself. This crate queues there what an operator has it say, and the outcome of a change that a person asked for.
+//! itself. This crate queues there what an admin has it say, and the outcome of a change that a person asked for.
 //!
 //! A hub and its leaves are processes on any machines, connected over TCP ([`peers`]). A hub draws the number of its
 //! net when it is created, before its journal gets its name, and a leaf keeps that number at its first handshake. A
-//! change that an operator asks for at a leaf is `queued`; once the hub has answered, the leaf writes `accepted N` or
-//! `refused ..` to the operator on the same connection. Changes are answered in the order in which they were asked for,
+//! change that an admin asks for at a leaf is `queued`; once the hub has answered, the leaf writes `accepted N` or
+//! `refused ..` to the admin on the same connection. Changes are answered in the order in which they were asked for,
 //! including those of procs.
 //!
 //! # The log
@@ -43,6 +43,7 @@
 //! searches for such records.
 #![tactic(auto)]
 
+mod admins;
 mod answering;
 mod answers;
 mod asks;
@@ -56,7 +57,6 @@ mod looking;
 mod netting;
 mod noticing;
 mod obeying;
-mod operators;
 mod others;
 mod outcome;
 mod passing;
@@ -67,8 +67,8 @@ mod status;
 mod steps;
 mod sums;
 
+pub use crate::admins::{MAX_ADMINS, MAX_UNSENT};
 pub use crate::bot_process::run;
 pub use crate::checking::check;
 pub use crate::ending::{RunError, Subject};
-pub use crate::operators::{MAX_OPERATORS, MAX_UNSENT};
 pub use crate::record_sum::sum_of;

@@ -3,7 +3,7 @@ ghost use Rattle.std.specs.Prelude.{◌<◌};
 ghost use Rattle.bytetext.specs.declared.moment.TheConstants.{MOMENTS_END};
 
 use bytetext::{NoMemory, Text};
-use serverlink::{IrcConnection, new_nick};
+use serverlink::IrcConnection;
 use settings::Settings;
 use turns::HeardLine;
 
@@ -21,8 +21,7 @@ pub(crate) fn look_at_all<R: AllocGlobal + Print>(
 {
     let mut nick = nick;
     for HeardLine { line, logged } in lines {
-        uplink.look(rt, settings, line, *logged, nick.as_bytes(), now)?;
-        if let Some(given) = new_nick(line, nick.as_bytes()) {
+        if let Some(given) = uplink.look(rt, settings, line, *logged, nick.as_bytes(), now)? {
             nick = Text::from_slice(rt.alloc(), given)?;
         }
     }

@@ -9,7 +9,7 @@ use botfolder::BotFolder;
 use disks::FileDisk;
 use net::{DoorFault, Registry, literal};
 use peers::{HubConnection, HubLinks, Key, Links, ListenFault, NetNumber, SecretFault, key_of};
-use procstore::{ProcStore, Promise, Run};
+use procs::{ProcStore, Promise, Run};
 use settings::Settings;
 use sharelink::Outgoing;
 use sharewire::Packet;

@@ -1,14 +1,9 @@
 // The other bots, and who asked for the changes that wait at a leaf.
-ghost use Rattle.std.specs.Prelude.{◌≡◌, [], IfOk};
-ghost use Rattle.std.specs.List.{AllByRecursion};
-ghost use Rattle.sharelink.specs.Shapes.{HasGoodRecords};
-ghost use Rattle.peers.specs.Tells.{TakesPackets};
+ghost use Rattle.std.specs.Prelude.{◌≡◌, []};
 
 use crate::asks::Asks;
-use bytetext::NoMemory;
 use peers::Links;
 use std::alloc::Global;
-use turns::Heard;
 
 // The connections to the other bots, and who asked for the changes that wait here.
 pub(crate) struct Others {
@@ -33,29 +28,5 @@ impl Others {
             links,
             asks: Asks::new(alloc),
         }
-    }
-
-    // Collects what a turn has read from the server and the other bots.
-    pub(crate) fn hear(
-        &mut self,
-        alloc: Global,
-        connected: bool,
-        bytes: Vec<u8>,
-        now: u64,
-    ) -> Result<Heard, NoMemory>
-        ensures good { IfOk result (λ heard. AllByRecursion HasGoodRecords heard.packets.items) }
-        ensures bytes { IfOk result (λ heard. heard.bytes.items ≡ bytes.items) }
-        ensures packets { IfOk result (λ heard. TakesPackets self.old.links heard.packets.items self.new.links) }
-    {
-        let packets = self.links.take_packets(alloc)?;
-        Ok(Heard {
-            connected,
-            bytes,
-            packets,
-            changes: Vec::new(alloc),
-            now,
-            pump: self.links.is_pump_due(now),
-            compact: false,
-        })
     }
 }

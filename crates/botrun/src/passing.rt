@@ -1,7 +1,7 @@
 // What the bot sends to its server.
 ghost use Rattle.std.specs.Prelude.{◌≡◌, OnOk};
 ghost use Rattle.serverlink.specs.Talks.{talk_in};
-ghost use Rattle.botrun.specs.Passing.{told_all, told_of};
+ghost use Rattle.botrun.specs.Passing.{told_all};
 
 use crate::entry::Entry;
 use botcore::{Faults, Report};
@@ -10,23 +10,8 @@ use net::log;
 use serverlink::IrcConnection;
 use settings::Settings;
 
-// Queues the lines of a turn's steps for the server, in order, and logs what the steps left out.
-pub(crate) fn pass_all<R: AllocGlobal + Print>(
-    rt: &R,
-    uplink: &mut IrcConnection,
-    settings: &Settings,
-    reports: &[Report],
-    now: u64,
-) -> Result<(), NoMemory>
-    ensures { OnOk result (talk_in uplink.new.session ≡ told_of reports.now (talk_in uplink.old.session)) }
-{
-    for report in reports {
-        pass(rt, uplink, settings, report, now)?;
-    }
-    Ok(())
-}
-
-fn pass<R: AllocGlobal + Print>(
+// Queues the lines of a step for the server, in order, and logs what the step left out.
+pub(crate) fn pass_lines<R: AllocGlobal + Print>(
     rt: &R,
     uplink: &mut IrcConnection,
     settings: &Settings,

@@ -2,17 +2,17 @@
 ghost use Rattle.std.specs.Prelude.{◌<◌};
 ghost use Rattle.bytetext.specs.declared.moment.TheConstants.{MOMENTS_END};
 
+use crate::admins::Admins;
 use crate::bases::Bases;
 use crate::ending::RunError;
-use crate::operators::Operators;
 use crate::others::Others;
 use crate::sums::Sums;
 use botcore::Bot;
 use bytetext::NoMemory;
 use disks::FileDisk;
 use ircline::LineReader;
-use net::Registry;
-use procstore::{ProcStore, Promise, Run};
+use net::{Registry, Watch};
+use procs::{ProcStore, Promise, Run};
 use serverlink::IrcConnection;
 use settings::Settings;
 use std::net::Net;
@@ -23,7 +23,7 @@ pub(crate) struct Process {
     pub(crate) bot: Bot<FileDisk>,
     pub(crate) lines: LineReader,
     pub(crate) uplink: IrcConnection,
-    pub(crate) operators: Operators,
+    pub(crate) admins: Admins,
     pub(crate) others: Others,
     // When the journal is rewritten.
     pub(crate) bases: Bases,
@@ -40,7 +40,7 @@ impl Drop for Process {
             bot: _,
             lines: _,
             uplink: _,
-            operators: _,
+            admins: _,
             others: _,
             bases: _,
             sums: _,
@@ -59,7 +59,7 @@ pub(crate) enum Turned {
     // No event is lost. A wait names a socket once, when something arrives or when there is room for more. So the
     // process asks each named socket, in this turn or a busy one after it, until there is nothing left to ask for:
     //
-    // - It reads the server and the other bots until a read would block. It reads operators so too, unless they have
+    // - It reads the server and the other bots until a read would block. It reads admins so too, unless they have
     //   first to take answers; an event announces that they do.
     // - It polls the door until nobody waits or no place is left, and again at the next second.
     // - It offers unsent bytes until all are taken or none is; then an event announces room for more.
@@ -68,82 +68,43 @@ pub(crate) enum Turned {
     //
     // Everything else waits for the clock.
     Rests,
-    // The process has ended, as an operator asked.
+    // The process has ended, as an admin asked.
     Ended,
 }
 
 impl Process {
-    // Notes that the sockets that `tokens`, those of a wait, name may have something to read.
-    pub(crate) fn wake(&mut self, tokens: &[usize]) {
-        self.uplink.wake(tokens);
-        self.operators.wake(tokens);
-        self.others.links.wake(tokens);
-    }
-
-    // Makes a turn: connects what is lost and due, accepts waiting connections, reads, steps, writes, closes the
-    // connections that are over, and logs the sum of the records if that is due.
+    // Makes a turn: connects what is lost and due, reads, steps, writes, closes the connections that are over, and logs
+    // the sum of the records if that is due. `watch` names the sockets that may have something to read.
     pub(crate) fn turn<R: AllocGlobal + Net + Print + RandomSource, P: Promise, B: Run>(
         &mut self,
         rt: &R,
-        registry: &Registry,
+        watch: &Watch,
         store: &ProcStore<P, B>,
         settings: &Settings,
         now: u64,
     ) -> Result<Turned, RunError>
         requires moment { now < MOMENTS_END }
     {
-        let more_comes = self.take_in(rt, registry, store, settings, now)?;
-        let more_goes = self.give_out(rt, settings, now)?;
+        self.uplink.wake(watch.tokens());
+        self.others.links.wake(watch.tokens());
+        let connected = self.connect(rt, watch.registry(), settings, now)?;
+        let mut is_busy = connected;
+        is_busy |= self.uplink.read(now)?;
+        is_busy |= self.admins.read(rt, watch, &self.others.asks, now)?;
+        is_busy |= self.others.links.read(rt, now)?;
+        is_busy |= self.hear(rt, store, settings, connected, now)?;
+        is_busy |= self.obey_all(rt, store, settings, now)?;
+        is_busy |= self.send(rt, settings, now)?;
         let has_ended = self.has_ended(now);
         self.tell_sum(rt, has_ended, now)?;
         if has_ended {
             return Ok(Turned::Ended);
         }
-        if more_comes || more_goes {
-            Ok(Turned::Busy)
-        } else {
-            Ok(Turned::Rests)
-        }
+        Ok(if is_busy { Turned::Busy } else { Turned::Rests })
     }
 
-    // Connects, accepts, reads and steps. Returns whether there may be more at once.
-    fn take_in<R: AllocGlobal + Net + Print + RandomSource, P: Promise, B: Run>(
-        &mut self,
-        rt: &R,
-        registry: &Registry,
-        store: &ProcStore<P, B>,
-        settings: &Settings,
-        now: u64,
-    ) -> Result<bool, RunError>
-        requires moment { now < MOMENTS_END }
-    {
-        let began = self.connect(rt, registry, settings, now)?;
-        let more = self.read(rt, now)?;
-        let said = self.hear(rt, store, settings, began, now)?;
-        let obeyed = self.obey_all(rt, store, settings, now)?;
-        Ok(began || more || said || obeyed)
-    }
-
-    // Keeps up the connection to the server, writes, and closes the connections that are over. Returns whether more
-    // may be sent at once.
-    fn give_out<R: AllocGlobal + Print>(
-        &mut self,
-        rt: &R,
-        settings: &Settings,
-        now: u64,
-    ) -> Result<bool, RunError>
-        requires moment { now < MOMENTS_END }
-    {
-        self.uplink.keep(rt, settings, now)?;
-        let sent = self.send();
-        self.uplink.let_go(rt, now);
-        self.others.links.let_go(rt, now);
-        self.stay_up()?;
-        Ok(sent)
-    }
-
-    // Accepts operators. Unless the process is to end, also connects what is lost and due, and accepts other bots.
-    // Returns whether a connection to a server began.
+    // Unless the process is to end, connects what is lost and due, and accepts other bots. Returns whether a connection
+    // to a server began.
     fn connect<R: AllocGlobal + Net + Print + RandomSource>(
         &mut self,
         rt: &R,
@@ -153,7 +114,6 @@ impl Process {
     ) -> Result<bool, NoMemory>
         requires moment { now < MOMENTS_END }
     {
-        self.operators.let_in(rt, registry, &self.others.asks, now)?;
         if self.until.is_some() {
             return Ok(false);
         }
@@ -161,21 +121,25 @@ impl Process {
         self.uplink.connect(rt, registry, settings, now)
     }
 
-    // Reads from each connection. Returns whether there may be more at once.
-    fn read<R: AllocGlobal + Print>(&mut self, rt: &R, now: u64) -> Result<bool, NoMemory> {
-        let server = self.uplink.read(now)?;
-        let operators = self.operators.read(now)?;
-        let links = self.others.links.read(rt, now)?;
-        Ok(server || operators || links)
-    }
-
-    // Offers each connection its unsent bytes. Returns whether another turn is due at once: one may take more, is to be
-    // disconnected, or has more to be done for it.
-    fn send(&mut self) -> bool {
+    // Keeps up the connection to the server, offers each connection its unsent bytes, and closes the connections that
+    // are over. Returns whether another turn is due at once: a connection may take more, is to be closed, or has more
+    // to be done for it.
+    fn send<R: AllocGlobal + Print>(
+        &mut self,
+        rt: &R,
+        settings: &Settings,
+        now: u64,
+    ) -> Result<bool, RunError>
+        requires moment { now < MOMENTS_END }
+    {
+        self.uplink.keep(rt, settings, now)?;
         let server = self.uplink.send();
-        let operators = self.operators.send();
+        let admins = self.admins.send();
         let links = self.others.links.send();
-        server || operators || links
+        self.uplink.let_go(rt, now);
+        self.others.links.let_go(rt, now);
+        self.stay_up()?;
+        Ok(server || admins || links)
     }
 
     // A bot whose disk failed does not go on: when its journal is opened again, the journal shows what counts.
@@ -189,12 +153,12 @@ impl Process {
         }
     }
 
-    // Whether the process is to end, and either the wait is over, or the server is gone and the operators have their
+    // Whether the process is to end, and either the wait is over, or the server is gone and the admins have their
     // answers.
     fn has_ended(&self, now: u64) -> bool {
         match self.until {
             Some(until) => {
-                now >= until || (self.uplink.session().is_none() && self.operators.are_answered())
+                now >= until || (self.uplink.session().is_none() && self.admins.are_answered())
             }
             None => false,
         }

@@ -8,7 +8,7 @@ use botcore::{Bot, BotEvent, Config, End, Refusal};
 use botfolder::{Begun, BotFolder, FolderFault};
 use bytetext::{NoMemory, TryCopy};
 use disks::{FileDisk, Pair};
-use procstore::{ProcStore, Promise, Run};
+use procs::{ProcStore, Promise, Run};
 use settings::{BindLine, Settings};
 use std::alloc::Global;
 use std::fs::File;

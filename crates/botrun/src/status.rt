@@ -24,8 +24,8 @@ pub(crate) fn status_of(
         put_count(&mut text, b"asks ", process.others.asks.len() as u64)?;
     }
     put_count(&mut text, b"lines ", process.uplink.own.len() as u64)?;
-    put_count(&mut text, b"operators ", process.operators.len() as u64)?;
-    put_count(&mut text, b"answers ", process.operators.unsent() as u64)?;
+    put_count(&mut text, b"admins ", process.admins.len() as u64)?;
+    put_count(&mut text, b"answers ", process.admins.unsent() as u64)?;
     Ok(text)
 }
 

@@ -6,10 +6,10 @@ use Rattle.bottimers.specs.declared.fault.ClockFault.{ClockFault}
 use Rattle.bottimers.specs.declared.timer.Timer.{Timer}
 use Rattle.bottimers.specs.declared.timer.TimerKind.TheVariants.{Minutes, Seconds}
 use Rattle.bottimers.specs.Held.{add_fault, holds_named}
-use Rattle.procstore.specs.declared.action.Action.{Action}
-use Rattle.procstore.specs.declared.action.Action.TheVariants.{Ask as ask_wished, Timer as timer_wished, Utimer, KillTimer, SendBot, Put}
-use Rattle.procstore.specs.declared.action.PutWish.{PutWish}
-use Rattle.procstore.specs.declared.action.TimerName.{TimerName}
+use Rattle.procs.specs.declared.action.Action.{Action}
+use Rattle.procs.specs.declared.action.Action.TheVariants.{Ask as ask_wished, Timer as timer_wished, Utimer, KillTimer, SendBot, Put}
+use Rattle.procs.specs.declared.action.PutWish.{PutWish}
+use Rattle.procs.specs.declared.action.TimerName.{TimerName}
 use Rattle.outqueue.specs.declared.fault.QueueFault.{QueueFault}
 use Rattle.outqueue.specs.Refusals.{refusal as queue_refusal}
 use Rattle.userfile.specs.Apply.{bad_shape}

@@ -4,20 +4,20 @@ use Rattle.std.proofs.Common.{refl, ap, sym, ◌∙◌}
 use Rattle.std.proofs.lemmas.List.{map-append}
 use Rattle.std.proofs.lemmas.List.Elements.{filter_map-append}
 use Rattle.std.specs.List.{list_any}
-use Rattle.procstore.specs.declared.call.Call.{Call}
-use Rattle.procstore.specs.declared.call_kind.CallKind.{CallKind}
-use Rattle.procstore.specs.declared.call_kind.CallKind.TheVariants.{Raw}
-use Rattle.procstore.specs.declared.reply.Code.{Code}
-use Rattle.procstore.specs.Calling.{holds}
-use Rattle.bindtable.specs.declared.bind.Bind.{Bind}
-use Rattle.bindtable.specs.Calls.{Occurrence, is_called, called}
-use Rattle.bindtable.specs.Tables.{Asked, with_number}
-use Rattle.botcalls.specs.declared.trigger.Trigger.{Trigger}
-use Rattle.botcalls.specs.declared.trigger.Trigger.TheVariants.{Heard, Due, Time, Cron, Said}
-use Rattle.botcalls.specs.Calls.{Entry, Telling, told_all, called_in, calls_in}
-use Rattle.botcalls.specs.Dispatching.{Setting, occurrence_of, told_seen, told_alone, told, is_word, is_one, has_one, is_raw, is_whole, next_of, told_from, told_of}
-use Rattle.botcalls.specs.Heard.{person_of, call_by}
-use Rattle.botcalls.specs.Occasions.{time_seen, cron_seen, said_seen, time_call, cron_call, said_call, kind_for}
+use Rattle.procs.specs.declared.call.Call.{Call}
+use Rattle.procs.specs.declared.call_kind.CallKind.{CallKind}
+use Rattle.procs.specs.declared.call_kind.CallKind.TheVariants.{Raw}
+use Rattle.procs.specs.declared.reply.Code.{Code}
+use Rattle.procs.specs.Calling.{holds}
+use Rattle.procs.specs.declared.bind.Bind.{Bind}
+use Rattle.procs.specs.Calls.{Occurrence, is_called, called}
+use Rattle.procs.specs.Tables.{Asked, with_number}
+use Rattle.procs.specs.declared.trigger.Trigger.{Trigger}
+use Rattle.procs.specs.declared.trigger.Trigger.TheVariants.{Heard, Due, Time, Cron, Said}
+use Rattle.procs.specs.Tellings.{Entry, Telling, told_all, called_in, calls_in}
+use Rattle.procs.specs.Dispatching.{Setting, occurrence_of, told_seen, told_alone, told, is_word, is_one, has_one, is_raw, is_whole, next_of, told_from, told_of}
+use Rattle.procs.specs.Heard.{person_of, call_by}
+use Rattle.procs.specs.Occasions.{time_seen, cron_seen, said_seen, time_call, cron_call, said_call, kind_for}
 use Rattle.botworld.specs.Calling.{ProcCall, asked_in}
 
 -- what tellings come to, whichever binds they are of

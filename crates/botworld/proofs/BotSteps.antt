@@ -4,10 +4,10 @@ use Rattle.bottimers.specs.declared.fault.ClockFault.{ClockFault}
 use Rattle.bottimers.specs.Seconds.{reading_fault}
 use Rattle.ircline.specs.declared.line.Line.TheVariants.{Message as a_message, Bad as a_bad_line}
 use Rattle.sharewire.specs.declared.packet.Packet.{Packet}
-use Rattle.procstore.specs.Promises.{Promised}
-use Rattle.bindtable.specs.declared.bind.Bind.{Bind as HeldBind}
-use Rattle.bindtable.specs.declared.fault.BindFault.{BindFault}
-use Rattle.bindtable.specs.Tables.{Asked, refusal}
+use Rattle.procs.specs.Promises.{Promised}
+use Rattle.procs.specs.declared.bind.Bind.{Bind as HeldBind}
+use Rattle.procs.specs.declared.bind_fault.BindFault.{BindFault}
+use Rattle.procs.specs.Tables.{Asked, refusal}
 use Rattle.protocol.specs.Numbers.{item_at}
 use Rattle.protocol.specs.Packets.{Sent, AcceptedChange, from_wire}
 use Rattle.protocol.specs.Bots.{How, Works, Row}
@@ -24,13 +24,13 @@ use Rattle.sharelink.specs.BotLinks.{BotEnd, did, took, Calls}
 use Rattle.botcore.specs.declared.event.BotEvent.{BotEvent}
 use Rattle.botcore.specs.declared.event.BotEvent.TheVariants.{Connect, Line, Ask, Pump, Receive, Clock, Bind, Unbind, Compact, Restart}
 use Rattle.botcore.specs.declared.event.OldBind.{OldBind}
-use Rattle.botcalls.specs.declared.made_call.MadeCall.{MadeCall}
+use Rattle.procs.specs.declared.made_call.MadeCall.{MadeCall}
 use Rattle.botcore.specs.declared.report.End.{End}
 use Rattle.botcore.specs.declared.report.End.TheVariants.{Done, Refused, NoMemory}
 use Rattle.botcore.specs.declared.report.Note.{Note}
 use Rattle.botcore.specs.declared.report.Report.{Report}
 use Rattle.botcore.specs.Bots.{Bot, with_device}
-use Rattle.botcalls.specs.Calls.{Telling}
+use Rattle.procs.specs.Tellings.{Telling}
 use Rattle.botcore.specs.Acting.{actions_of}
 use Rattle.botcore.specs.Happenings.{Saying, saying_of}
 use Rattle.botcore.specs.Lines.{acting_of, acting_after, Finish, finish_text, finish_line, finish_reading}

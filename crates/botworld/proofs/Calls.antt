@@ -25,34 +25,34 @@ use Rattle.protocol.proofs.Lists.{Extends-length, records_of-more}
 use Rattle.sharelink.specs.declared.answer.Answer.{Answer}
 use Rattle.sharelink.specs.declared.error.LinkFault.{LinkFault}
 use Rattle.sharelink.specs.BotLinks.{BotEnd, took}
-use Rattle.procstore.specs.Promises.{Promised, code_at}
-use Rattle.procstore.specs.Seen.{Sight}
-use Rattle.procstore.specs.declared.call.Call.{Call}
-use Rattle.procstore.specs.declared.reply.Code.{Code}
-use Rattle.bindtable.specs.declared.bind.Bind.{Bind as HeldBind}
-use Rattle.bindtable.specs.declared.fault.BindFault.{BindFault}
-use Rattle.bindtable.specs.Tables.{Asked, refusal}
+use Rattle.procs.specs.Promises.{Promised, code_at}
+use Rattle.procs.specs.Seen.{Sight}
+use Rattle.procs.specs.declared.call.Call.{Call}
+use Rattle.procs.specs.declared.reply.Code.{Code}
+use Rattle.procs.specs.declared.bind.Bind.{Bind as HeldBind}
+use Rattle.procs.specs.declared.bind_fault.BindFault.{BindFault}
+use Rattle.procs.specs.Tables.{Asked, refusal}
 use Rattle.botcore.specs.declared.event.BotEvent.{BotEvent}
 use Rattle.botcore.specs.declared.event.BotEvent.TheVariants.{Connect, Line, Ask, Pump, Receive, Clock, Bind, Unbind, Compact, Restart}
 use Rattle.botcore.specs.declared.event.OldBind.{OldBind}
 use Rattle.botcore.specs.declared.fault.Refusal.{Refusal}
 use Rattle.botcore.specs.declared.fault.Refusal.TheVariants.{Clock as clock_refusal}
-use Rattle.botcalls.specs.declared.made_call.MadeCall.{MadeCall}
-use Rattle.botcalls.specs.declared.trigger.Trigger.{Trigger}
-use Rattle.botcalls.specs.declared.trigger.Trigger.TheVariants.{Heard, Said}
+use Rattle.procs.specs.declared.made_call.MadeCall.{MadeCall}
+use Rattle.procs.specs.declared.trigger.Trigger.{Trigger}
+use Rattle.procs.specs.declared.trigger.Trigger.TheVariants.{Heard, Said}
 use Rattle.botcore.specs.declared.report.Note.{Note}
 use Rattle.botcore.specs.declared.report.End.{End}
 use Rattle.botcore.specs.declared.report.End.TheVariants.{Done, Refused, NoMemory}
 use Rattle.botcore.specs.declared.report.Report.{Report as BotReport}
 use Rattle.botcore.specs.Bots.{Bot, with_device, bot_setting}
-use Rattle.botcalls.specs.Calls.{Telling}
-use Rattle.botcalls.specs.Dispatched.{setting_of}
-use Rattle.botcalls.specs.Dispatching.{Setting, told_of}
+use Rattle.procs.specs.Tellings.{Telling}
+use Rattle.procs.specs.Dispatched.{setting_of}
+use Rattle.procs.specs.Dispatching.{Setting, told_of}
 use Rattle.botcore.specs.Happenings.{Happening, Saying, saying_of, said, said_if, seconds_of, happenings_of}
 use Rattle.botcore.specs.Happenings.Happening.{Heard as heard_event, Said as said_text}
 use Rattle.botcore.specs.Lines.{Finish}
 use Rattle.botcore.specs.Links.{link_version, link_records}
-use Rattle.botcalls.specs.Made.{entry_of}
+use Rattle.procs.specs.Made.{entry_of}
 use Rattle.botcore.specs.Reports.{refused, answer_report}
 use Rattle.botcore.specs.Shown.{AreOccasions, AreTaken}
 use Rattle.botcore.specs.Steps.{Due, bind_due, unbind_due, bind_to_go, asked_of, Gives, GivesCall, TakesCalls, said_occasions, TakesPacket}

@@ -11,7 +11,7 @@ use Rattle.protocol.proofs.Truth.{AllSent-posted}
 use Rattle.sharelink.specs.Calls.{outgoings_of}
 use Rattle.protocol.specs.Ends.{End as LinkEnd}
 use Rattle.protocol.specs.Nets.{IsMoment}
-use Rattle.procstore.specs.Promises.{Promised}
+use Rattle.procs.specs.Promises.{Promised}
 use Rattle.botcore.specs.declared.event.BotEvent.{BotEvent}
 use Rattle.botcore.specs.declared.event.BotEvent.TheVariants.{Connect, Line, Ask, Pump, Receive, Clock, Bind, Unbind, Compact, Restart}
 use Rattle.botcore.specs.Bots.{Bot}

@@ -31,7 +31,7 @@ use Rattle.sharelink.specs.Calls.{note_of}
 use Rattle.protocol.specs.Ends.{End as LinkEnd, AtHub, AtLeaf, end_asks, end_version}
 use Rattle.protocol.specs.Nets.{leaf_ends, ends_of as ends_in, MovesAsTold}
 use Rattle.sharelink.specs.BotLinks.{did, took, Calls}
-use Rattle.procstore.specs.Promises.{Promised}
+use Rattle.procs.specs.Promises.{Promised}
 use Rattle.botcore.specs.declared.event.BotEvent.{BotEvent}
 use Rattle.botcore.specs.declared.event.BotEvent.TheVariants.{Pump, Receive}
 use Rattle.botcore.specs.declared.report.End.TheVariants.{Done}

@@ -3,7 +3,7 @@ use Rattle.std.proofs.Common.{◌≡◌, ℕ, ◌+◌, ◌<◌, Bool, true, fals
 use Rattle.std.proofs.Common.{slice_set, Option, None, Some, Result, Ok, Err, IsOk, refl, ap, sym, subst, ◌∙◌}
 use Rattle.std.proofs.lemmas.Bool.{ltb-true}
 use Rattle.std.proofs.lemmas.Option.{slice_get_read}
-use Rattle.procstore.specs.Promises.{Promised}
+use Rattle.procs.specs.Promises.{Promised}
 use Rattle.botcore.specs.declared.event.BotEvent.{BotEvent}
 use Rattle.botcore.specs.declared.event.BotEvent.TheVariants.{Receive}
 use Rattle.botcore.specs.declared.report.Report.{Report as BotReport}

@@ -2,13 +2,13 @@
 use Rattle.std.specs.Prelude.{◌≡◌, ℕ, List, map, slice_get, Option, None, Some, Result, Ok, Err}
 use Rattle.userfile.specs.Records.{Records}
 use Rattle.chanstate.specs.declared.state.ChanState.{ChanState}
-use Rattle.procstore.specs.Promises.{Promised, code_at}
-use Rattle.procstore.specs.declared.call.Call.{Call}
-use Rattle.procstore.specs.declared.reply.Code.{Code}
-use Rattle.bindtable.specs.declared.bind.Bind.{Bind}
-use Rattle.bindtable.specs.Tables.{Asked}
+use Rattle.procs.specs.Promises.{Promised, code_at}
+use Rattle.procs.specs.declared.call.Call.{Call}
+use Rattle.procs.specs.declared.reply.Code.{Code}
+use Rattle.procs.specs.declared.bind.Bind.{Bind}
+use Rattle.procs.specs.Tables.{Asked}
 use Rattle.botcore.specs.declared.event.BotEvent.{BotEvent}
-use Rattle.botcalls.specs.declared.made_call.MadeCall.{MadeCall}
+use Rattle.procs.specs.declared.made_call.MadeCall.{MadeCall}
 use Rattle.botcore.specs.declared.report.End.{End}
 use Rattle.botcore.specs.declared.report.End.TheVariants.{Done, Refused, NoMemory}
 use Rattle.botcore.specs.Bots.{Bot}

@@ -13,7 +13,7 @@ use Rattle.sharelink.specs.declared.note.LinkNote.TheVariants.{Accepted}
 use Rattle.sharelink.specs.declared.error.LinkFault.TheVariants.{OtherLayout, Diverged}
 use Rattle.protocol.specs.Ends.{End as LinkEnd, end_asks}
 use Rattle.protocol.specs.Nets.{IsMoment, MovesAsTold, ends_of as ends_in}
-use Rattle.procstore.specs.Promises.{Promised}
+use Rattle.procs.specs.Promises.{Promised}
 use Rattle.botcore.specs.declared.event.BotEvent.TheVariants.{Pump}
 use Rattle.botcore.specs.declared.fault.Refusal.TheVariants.{Link as link_refusal}
 use Rattle.botcore.specs.declared.report.End.{End}

@@ -1,7 +1,7 @@
 -- Runs of the network, and the pasts for which a world stands.
 use Rattle.std.specs.Prelude.{◌≡◌, ◌≤◌, ℕ, List, [], ◌∷◌, ◌++◌, length, map, slice_get, Some}
 use Rattle.protocol.specs.History.{records_of}
-use Rattle.procstore.specs.Promises.{Promised}
+use Rattle.procs.specs.Promises.{Promised}
 use Rattle.botworld.specs.declared.step.Step.{Step}
 use Rattle.botworld.specs.declared.outcome.Outcome.{Outcome}
 use Rattle.botworld.specs.Net.{Net, shown_version, shown_records}

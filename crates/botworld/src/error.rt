@@ -4,7 +4,7 @@ ghost use Rattle.botworld.specs.Codes.{fault_code};
 
 use botcore::Bot;
 use disks::Disk;
-use procstore::{Body, ProcStore, Promise, Run};
+use procs::{Body, ProcStore, Promise, Run};
 use thiserror::Error;
 
 /// A refusal to make a world.

@@ -3,9 +3,9 @@ ghost use Rattle.std.specs.Prelude.{◌≡◌, IfOk};
 ghost use Rattle.std.specs.Option.{option_copied};
 ghost use Rattle.botworld.specs.Codes.{outcome_code};
 
-use botcalls::MadeCalls;
 use botcore::{End, Faults, Note};
 use bytetext::{NoMemory, Seq, Texts, TryCopy};
+use procs::MadeCalls;
 use std::alloc::Global;
 
 /// A bot's part in a step: the bot's report, with the numbers of its packets.

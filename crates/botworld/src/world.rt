@@ -13,7 +13,7 @@ use crate::step::{Part, Step};
 use botcore::{Bot, BotEvent, Report as BotReport};
 use bytetext::{NoMemory, Seq, TryCopy};
 use disks::Disk;
-use procstore::{Body, ProcStore, Promise, Run};
+use procs::{Body, ProcStore, Promise, Run};
 use sharelink::Outgoing;
 use std::alloc::Global;
 use std::marker::Model;

@@ -55,6 +55,12 @@ kept_has old new P settled is has =
       before = λ t image le left. ⊎_elim (λ earlier. inl earlier) (λ now. inr (subst P (sym now) has)) (run.before t image le left);
     }
 
+-- a call that changes no byte, and a run after it
+pub same_then : (first second third : State) (P : List ℕ → Type 0) → IsSettled first → SameBytes first second → P first.seen
+    → LeavesOnly second third P → LeavesOnly first third P
+same_then first second third P settled is has run =
+    joined first second third P P P (kept_has first second P settled is has) run (λ image p. p) (λ image p. p)
+
 -- where nothing was called
 pub still_has : (disk : State) (P : List ℕ → Type 0) → IsSettled disk → P disk.seen → LeavesOnly disk disk P
 still_has disk P settled has = kept_has disk disk P settled (same disk) has

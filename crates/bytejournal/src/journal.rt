@@ -4,8 +4,9 @@ ghost use Rattle.bytejournal.specs.Meaning.{added, rebased};
 ghost use Rattle.bytejournal.specs.Journal.{IsSound, AnyMoment, IsEither, HoldsOne, Appends, Rebases, contents_of};
 
 use crate::fault::{JournalError, JournalFault};
+use crate::gate::write_after_gate;
 use crate::spelling::{base_text, entry_text};
-use crate::writing::{put_after_gate, replace};
+use crate::writing::{end_after, replace};
 use bytetext::Failure;
 use disks::Disk;
 use std::alloc::Global;
@@ -50,15 +51,22 @@ impl<D: Disk> Journal<D> {
             return Err(Failure::Refused(JournalFault::Spent));
         }
         let text = entry_text(alloc, entry)?;
-        match put_after_gate(&mut self.active, self.gate, &text) {
+        // All room comes first.
+        let Some(end) = end_after(self.gate, &text) else {
+            return Err(Failure::NoMemory);
+        };
+        match self.active.reserve(end, 4) {
+            Ok(()) => {}
+            Err(_) => return Err(Failure::NoMemory),
+        }
+        match write_after_gate(&mut self.active, self.gate, &text) {
             Ok(()) => {
                 self.gate += text.len();
                 Ok(())
             }
-            Err(Failure::NoMemory) => Err(Failure::NoMemory),
-            Err(Failure::Refused(fault)) => {
+            Err(_) => {
                 self.spent = true;
-                Err(Failure::Refused(fault))
+                Err(Failure::Refused(JournalFault::DiskFault))
             }
         }
     }

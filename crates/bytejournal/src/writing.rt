@@ -1,37 +1,15 @@
 // How a journal puts a text on a disk: it makes all room first.
-ghost use Rattle.std.specs.Prelude.{◌≡◌, ◌<◌, ◌≤◌, ◌+◌, ◌^◌, Ok, Err, OnOk, IfSome, MatchResult, length};
+ghost use Rattle.std.specs.Prelude.{◌≡◌, ◌<◌, ◌+◌, Ok, Err, IfSome, MatchResult, length};
 ghost use Rattle.bytetext.specs.declared.failure.Failure.TheVariants.{Refused};
 ghost use Rattle.bytejournal.specs.declared.fault.JournalFault.TheVariants.{DiskFault as disk_fault};
 ghost use Rattle.disks.specs.State.{IsSettled, LeavesOnly};
-ghost use Rattle.bytejournal.specs.Gates.{with_gate, closed_first, IsHalfWritten, IsHalfReplaced};
+ghost use Rattle.bytejournal.specs.Gates.{with_gate, closed_first, IsHalfReplaced};
 ghost use Rattle.bytejournal.specs.Writing.{Puts};
 
 use crate::fault::{JournalError, JournalFault};
 use crate::gate::{close_first_gate, write_after_gate};
 use bytetext::Failure;
 use disks::{Disk, DiskFault};
-
-/// Puts `text` after the closed gate at the offset `gate`, and opens the gate.
-pub(crate) fn put_after_gate<D: Disk>(
-    disk: &mut D,
-    gate: usize,
-    text: &[u8],
-) -> Result<(), JournalError>
-    requires settled { IsSettled (D.state disk.old) }
-    requires inside { gate < length (D.state disk.old).seen }
-    ensures puts { Puts (D.state disk.old) (with_gate (D.state disk.old).seen gate text.now 1) result (D.state disk.new) }
-    ensures fits { OnOk result (gate + 1 + length text.now < 2 ^ 64) }
-    ensures any_moment { LeavesOnly (D.state disk.old) (D.state disk.new) (IsHalfWritten (D.state disk.old).seen gate text.now) }
-{
-    let Some(end) = end_after(gate, text) else {
-        return Err(Failure::NoMemory);
-    };
-    match disk.reserve(end, 4) {
-        Ok(()) => {}
-        Err(_) => return Err(Failure::NoMemory),
-    }
-    as_answer(write_after_gate(disk, gate, text))
-}
 
 /// Puts `text` after the gate at the disk's start, and opens the gate. An open gate is closed first: a byte that is
 /// being rewritten may come back as 1, so nothing is written after the gate until it is kept closed. A closed gate

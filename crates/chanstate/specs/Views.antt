@@ -1,7 +1,6 @@
 -- What a bot can look up about its channels.
 use Rattle.std.specs.Prelude.{ℕ, Bool, false, Option, None, Some, List, [], map, filter, find}
 use Rattle.std.specs.Option.{option_map}
-use Rattle.std.specs.List.{slice_get}
 use Rattle.chanstate.specs.declared.member.Member.{Member}
 use Rattle.chanstate.specs.declared.channel.Channel.{Channel}
 use Rattle.chanstate.specs.declared.state.ChanState.{ChanState}
@@ -16,10 +15,6 @@ connected nick = record { nick = nick; channels = []; support = unannounced }
 -- the channel of this name, if it is held
 abbrev pub channel_in : List ℕ → ChanState → Option Channel
 channel_in name s = find (is_named name) s.channels
-
--- the name of the channel at a place, in the order in which the bot joined them
-abbrev pub channel_at : ℕ → ChanState → Option (List ℕ)
-channel_at place s = option_map (λ channel. channel.name) (slice_get s.channels place)
 
 -- the topic of the channel of this name
 abbrev pub topic_in : List ℕ → ChanState → Option (List ℕ)

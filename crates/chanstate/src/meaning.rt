@@ -1,7 +1,7 @@
 // What a message means to procs that are bound to it.
 ghost use Rattle.std.specs.Prelude.{◌≡◌, ◌++◌, ◌∷◌, IfOk};
 ghost use Rattle.ircline.specs.Sources.{Server, Person as SomePerson};
-ghost use Rattle.chanstate.specs.Events.{typed_by, typed, events_of};
+ghost use Rattle.chanstate.specs.Events.{typed_by, events_of};
 
 use crate::channel_command::{ChannelCommand, read_verb};
 use crate::comings::{join, part, quit, rename};
@@ -26,34 +26,18 @@ pub fn events(
 ) -> Result<Vec<IrcEvent>, NoMemory>
     ensures { IfOk result (λ v. v.items ≡ events_of message.now state.now) }
 {
-    let parts = [
-        message.prefix.as_bytes(),
-        message.command.as_bytes(),
-        message.rest.as_bytes(),
-    ];
-    let raw = IrcEvent::new(
-        alloc,
-        EventKind::Raw,
-        message.command.as_bytes(),
-        None,
-        &parts,
-    )?;
-    let mut events = typed(alloc, message, state)?;
+    let command = message.command.as_bytes();
+    let verb = read_verb(command);
+    let params = message.params.as_slice();
+    let mut events = match source(message.prefix.as_bytes()) {
+        Source::None => Vec::new(alloc),
+        Source::Server(name) => by_server(alloc, verb, name, params, state)?,
+        Source::Person(person) => by_person(alloc, verb, person, params, state)?,
+    };
+    let parts = [message.prefix.as_bytes(), command, message.rest.as_bytes()];
+    let raw = IrcEvent::new(alloc, EventKind::Raw, command, None, &parts)?;
     events.insert(0, raw)?;
     Ok(events)
-}
-
-// Returns the events that depend on the command.
-fn typed(alloc: Global, message: &Message, state: &ChanState) -> Result<Vec<IrcEvent>, NoMemory>
-    ensures { IfOk result (λ v. v.items ≡ typed message.now state.now) }
-{
-    let verb = read_verb(message.command.as_bytes());
-    let params = message.params.as_slice();
-    match source(message.prefix.as_bytes()) {
-        Source::None => Ok(Vec::new(alloc)),
-        Source::Server(name) => by_server(alloc, verb, name, params, state),
-        Source::Person(person) => by_person(alloc, verb, person, params, state),
-    }
 }
 
 // Returns the events of a message from a server.

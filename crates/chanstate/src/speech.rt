@@ -1,7 +1,7 @@
 // The events of what people say.
-ghost use Rattle.std.specs.Prelude.{◌≡◌, ◌∷◌, ◌==◌, not, length, take, if◌then◌else◌, [], IfOk};
+ghost use Rattle.std.specs.Prelude.{◌≡◌, IfOk};
 ghost use Rattle.std.specs.Option.{option_copied};
-ghost use Rattle.chanstate.specs.Speech.{to_bot, to_channel, noticed, is_hidden, said, noted, says, notes};
+ghost use Rattle.chanstate.specs.Speech.{to_bot, to_channel, noticed, is_hidden, says, notes};
 
 use crate::deed::{Author, joined};
 use crate::event::{EventKind, IrcEvent};
@@ -17,83 +17,62 @@ fn is_for_programs(text: &[u8]) -> bool
     !text.is_empty() && text[0] == 1
 }
 
-// Returns the two events of a text: one by the whole text, and one by its first word, if it begins with a word.
-fn both(
-    alloc: Global,
-    whole: IrcEvent,
-    word: IrcEvent,
-    has_word: bool,
-) -> Result<Vec<IrcEvent>, NoMemory>
-    ensures { IfOk result (λ v. v.items ≡ (if has_word then whole ∷ word ∷ [] else whole ∷ [])) }
+// Returns the events when a person says something to the bot: one by the whole text, and one by its first word, if it
+// begins with a word.
+fn say_to_bot(alloc: Global, by: Author<'_>, text: &[u8]) -> Result<Vec<IrcEvent>, NoMemory>
+    ensures { IfOk result (λ v. v.items ≡ to_bot by.entry.nick.now by.entry.address.now text.now) }
 {
     let mut events = Vec::with_capacity(alloc, 2)?;
-    events.push(whole)?;
-    if has_word {
-        events.push(word)?;
+    let whole = [by.nick, by.address, text];
+    events.push(IrcEvent::new(alloc, EventKind::Msgm, text, None, &whole)?)?;
+    let word = first_word(text);
+    if word.is_empty() {
+        return Ok(events);
     }
+    let rest = [by.nick, by.address, after_word(text)];
+    events.push(IrcEvent::new(alloc, EventKind::Msg, word, None, &rest)?)?;
     Ok(events)
 }
 
-// Returns the events when a person says something to the bot.
-fn say_to_bot(
-    alloc: Global,
-    nick: &[u8],
-    address: &[u8],
-    text: &[u8],
-) -> Result<Vec<IrcEvent>, NoMemory>
-    ensures { IfOk result (λ v. v.items ≡ to_bot nick.now address.now text.now) }
-{
-    let word = first_word(text);
-    let whole = IrcEvent::new(alloc, EventKind::Msgm, text, None, &[nick, address, text])?;
-    let first = IrcEvent::new(
-        alloc,
-        EventKind::Msg,
-        word,
-        None,
-        &[nick, address, after_word(text)],
-    )?;
-    both(alloc, whole, first, !word.is_empty())
-}
-
-// Returns the events when a person says something on a channel.
+// Returns the events when a person says something on a channel: one by the channel and the whole text, and one by the
+// text's first word, if it begins with a word.
 fn say_on(
     alloc: Global,
-    nick: &[u8],
-    address: &[u8],
+    by: Author<'_>,
     channel: &[u8],
     text: &[u8],
 ) -> Result<Vec<IrcEvent>, NoMemory>
-    ensures { IfOk result (λ v. v.items ≡ to_channel nick.now address.now channel.now text.now) }
+    ensures { IfOk result (λ v. v.items ≡ to_channel by.entry.nick.now by.entry.address.now channel.now text.now) }
 {
-    let word = first_word(text);
+    let mut events = Vec::with_capacity(alloc, 2)?;
     let subject = joined(alloc, channel, b' ', text)?;
-    let whole = IrcEvent::new(
+    let whole = [by.nick, by.address, channel, text];
+    events.push(IrcEvent::new(
         alloc,
         EventKind::Pubm,
         subject.as_bytes(),
         Some(channel),
-        &[nick, address, channel, text],
-    )?;
-    let first = IrcEvent::new(
-        alloc,
-        EventKind::Pub,
-        word,
-        Some(channel),
-        &[nick, address, channel, after_word(text)],
-    )?;
-    both(alloc, whole, first, !word.is_empty())
+        &whole,
+    )?)?;
+    let word = first_word(text);
+    if word.is_empty() {
+        return Ok(events);
+    }
+    let rest = [by.nick, by.address, channel, after_word(text)];
+    events.push(IrcEvent::new(alloc, EventKind::Pub, word, Some(channel), &rest)?)?;
+    Ok(events)
 }
 
 // Returns the event of a notice from a person.
 fn note(
     alloc: Global,
-    nick: &[u8],
-    address: &[u8],
+    by: Author<'_>,
     channel: Option<&[u8]>,
     text: &[u8],
     dest: &[u8],
 ) -> Result<Vec<IrcEvent>, NoMemory>
-    ensures { IfOk result (λ v. v.items ≡ noticed nick.now address.now (option_copied channel.entry) text.now dest.now) }
+    ensures { IfOk result (λ v. v.items
+        ≡ noticed by.entry.nick.now by.entry.address.now (option_copied channel.entry) text.now dest.now) }
 {
     let mut events = Vec::with_capacity(alloc, 1)?;
     events.push(IrcEvent::new(
@@ -101,55 +80,9 @@ fn note(
         EventKind::Notc,
         text,
         channel,
-        &[nick, address, text, dest],
+        &[by.nick, by.address, text, dest],
     )?)?;
     Ok(events)
-}
-
-// Returns the events of a PRIVMSG to `target`.
-fn say_to(
-    alloc: Global,
-    nick: &[u8],
-    address: &[u8],
-    target: &[u8],
-    text: &[u8],
-    state: &ChanState,
-) -> Result<Vec<IrcEvent>, NoMemory>
-    ensures { IfOk result (λ v. v.items ≡ said nick.now address.now target.now text.now state.now) }
-{
-    if is_for_programs(text) {
-        return Ok(Vec::new(alloc));
-    }
-    if is_same(target, state.own_nick()) {
-        return say_to_bot(alloc, nick, address, text);
-    }
-    match state.held(target) {
-        Some(channel) => say_on(alloc, nick, address, channel, text),
-        None => Ok(Vec::new(alloc)),
-    }
-}
-
-// Returns the events of a NOTICE to `target`.
-fn note_to(
-    alloc: Global,
-    nick: &[u8],
-    address: &[u8],
-    target: &[u8],
-    text: &[u8],
-    state: &ChanState,
-) -> Result<Vec<IrcEvent>, NoMemory>
-    ensures { IfOk result (λ v. v.items ≡ noted nick.now address.now target.now text.now state.now) }
-{
-    if is_for_programs(text) {
-        return Ok(Vec::new(alloc));
-    }
-    if is_same(target, state.own_nick()) {
-        return note(alloc, nick, address, None, text, target);
-    }
-    match state.held(target) {
-        Some(channel) => note(alloc, nick, address, Some(channel), text, channel),
-        None => Ok(Vec::new(alloc)),
-    }
 }
 
 // Returns the events of a PRIVMSG.
@@ -167,7 +100,16 @@ pub(crate) fn say(
     let Some(text) = param(params, 1) else {
         return Ok(Vec::new(alloc));
     };
-    say_to(alloc, by.nick, by.address, target, text, state)
+    if is_for_programs(text) {
+        return Ok(Vec::new(alloc));
+    }
+    if is_same(target, state.own_nick()) {
+        return say_to_bot(alloc, by, text);
+    }
+    match state.held(target) {
+        Some(channel) => say_on(alloc, by, channel, text),
+        None => Ok(Vec::new(alloc)),
+    }
 }
 
 // Returns the events of a NOTICE.
@@ -185,5 +127,14 @@ pub(crate) fn notice(
     let Some(text) = param(params, 1) else {
         return Ok(Vec::new(alloc));
     };
-    note_to(alloc, by.nick, by.address, target, text, state)
+    if is_for_programs(text) {
+        return Ok(Vec::new(alloc));
+    }
+    if is_same(target, state.own_nick()) {
+        return note(alloc, by, None, text, target);
+    }
+    match state.held(target) {
+        Some(channel) => note(alloc, by, Some(channel), text, channel),
+        None => Ok(Vec::new(alloc)),
+    }
 }

@@ -2,7 +2,7 @@
 ghost use Rattle.std.specs.Prelude.{◌≡◌, ◌<◌, true, false, length, is_some, IfOk, IfErr, OnErr, MatchResult};
 ghost use Rattle.std.specs.Option.{option_copied, option_map};
 ghost use Rattle.chanstate.specs.Channels.{is_held};
-ghost use Rattle.chanstate.specs.Views.{connected, channel_in, channel_at, topic_in, members_in, member_in, is_op, is_voice, channels_with};
+ghost use Rattle.chanstate.specs.Views.{connected, channel_in, topic_in, members_in, member_in, is_op, is_voice, channels_with};
 ghost use Rattle.chanstate.specs.Steps.{after};
 ghost use Rattle.chanstate.specs.Memory.{takes_memory};
 ghost use Rattle.chanstate.specs.Items.{items_of};
@@ -71,17 +71,6 @@ impl ChanState {
     {
         match self.channels.find(channel) {
             Some(held) => Some(held.name.as_bytes()),
-            None => None,
-        }
-    }
-
-    /// Returns the name, as the bot spells it, of the channel at `place`, from 0, in the order in which the bot joined
-    /// them; `None` if the bot is on no more than `place` channels. Allocates nothing.
-    pub fn channel_at(&self, place: usize) -> Option<&[u8]>
-        ensures { option_copied result ≡ channel_at place self.now }
-    {
-        match self.channels.as_slice().get(place) {
-            Some(channel) => Some(channel.name.as_bytes()),
             None => None,
         }
     }

@@ -1,3 +1,4 @@
 pub mod Vocabulary
 pub mod Reading
 pub mod Answering
+pub mod Showing

@@ -1,4 +1,4 @@
--- The first words of commands, as operators spell them.
+-- The first words of commands, as admins spell them.
 use Rattle.std.specs.Prelude.{ℕ, List, [], ◌∷◌, Option, find, codes}
 use Rattle.std.specs.Str.{bytes_eq}
 use Rattle.control.specs.declared.command_word.CommandWord.{CommandWord}

@@ -3,7 +3,7 @@ use bytetext::Text;
 use settings::BindWords;
 use userfile::Change;
 
-/// What an operator asks a running bot for.
+/// What an admin asks a running bot for.
 #[derive(Drop)]
 pub enum AdminCommand {
     /// To change the userfile. Nothing has checked that the handles, masks and channels are well formed.

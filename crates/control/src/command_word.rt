@@ -69,7 +69,7 @@ const ALL: [CommandWord; 19] = [
 ];
 
 impl CommandWord {
-    /// Returns the word as operators spell it.
+    /// Returns the word as admins spell it.
     pub fn spelling(self) -> &'static str
         ensures { result.now ≡ spelling_of self }
     {

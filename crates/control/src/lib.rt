@@ -1,4 +1,16 @@
-//! What an operator says to a running bot, and the form of the bot's answer.
+//! What an admin says to a bot, how the bot reads it, what it answers, and the client that asks.
+//!
+//! [`ask`] sends a command to the socket that a running bot has in its folder ([`botfolder`]), and returns the lines of
+//! the answer. [`show`] returns a bot's version and records, whether it runs or not: if the bot is stopped, it reads
+//! the journal and creates no file. The bot reads the command by [`AdminCommand::read`].
+//!
+//! ```text
+//! ask(rt, "/var/lib/eggnet/egg1", b"adduser alice")?;    // accepted 1
+//! show(rt, "/var/lib/eggnet/egg1")?;                     // 0 version 1 users 1 bans 0
+//!                                                        // 0 user alice - -
+//! ```
+//!
+//! # Commands
 //!
 //! A command is a line of at most [`MAX_COMMAND`] bytes: a word, and the words that belong to it, with one space
 //! between. A last word that the table shows in capitals takes the rest of the line, and keeps its spaces.
@@ -18,26 +30,37 @@
 //! [`AdminCommand::read`] returns what a line asks for, or what to say instead. Only the bot, when it is asked, decides
 //! whether it accepts a change, a bind or a line of IRC.
 //!
+//! # Answers
+//!
 //! An answer is lines, and then a line with a full stop alone. [`body_of`] returns the lines of a whole answer, and
 //! [`is_refusal`] whether they refuse the command.
 //!
 //! ```text
-//! Command::read(alloc, b"adduser alice")?;     // Command::Change(Change::AddUser { .. })
-//! Command::read(alloc, b"chan alice #egg")     // say chan HANDLE CHANNEL FLAGS, as in chan alice #egg o
-//! body_of(b"accepted 1\n.\n")                  // Some(b"accepted 1\n")
+//! AdminCommand::read(alloc, b"adduser alice")?;    // AdminCommand::Change(Change::AddUser { .. })
+//! AdminCommand::read(alloc, b"chan alice #egg")    // say chan HANDLE CHANNEL FLAGS, as in chan alice #egg o
+//! body_of(b"accepted 1\n.\n")                      // Some(b"accepted 1\n")
 //! ```
+//!
+//! No contract can say what a socket gives, so it is not proved that the answer is the one that the bot gave. [`ask`]
+//! and [`show`] return, whatever the bot does: they give up on a bot that says nothing for [`PATIENCE`] seconds.
 #![tactic(auto)]
 
 mod admin_command;
 mod advice;
 mod answer;
+mod asking;
 mod command_word;
+mod fault;
 mod reading;
+mod showing;
 
 pub use crate::admin_command::{AdminCommand, UnbindWords};
 pub use crate::advice::{CommandAdvice, CommandError};
 pub use crate::answer::{body_of, is_refusal};
+pub use crate::asking::{MAX_ANSWER, PATIENCE, ask};
 pub use crate::command_word::CommandWord;
+pub use crate::fault::{AskError, AskFault};
+pub use crate::showing::{records_of, show};
 
 /// The most bytes that a command has, without the line feed after it.
 pub const MAX_COMMAND: usize = 600;

@@ -1,8 +1,8 @@
-// A line of an operator, read.
+// A line of an admin, read.
 ghost use Rattle.std.specs.Prelude.{◌≡◌, ◌∷◌, map, IfOk};
 ghost use Rattle.std.specs.List.{list_any};
-ghost use Rattle.control.specs.Reading.{Answers, alone, bind_said, bound, change_said, command_by_words, die_said, die_text, is_bare};
-ghost use Rattle.control.specs.Reading.{said, said_of, say_said, unbind_said, unbound};
+ghost use Rattle.control.specs.Reading.{Answers, alone, bind_said, bound, command_by_words, die_said, die_text, is_bare};
+ghost use Rattle.control.specs.Reading.{said, say_said, unbind_said, unbound};
 
 use crate::admin_command::{AdminCommand, UnbindWords};
 use crate::advice::{CommandAdvice, CommandError};
@@ -56,26 +56,14 @@ fn is_bare(byte: u8) -> bool
     byte == 0 || byte == b'\n' || byte == b'\r'
 }
 
-// The first word says what is asked for.
+// The first word says what is asked for, and what may follow it.
 fn command_by_words(alloc: Global, words: &[&[u8]]) -> Result<AdminCommand, CommandError>
     ensures { Answers (command_by_words (map (λ word. word.now) words.now)) result }
 {
-    match words {
-        [] => Err(Failure::Refused(CommandAdvice::Unknown)),
-        [name, words @ ..] => said_of(alloc, CommandWord::named(name), name, words),
-    }
-}
-
-// What follows each word.
-fn said_of(
-    alloc: Global,
-    word: Option<CommandWord>,
-    name: &[u8],
-    words: &[&[u8]],
-) -> Result<AdminCommand, CommandError>
-    ensures { Answers (said_of word name.now (map (λ word. word.now) words.now)) result }
-{
-    let Some(word) = word else {
+    let [name, words @ ..] = words else {
+        return Err(Failure::Refused(CommandAdvice::Unknown));
+    };
+    let Some(word) = CommandWord::named(name) else {
         return Err(Failure::Refused(CommandAdvice::Unknown));
     };
     match word {
@@ -89,7 +77,10 @@ fn said_of(
         | CommandWord::DelUser
         | CommandWord::Global
         | CommandWord::Info
-        | CommandWord::Sticky => change_said(alloc, word, name, words),
+        | CommandWord::Sticky => match change_named(alloc, name, words)? {
+            Some(change) => Ok(AdminCommand::Change(change)),
+            None => Err(Failure::Refused(CommandAdvice::Form(word))),
+        },
         CommandWord::Bind => bind_said(alloc, words),
         CommandWord::Compact => alone(word, words, AdminCommand::Compact),
         CommandWord::Die => die_said(alloc, words),
@@ -98,21 +89,6 @@ fn said_of(
         CommandWord::Show => alone(word, words, AdminCommand::Show),
         CommandWord::Status => alone(word, words, AdminCommand::Status),
         CommandWord::Unbind => unbind_said(alloc, words),
-    }
-}
-
-// A change by its name and words.
-fn change_said(
-    alloc: Global,
-    word: CommandWord,
-    name: &[u8],
-    words: &[&[u8]],
-) -> Result<AdminCommand, CommandError>
-    ensures { Answers (change_said word name.now (map (λ word. word.now) words.now)) result }
-{
-    match change_named(alloc, name, words)? {
-        Some(change) => Ok(AdminCommand::Change(change)),
-        None => Err(Failure::Refused(CommandAdvice::Form(word))),
     }
 }
 

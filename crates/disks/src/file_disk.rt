@@ -15,7 +15,7 @@ use bytetext::NoMemory;
 use std::alloc::Global;
 use std::fs::{File, OpenOptions};
 use std::marker::Model;
-use std::os::unix::fs::OpenOptionsExt;
+use std::os::unix::fs::OpenOptionsExt as _;
 use std::rt::Files;
 
 /// A disk in a file. Each write and sync goes to the file, and a read gives what the mirror in memory holds.

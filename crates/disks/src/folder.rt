@@ -4,7 +4,7 @@ use bytetext::Failure;
 use std::fs;
 use std::fs::{DirBuilder, File, OpenOptions};
 use std::io::ErrorKind;
-use std::os::unix::fs::DirBuilderExt;
+use std::os::unix::fs::DirBuilderExt as _;
 use std::path::Path;
 use std::rt::Files;
 

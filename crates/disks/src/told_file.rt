@@ -10,8 +10,8 @@ use bytetext::Failure;
 use std::alloc::Global;
 use std::fs::{File, TryLockError};
 use std::marker::Model;
-use std::os::fd::AsRawFd;
-use std::os::unix::fs::FileExt;
+use std::os::fd::AsRawFd as _;
+use std::os::unix::fs::FileExt as _;
 use std::snapshot::Snapshot;
 
 /// The first descriptor that belongs to none of the standard streams.

@@ -2,7 +2,7 @@
 use botrun::{RunError, Subject, check, run};
 use bytetext::Failure;
 use eggprocs::Ours;
-use procstore::{ProcStore, Run};
+use procs::{ProcStore, Run};
 use replaying::{FAULT, STREAM_FAULT, out_of_memory};
 use settings::{MAX_FILE, Settings};
 use std::fs::File;

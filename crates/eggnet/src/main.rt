@@ -31,59 +31,38 @@ mod words;
 use crate::configuration::{check_file, run_file};
 use crate::scripts::live_script;
 use crate::serve::serve_port;
-use crate::talk::{show_folder, tell_folder};
+use crate::talk::print_answer;
 use crate::words::{Task, refused, task_of, version_of};
-use bytetext::NoMemory;
-use eggprocs::{EggProc, Ours, store};
-use procstore::ProcStore;
+use control::{ask, show};
+use eggprocs::store;
 use replaying::{out_of_memory, picture_script, replay_file, replay_input, unread, words_of};
-use std::fs::File;
-use std::net::Net;
 use std::process::ExitCode;
-use std::random::RandomSource;
-use std::rt::{Env, Files};
-use std::time::Clock;
 
 fn main(rt: HostRuntime) -> ExitCode {
-    ExitCode::from(status(&rt))
-}
-
-// The status that the program ends with.
-fn status<
-    R: Input + Print + Eprint + AllocGlobal + Env + Net + Clock + Files<File = File> + RandomSource,
->(rt: &R) -> u8 {
-    let words = match words_of(rt) {
+    let words = match words_of(&rt) {
         Ok(words) => words,
-        Err(error) => return unread(rt, &error),
+        Err(error) => return ExitCode::from(unread(&rt, &error)),
     };
     let Ok(version) = version_of(rt.alloc()) else {
-        return out_of_memory(rt);
+        return ExitCode::from(out_of_memory(&rt));
     };
     let task = match task_of(rt.alloc(), words.as_slice(), version.as_str()) {
         Ok(task) => task,
-        Err(error) => return refused(rt, &error),
+        Err(error) => return ExitCode::from(refused(&rt, &error)),
     };
-    match store(rt.alloc()) {
-        Ok(store) => done(rt, &task, store),
-        Err(NoMemory) => out_of_memory(rt),
-    }
-}
-
-// Does what the command line asks for.
-fn done<R: Input + Print + Eprint + AllocGlobal + Net + Clock + Files<File = File> + RandomSource>(
-    rt: &R,
-    task: &Task<'_>,
-    store: ProcStore<Ours, EggProc>,
-) -> u8 {
-    match task {
-        Task::Run(file) => run_file(rt, &store, file),
-        Task::Check(file) => check_file(rt, &store, file),
-        Task::Tell(folder, line) => tell_folder(rt, folder, line.as_slice()),
-        Task::Show(folder) => show_folder(rt, folder),
-        Task::Replay(Some(file)) => replay_file(rt, store, file),
-        Task::Replay(None) => replay_input(rt, store),
-        Task::Picture(file) => picture_script(rt, store, *file),
-        Task::Live => live_script(rt, store),
-        Task::Serve(port) => serve_port(rt, *port),
-    }
+    let Ok(store) = store(rt.alloc()) else {
+        return ExitCode::from(out_of_memory(&rt));
+    };
+    let status = match &task {
+        Task::Run(file) => run_file(&rt, &store, file),
+        Task::Check(file) => check_file(&rt, &store, file),
+        Task::Tell(folder, line) => print_answer(&rt, folder, ask(&rt, folder, line.as_slice())),
+        Task::Show(folder) => print_answer(&rt, folder, show(&rt, folder)),
+        Task::Replay(Some(file)) => replay_file(&rt, store, file),
+        Task::Replay(None) => replay_input(&rt, store),
+        Task::Picture(file) => picture_script(&rt, store, *file),
+        Task::Live => live_script(&rt, store),
+        Task::Serve(port) => serve_port(&rt, *port),
+    };
+    ExitCode::from(status)
 }

@@ -1,7 +1,7 @@
 // Scripts, played live.
 use eggprocs::Ours;
 use live::{LiveError, live};
-use procstore::{ProcStore, Run};
+use procs::{ProcStore, Run};
 use replaying::{FAULT, STREAM_FAULT, out_of_memory};
 use std::io;
 use std::net::Net;

@@ -1,50 +1,25 @@
-// What an operator asks a bot.
+// What a bot answers an admin.
 use bytetext::Failure;
-use control::is_refusal;
-use operator::{AskError, AskFault, ask, show};
+use control::{AskError, AskFault, is_refusal};
 use replaying::{FAULT, STREAM_FAULT, not_written, out_of_memory};
-use std::fs::File;
 use std::io;
-use std::net::Net;
-use std::rt::Files;
-use std::time::Clock;
 use streams::{Duplex, WriteFault, write_out};
 
-/// Sends `line` to the bot that runs on `folder`, and prints what it answers. Returns the exit status.
-pub fn tell_folder<R: Input + Print + Eprint + AllocGlobal + Net + Clock>(
+/// Prints `answer`, the lines that the bot of `folder` answered or that its journal shows, or reports why there are
+/// none. Returns the exit status.
+pub fn print_answer<R: Input + Print + Eprint>(
     rt: &R,
     folder: &str,
-    line: &[u8],
+    answer: Result<Vec<u8>, AskError>,
 ) -> u8 {
-    match ask(rt, folder, line) {
-        Ok(answer) => {
-            let status = if is_refusal(answer.as_slice()) {
-                FAULT
-            } else {
-                0
-            };
-            printed(rt, answer.as_slice(), status)
-        }
-        Err(error) => not_asked(rt, folder, error),
-    }
-}
-
-/// Prints the version and the records of the bot of `folder`. Returns the exit status.
-pub fn show_folder<R: Input + Print + Eprint + AllocGlobal + Net + Clock + Files<File = File>>(
-    rt: &R,
-    folder: &str,
-) -> u8 {
-    match show(rt, folder) {
-        Ok(text) => printed(rt, text.as_slice(), 0),
-        Err(error) => not_asked(rt, folder, error),
-    }
-}
-
-// Prints a text, and returns `status` if it could be printed.
-fn printed<R: Input + Print + Eprint>(rt: &R, text: &[u8], status: u8) -> u8 {
+    let answer = match answer {
+        Ok(answer) => answer,
+        Err(error) => return not_asked(rt, folder, error),
+    };
     let mut stream = Duplex::new(rt.reader(), io::writer(rt));
-    match write_out(&mut stream, text) {
-        Ok(()) => status,
+    match write_out(&mut stream, answer.as_slice()) {
+        Ok(()) if is_refusal(answer.as_slice()) => FAULT,
+        Ok(()) => 0,
         Err(WriteFault) => not_written(rt),
     }
 }

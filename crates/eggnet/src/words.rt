@@ -1,7 +1,7 @@
 // What the command line asks for.
 use botjournal::LAYOUT;
 use clap::error::ErrorKind;
-use clap::{Arg, ArgMatches, Command, Error, value_parser};
+use clap::{Arg, Command, Error, value_parser};
 use replaying::{USAGE, not_written, out_of_memory};
 use std::alloc::{AllocError, Global};
 
@@ -63,21 +63,15 @@ pub fn task_of<'a>(
         Some(("run", said)) => Ok(Task::Run(said.get_str("CONFIG").unwrap_or(""))),
         Some(("check", said)) => Ok(Task::Check(said.get_str("CONFIG").unwrap_or(""))),
         Some(("show", said)) => Ok(Task::Show(said.get_str("FOLDER").unwrap_or(""))),
-        Some(("tell", said)) => tell_of(alloc, said),
+        Some(("tell", said)) => Ok(Task::Tell(
+            said.get_str("FOLDER").unwrap_or(""),
+            joined(alloc, said.get_strs("WORDS").unwrap_or(&[]))?,
+        )),
         Some(("serve", said)) => Ok(Task::Serve(said.get_one("PORT").unwrap_or(0))),
         Some(("replay", said)) => Ok(Task::Replay(said.get_str("FILE"))),
         Some(("picture", said)) => Ok(Task::Picture(said.get_str("FILE"))),
         _ => Ok(Task::Live),
     }
-}
-
-// What `tell` asks for.
-fn tell_of<'a>(alloc: Global, said: &ArgMatches<'a>) -> Result<Task<'a>, Error> {
-    let line = match said.get_strs("WORDS") {
-        Some(words) => joined(alloc, words)?,
-        None => Vec::new(alloc),
-    };
-    Ok(Task::Tell(said.get_str("FOLDER").unwrap_or(""), line))
 }
 
 // The words with one space between.

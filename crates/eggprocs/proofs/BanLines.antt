@@ -3,8 +3,8 @@ use Rattle.std.proofs.Common.{◌≡◌, ◌∙◌, ℕ, ◌+◌, List, [], ◌�
 use Rattle.std.proofs.lemmas.List.{take_more, get_or-drop, map-append}
 use Rattle.std.proofs.lemmas.Option.{slice_get_within, get_or_from_slice_get}
 use Rattle.userfile.specs.declared.ban.Ban.{Ban}
-use Rattle.procstore.specs.declared.action.Action.{Action}
-use Rattle.procstore.specs.declared.call.Call.{Call}
+use Rattle.procs.specs.declared.action.Action.{Action}
+use Rattle.procs.specs.declared.call.Call.{Call}
 use Rattle.eggprocs.specs.Marks.{told_ban}
 
 -- one ban more after those that are left out

@@ -19,14 +19,14 @@ use Rattle.userfile.specs.Held.{has_user, user_of}
 use Rattle.userfile.specs.declared.flags.PersonFlags.{PersonFlags}
 use Rattle.chanstate.specs.declared.member.Member.{Member}
 use Rattle.chanstate.specs.Views.{members_in}
-use Rattle.procstore.specs.declared.action.Action.{Action}
-use Rattle.procstore.specs.declared.action.Action.TheVariants.{Ask, Timer, Utimer, KillTimer, SendBot, Put}
+use Rattle.procs.specs.declared.action.Action.{Action}
+use Rattle.procs.specs.declared.action.Action.TheVariants.{Ask, Timer, Utimer, KillTimer, SendBot, Put}
 use Rattle.outqueue.specs.declared.queue.Queue.TheVariants.{Help, Mode as mode_queue, Server}
-use Rattle.procstore.specs.declared.call.Call.{Call}
-use Rattle.procstore.specs.declared.limits.TheConstants.{MAX_ACTIONS}
-use Rattle.procstore.specs.declared.reply.ProcReply.{ProcReply}
-use Rattle.procstore.specs.Promises.{IsKept}
-use Rattle.procstore.specs.Seen.{Seen}
+use Rattle.procs.specs.declared.call.Call.{Call}
+use Rattle.procs.specs.declared.limits.TheConstants.{MAX_ACTIONS}
+use Rattle.procs.specs.declared.reply.ProcReply.{ProcReply}
+use Rattle.procs.specs.Promises.{IsKept}
+use Rattle.procs.specs.Seen.{Seen}
 use Rattle.eggprocs.specs.declared.rights.TheConstants.{AUTO_OP, AUTO_VOICE, OP, VOICE, MASTER, OWNER}
 use Rattle.eggprocs.specs.declared.rights.Requester.{Requester}
 use Rattle.eggprocs.specs.declared.rights.Requester.TheVariants.{Elsewhere, Stranger, Master}

@@ -1,7 +1,7 @@
 -- Each proc is found by its name, so that its body keeps the promise of that name.
 use Rattle.std.proofs.Common.{◌≡◌, ◌∙◌, refl, ap, sym, Ok, Err, Option, Some}
-use Rattle.procstore.specs.declared.reply.ProcReply.{ProcReply}
-use Rattle.procstore.specs.Promises.{KeepsPromise}
+use Rattle.procs.specs.declared.reply.ProcReply.{ProcReply}
+use Rattle.procs.specs.Promises.{KeepsPromise}
 use Rattle.eggprocs.specs.declared.proc_name.ProcName.{ProcName}
 use Rattle.eggprocs.specs.declared.proc_name.ProcName.TheVariants.{Quiet, Stop, AddUser, Tick, Tell, Echo, Op, Deop, Voice, Devoice, AutoOp, Kick, Topic, Invite, Ban, Unban, Lift}
 use Rattle.eggprocs.specs.declared.proc_name.ProcName.TheVariants.{PlusUser, MinusUser, PlusHost, MinusHost, Chattr, Whois, Info, Greet, Stick, Unstick, Bans, Seen, OpAll}

@@ -1,7 +1,7 @@
 -- The arguments that a proc is called with.
 use Rattle.std.specs.Prelude.{ℕ, ◌-◌, ◌==◌, not, Bool, List, [], length, slice_get, unwrap_or, if◌then◌else◌}
 use Rattle.bytetext.specs.Words.{first_word}
-use Rattle.procstore.specs.declared.call.Call.{Call}
+use Rattle.procs.specs.declared.call.Call.{Call}
 
 -- the argument at a place, or the empty text if there is none
 abbrev pub arg_at : List (List ℕ) → ℕ → List ℕ

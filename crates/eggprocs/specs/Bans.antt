@@ -9,11 +9,11 @@ use Rattle.userfile.specs.Persons.{expires_at}
 use Rattle.userfile.specs.Shapes.{is_hostmask}
 use Rattle.bytetext.specs.Words.{first_word, after_word}
 use Rattle.outqueue.specs.declared.queue.Queue.TheVariants.{Mode as mode_queue}
-use Rattle.procstore.specs.declared.action.Action.{Action}
-use Rattle.procstore.specs.declared.action.Action.TheVariants.{Ask, Timer, Utimer}
-use Rattle.procstore.specs.declared.action.TimerWish.{TimerWish}
-use Rattle.procstore.specs.declared.call.Call.{Call}
-use Rattle.procstore.specs.Seen.{Seen}
+use Rattle.procs.specs.declared.action.Action.{Action}
+use Rattle.procs.specs.declared.action.Action.TheVariants.{Ask, Timer, Utimer}
+use Rattle.procs.specs.declared.action.TimerWish.{TimerWish}
+use Rattle.procs.specs.declared.call.Call.{Call}
+use Rattle.procs.specs.Seen.{Seen}
 use Rattle.eggprocs.specs.declared.bans.TheConstants.{UTIMER_MINUTES}
 use Rattle.eggprocs.specs.Args.{handle_of, channel_of, said_of, timer_text, has_word}
 use Rattle.eggprocs.specs.Channel.{put}

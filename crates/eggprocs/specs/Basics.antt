@@ -2,12 +2,12 @@
 use Rattle.std.specs.Prelude.{ℕ, List, [], ◌∷◌, Bool, true, false, if◌then◌else◌, codes, Option, Some, None}
 use Rattle.userfile.specs.declared.change.Change.TheVariants.{AddUser}
 use Rattle.outqueue.specs.declared.queue.Queue.TheVariants.{Help}
-use Rattle.procstore.specs.declared.action.Action.{Action}
-use Rattle.procstore.specs.declared.action.Action.TheVariants.{Ask, Utimer, SendBot, Put}
-use Rattle.procstore.specs.declared.call.Call.{Call}
-use Rattle.procstore.specs.declared.call_kind.CallKind.{CallKind}
-use Rattle.procstore.specs.declared.call_kind.CallKind.TheVariants.{Raw, Msg, Msgm, Notc, Pub, Pubm, Join, Part, Sign, Kick, Nick, Mode, Topc}
-use Rattle.procstore.specs.declared.call_kind.CallKind.TheVariants.{Bot, Time, Cron, Timer}
+use Rattle.procs.specs.declared.action.Action.{Action}
+use Rattle.procs.specs.declared.action.Action.TheVariants.{Ask, Utimer, SendBot, Put}
+use Rattle.procs.specs.declared.call.Call.{Call}
+use Rattle.procs.specs.declared.call_kind.CallKind.{CallKind}
+use Rattle.procs.specs.declared.call_kind.CallKind.TheVariants.{Raw, Msg, Msgm, Notc, Pub, Pubm, Join, Part, Sign, Kick, Nick, Mode, Topc}
+use Rattle.procs.specs.declared.call_kind.CallKind.TheVariants.{Bot, Time, Cron, Timer}
 use Rattle.eggprocs.specs.Args.{arg_at, last_of}
 use Rattle.eggprocs.specs.Lines.{privmsg}
 

@@ -4,10 +4,10 @@ use Rattle.bytetext.specs.Words.{first_word, after_word}
 use Rattle.userfile.specs.declared.flags.PersonFlags.{PersonFlags}
 use Rattle.outqueue.specs.declared.queue.Queue.{Queue}
 use Rattle.outqueue.specs.declared.queue.Queue.TheVariants.{Mode as mode_queue, Server}
-use Rattle.procstore.specs.declared.action.Action.{Action}
-use Rattle.procstore.specs.declared.action.Action.TheVariants.{Put}
-use Rattle.procstore.specs.declared.call.Call.{Call}
-use Rattle.procstore.specs.Seen.{Seen}
+use Rattle.procs.specs.declared.action.Action.{Action}
+use Rattle.procs.specs.declared.action.Action.TheVariants.{Put}
+use Rattle.procs.specs.declared.call.Call.{Call}
+use Rattle.procs.specs.Seen.{Seen}
 use Rattle.eggprocs.specs.declared.rights.TheConstants.{AUTO_OP, AUTO_VOICE}
 use Rattle.eggprocs.specs.Args.{nick_of, channel_of, said_of, has_word, or_else}
 use Rattle.eggprocs.specs.Lines.{mode, kick, topic, invite}

@@ -10,10 +10,10 @@ use Rattle.userfile.specs.Persons.{flags_of, handle_of}
 use Rattle.chanstate.specs.declared.member.Member.{Member}
 use Rattle.chanstate.specs.Views.{members_in}
 use Rattle.outqueue.specs.declared.queue.Queue.TheVariants.{Mode as mode_queue, Server}
-use Rattle.procstore.specs.declared.action.Action.{Action}
-use Rattle.procstore.specs.declared.call.Call.{Call}
-use Rattle.procstore.specs.declared.limits.TheConstants.{MAX_ACTIONS}
-use Rattle.procstore.specs.Seen.{Seen}
+use Rattle.procs.specs.declared.action.Action.{Action}
+use Rattle.procs.specs.declared.call.Call.{Call}
+use Rattle.procs.specs.declared.limits.TheConstants.{MAX_ACTIONS}
+use Rattle.procs.specs.Seen.{Seen}
 use Rattle.eggprocs.specs.declared.rights.TheConstants.{AUTO_OP, AUTO_VOICE}
 use Rattle.eggprocs.specs.Args.{arg_at, nick_of, channel_of}
 use Rattle.eggprocs.specs.Channel.{put}

@@ -7,9 +7,9 @@ use Rattle.userfile.specs.Apply.{refusal}
 use Rattle.userfile.specs.Held.{has_user}
 use Rattle.userfile.specs.Persons.{info_of}
 use Rattle.outqueue.specs.declared.queue.Queue.TheVariants.{Help}
-use Rattle.procstore.specs.declared.action.Action.{Action}
-use Rattle.procstore.specs.declared.call.Call.{Call}
-use Rattle.procstore.specs.Seen.{Seen}
+use Rattle.procs.specs.declared.action.Action.{Action}
+use Rattle.procs.specs.declared.call.Call.{Call}
+use Rattle.procs.specs.Seen.{Seen}
 use Rattle.eggprocs.specs.Args.{nick_of, handle_of, channel_of, told_of, or_else}
 use Rattle.eggprocs.specs.Channel.{put}
 use Rattle.eggprocs.specs.Lines.{privmsg}

@@ -8,12 +8,12 @@ use Rattle.userfile.specs.declared.change.Change.TheVariants.{AddUser, DelUser, 
 use Rattle.userfile.specs.Held.{user_of}
 use Rattle.chanstate.specs.declared.member.Member.{Member}
 use Rattle.chanstate.specs.Views.{members_in}
-use Rattle.procstore.specs.declared.action.Action.{Action}
-use Rattle.procstore.specs.declared.action.Action.TheVariants.{Ask, Timer, Utimer, KillTimer, SendBot, Put}
-use Rattle.procstore.specs.declared.call.Call.{Call}
-use Rattle.procstore.specs.declared.reply.ProcReply.{ProcReply}
-use Rattle.procstore.specs.Promises.{IsKept}
-use Rattle.procstore.specs.Seen.{Seen}
+use Rattle.procs.specs.declared.action.Action.{Action}
+use Rattle.procs.specs.declared.action.Action.TheVariants.{Ask, Timer, Utimer, KillTimer, SendBot, Put}
+use Rattle.procs.specs.declared.call.Call.{Call}
+use Rattle.procs.specs.declared.reply.ProcReply.{ProcReply}
+use Rattle.procs.specs.Promises.{IsKept}
+use Rattle.procs.specs.Seen.{Seen}
 use Rattle.eggprocs.specs.declared.rights.TheConstants.{AUTO_OP, AUTO_VOICE, MASTER, OWNER}
 use Rattle.eggprocs.specs.Args.{handle_of, channel_of}
 use Rattle.eggprocs.specs.Everyone.{is_own_join, flags_of_member}

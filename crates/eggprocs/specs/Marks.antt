@@ -5,10 +5,10 @@ use Rattle.userfile.specs.declared.change.Change.{Change}
 use Rattle.userfile.specs.declared.change.Change.TheVariants.{SetSticky}
 use Rattle.userfile.specs.declared.ban.Ban.{Ban}
 use Rattle.bytetext.specs.Words.{first_word, after_word}
-use Rattle.procstore.specs.declared.action.Action.{Action}
-use Rattle.procstore.specs.declared.call.Call.{Call}
-use Rattle.procstore.specs.declared.limits.TheConstants.{MAX_ACTIONS}
-use Rattle.procstore.specs.Seen.{Seen}
+use Rattle.procs.specs.declared.action.Action.{Action}
+use Rattle.procs.specs.declared.call.Call.{Call}
+use Rattle.procs.specs.declared.limits.TheConstants.{MAX_ACTIONS}
+use Rattle.procs.specs.Seen.{Seen}
 use Rattle.eggprocs.specs.declared.rights.Requester.{Requester}
 use Rattle.eggprocs.specs.declared.rights.Requester.TheVariants.{Elsewhere, Stranger, Master}
 use Rattle.eggprocs.specs.Args.{told_of, has_word, or_else}

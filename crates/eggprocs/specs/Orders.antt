@@ -1,9 +1,9 @@
 -- The commands by which masters change the userfile, and how each is used.
 use Rattle.std.specs.Prelude.{ℕ, List, codes, Option}
 use Rattle.userfile.specs.declared.change.Change.{Change}
-use Rattle.procstore.specs.declared.action.Action.{Action}
-use Rattle.procstore.specs.declared.call.Call.{Call}
-use Rattle.procstore.specs.Seen.{Seen}
+use Rattle.procs.specs.declared.action.Action.{Action}
+use Rattle.procs.specs.declared.call.Call.{Call}
+use Rattle.procs.specs.Seen.{Seen}
 use Rattle.eggprocs.specs.declared.orders.Order.{Order}
 use Rattle.eggprocs.specs.declared.orders.Order.TheVariants.{PlusUser, MinusUser, PlusHost, MinusHost, Chattr, Stick, Unstick}
 use Rattle.eggprocs.specs.Args.{told_of}

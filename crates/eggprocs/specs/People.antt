@@ -14,10 +14,10 @@ use Rattle.userfile.specs.Held.{user_of}
 use Rattle.userfile.specs.Persons.{flags_of}
 use Rattle.bytetext.specs.Words.{first_word, after_word}
 use Rattle.outqueue.specs.declared.queue.Queue.TheVariants.{Help}
-use Rattle.procstore.specs.declared.action.Action.{Action}
-use Rattle.procstore.specs.declared.action.Action.TheVariants.{Ask}
-use Rattle.procstore.specs.declared.call.Call.{Call}
-use Rattle.procstore.specs.Seen.{Seen}
+use Rattle.procs.specs.declared.action.Action.{Action}
+use Rattle.procs.specs.declared.action.Action.TheVariants.{Ask}
+use Rattle.procs.specs.declared.call.Call.{Call}
+use Rattle.procs.specs.Seen.{Seen}
 use Rattle.eggprocs.specs.declared.rights.TheConstants.{OWNER}
 use Rattle.eggprocs.specs.declared.rights.Requester.{Requester}
 use Rattle.eggprocs.specs.declared.rights.Requester.TheVariants.{Elsewhere, Stranger, Master}

@@ -8,9 +8,9 @@ use Rattle.std.specs.Prelude.{ℕ, ◌&&◌, List, [], ◌∷◌, ◌++◌, Bool
 use Rattle.userfile.specs.Held.{has_user}
 use Rattle.bytetext.specs.Words.{first_word}
 use Rattle.chanstate.specs.Views.{member_in, channels_with}
-use Rattle.procstore.specs.declared.action.Action.{Action}
-use Rattle.procstore.specs.declared.call.Call.{Call}
-use Rattle.procstore.specs.Seen.{Seen}
+use Rattle.procs.specs.declared.action.Action.{Action}
+use Rattle.procs.specs.declared.call.Call.{Call}
+use Rattle.procs.specs.Seen.{Seen}
 use Rattle.eggprocs.specs.Args.{last_of, nick_of, channel_of, has_word}
 use Rattle.eggprocs.specs.Basics.{is_command}
 use Rattle.eggprocs.specs.People.{told}

@@ -16,7 +16,7 @@ use crate::proc_name::ProcName;
 use crate::rights::{is_from_op, is_from_voice};
 use crate::whereabouts::asked_by_seen;
 use bytetext::NoMemory;
-use procstore::{Actions, Call, View};
+use procs::{Actions, Call, View};
 use std::alloc::Global;
 
 // What a proc requests, given its call and what it sees.

@@ -1,9 +1,9 @@
 // The arguments of a call.
 ghost use Rattle.std.specs.Prelude.{◌≡◌};
-ghost use Rattle.eggprocs.specs.Args.{arg_at, last_of, nick_of, handle_of, channel_of, said_of, timer_text, told_of, has_word, or_else};
+ghost use Rattle.eggprocs.specs.Args.{arg_at, last_of, nick_of, handle_of, channel_of, said_of, timer_text, told_of, or_else};
 
-use bytetext::{Text, first_word};
-use procstore::Call;
+use bytetext::Text;
+use procs::Call;
 
 // The argument at a place, or the empty text if there is none.
 pub(crate) fn arg_at(args: &[Text], place: usize) -> &[u8]
@@ -72,11 +72,4 @@ pub(crate) fn or_else<'a>(text: &'a [u8], other: &'a [u8]) -> &'a [u8]
     ensures { result.now ≡ or_else text.now other.now }
 {
     if text.is_empty() { other } else { text }
-}
-
-// Whether a text begins with a word: it isn't empty and doesn't begin with a space.
-pub(crate) fn has_word(text: &[u8]) -> bool
-    ensures { result ≡ has_word text.now }
-{
-    !first_word(text).is_empty()
 }

@@ -3,13 +3,13 @@ ghost use Rattle.std.specs.Prelude.{◌≡◌, IfOk};
 ghost use Rattle.eggprocs.specs.Bans.{mask_of, minutes_in, short, comment_after, end_of, ban_in, lift_wish, lift_after, lift_of, mode_of};
 ghost use Rattle.eggprocs.specs.Bans.{asked_by_ban, asked_by_unban, asked_by_lift};
 
-use crate::args::{channel_of, handle_of, has_word, said_of, timer_text};
+use crate::args::{channel_of, handle_of, said_of, timer_text};
 use crate::lines::mode;
 use crate::pairs::{and_then, two};
 use crate::rights::{is_op_of, is_timer};
 use bytetext::{MOMENTS_END, NoMemory, Text, after_word, first_word};
 use outqueue::Queue;
-use procstore::{Action, Actions, Call, PutWish, TimerWish, View};
+use procs::{Action, Actions, Call, PutWish, TimerWish, View, starts_with_word};
 use recordtext::number;
 use std::alloc::Global;
 use userfile::{Change, MAX_COMMENT, expires_at, is_hostmask};
@@ -173,7 +173,7 @@ pub(crate) fn asked_by_lift(
 {
     let channel = first_word(timer_text(call));
     let rest = after_word(timer_text(call));
-    if !(is_timer(call.kind) && is_op_of(channel, view) && has_word(rest)) {
+    if !(is_timer(call.kind) && is_op_of(channel, view) && starts_with_word(rest)) {
         return Ok(Actions::empty(alloc));
     }
     let line = mode(alloc, channel, b"-b", first_word(rest))?;

@@ -6,7 +6,7 @@ use crate::args::{arg_at, last_of};
 use crate::lines::privmsg;
 use bytetext::{NoMemory, Text};
 use outqueue::Queue;
-use procstore::{Action, Actions, BotWish, Call, CallKind, PutWish, TimerWish};
+use procs::{Action, Actions, BotWish, Call, CallKind, PutWish, TimerWish};
 use std::alloc::Global;
 use userfile::Change;
 

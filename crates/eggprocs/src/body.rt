@@ -2,7 +2,7 @@
 use crate::actions::actions_by;
 use crate::proc_name::ProcName;
 use bytetext::NoMemory;
-use procstore::{Call, ProcReply, Run, View};
+use procs::{Call, ProcReply, Run, View};
 use std::alloc::Global;
 
 /// The body of a proc. It allocates the lists of its answers on an allocator of its own.

@@ -3,12 +3,12 @@ ghost use Rattle.std.specs.Prelude.{◌≡◌, ◌∷◌, [], IfOk};
 ghost use Rattle.std.specs.Option.{option_copied};
 ghost use Rattle.eggprocs.specs.Channel.{put, target_of, asked_for_mode, change_for, asked_by_autoop, asked_by_kick, asked_by_topic, asked_by_invite};
 
-use crate::args::{channel_of, has_word, nick_of, or_else, said_of};
+use crate::args::{channel_of, nick_of, or_else, said_of};
 use crate::lines::{invite, kick, mode, topic};
 use crate::rights::{AUTO_OP, AUTO_VOICE, flags_by, has_flag, is_bot_op, is_join};
 use bytetext::{NoMemory, Text, after_word, first_word};
 use outqueue::Queue;
-use procstore::{Action, Actions, Call, PutWish, View};
+use procs::{Action, Actions, Call, PutWish, View, starts_with_word};
 use std::alloc::Global;
 use userfile::PersonFlags;
 
@@ -78,7 +78,7 @@ pub(crate) fn asked_by_kick(alloc: Global, may: bool, call: &Call) -> Result<Act
     ensures { IfOk result (λ actions. actions ≡ asked_by_kick may call.now) }
 {
     let text = said_of(call);
-    if !(may && has_word(text)) {
+    if !(may && starts_with_word(text)) {
         return Ok(Actions::empty(alloc));
     }
     let reason = or_else(after_word(text), b"request");
@@ -91,7 +91,7 @@ pub(crate) fn asked_by_topic(alloc: Global, may: bool, call: &Call) -> Result<Ac
     ensures { IfOk result (λ actions. actions ≡ asked_by_topic may call.now) }
 {
     let text = said_of(call);
-    if !(may && has_word(text)) {
+    if !(may && starts_with_word(text)) {
         return Ok(Actions::empty(alloc));
     }
     let line = topic(alloc, channel_of(call), text)?;
@@ -103,7 +103,7 @@ pub(crate) fn asked_by_invite(alloc: Global, may: bool, call: &Call) -> Result<A
     ensures { IfOk result (λ actions. actions ≡ asked_by_invite may call.now) }
 {
     let text = said_of(call);
-    if !(may && has_word(text)) {
+    if !(may && starts_with_word(text)) {
         return Ok(Actions::empty(alloc));
     }
     let line = invite(alloc, first_word(text), channel_of(call))?;

@@ -2,7 +2,7 @@
 ghost use Rattle.std.specs.Prelude.{◌≡◌, ◌<◌, ◌≤◌, ◌++◌, length, take, IfOk, OnOk};
 ghost use Rattle.std.specs.List.{filter_map};
 ghost use Rattle.std.specs.Option.{option_copied, option_to_list};
-ghost use Rattle.procstore.specs.declared.limits.TheConstants.{MAX_ACTIONS};
+ghost use Rattle.procs.specs.declared.limits.TheConstants.{MAX_ACTIONS};
 ghost use Rattle.eggprocs.specs.Everyone.{is_own_join, gives_bot_op, address_of, flags_of_member, is_left, change_lacked, change_of, mode_for, asked_by_opall};
 
 use crate::args::{arg_at, channel_of, nick_of};
@@ -12,7 +12,7 @@ use crate::rights::{AUTO_OP, AUTO_VOICE, has_flag, is_join, is_mode};
 use bytetext::{Failure, NoMemory, Text};
 use chanstate::Member;
 use outqueue::Queue;
-use procstore::{Action, Actions, ActionsFault, Call, PutWish, View};
+use procs::{Action, Actions, ActionsFault, Call, PutWish, View};
 use rfccase::same;
 use std::alloc::Global;
 use userfile::PersonFlags;

@@ -8,7 +8,7 @@ use crate::people::{asked_unless, only_told};
 use crate::rights::{is_join, is_msg};
 use bytetext::{NoMemory, Text};
 use outqueue::Queue;
-use procstore::{Action, Actions, Call, PutWish, View};
+use procs::{Action, Actions, Call, PutWish, View};
 use std::alloc::Global;
 use userfile::Change;
 

@@ -105,6 +105,7 @@ mod basics;
 mod body;
 mod channel;
 mod everyone;
+mod full_store;
 mod infos;
 mod laws;
 mod lines;
@@ -113,19 +114,18 @@ mod orders;
 mod pairs;
 mod people;
 mod proc_name;
-mod procs;
 mod promise;
 mod rights;
 mod whereabouts;
 
 pub use crate::bans::UTIMER_MINUTES;
 pub use crate::body::EggProc;
+pub use crate::full_store::store;
 pub use crate::laws::{
     answers_keep_channels_apart, changes_of_owners_want_an_owner, changes_want_a_master,
     commands_want_an_operator, commands_want_flags, greetings_want_an_info, info_is_of_who_asks,
 };
 pub use crate::orders::Order;
 pub use crate::proc_name::{EVERY, PROC_COUNT, ProcName};
-pub use crate::procs::store;
 pub use crate::promise::Ours;
 pub use crate::rights::{AUTO_OP, AUTO_VOICE, MASTER, OP, OWNER, Requester, VOICE};

@@ -1,15 +1,15 @@
 // The procs of sticky bans, and the one that lists bans.
 ghost use Rattle.std.specs.Prelude.{◌≡◌, map, take, drop, IfOk};
-ghost use Rattle.procstore.specs.declared.limits.TheConstants.{MAX_ACTIONS};
+ghost use Rattle.procs.specs.declared.limits.TheConstants.{MAX_ACTIONS};
 ghost use Rattle.eggprocs.specs.Args.{told_of};
 ghost use Rattle.eggprocs.specs.Marks.{marked, stick, unstick, mark_text, ban_text, told_ban, left_out, told_bans, asked_by_bans};
 ghost use Rattle.eggprocs.specs.Rights.{standing_of};
 
-use crate::args::{has_word, or_else, told_of};
+use crate::args::{or_else, told_of};
 use crate::people::{FOR_MASTERS, only_told, told};
 use crate::rights::{Requester, standing_of};
 use bytetext::{NoMemory, Text, after_word, first_word};
-use procstore::{Action, Actions, Call, MAX_ACTIONS, View};
+use procs::{Action, Actions, Call, MAX_ACTIONS, View, starts_with_word};
 use recordtext::bot_number;
 use std::alloc::Global;
 use userfile::{Ban, Change, Userfile};
@@ -32,7 +32,7 @@ pub(crate) fn unstick(alloc: Global, text: &[u8]) -> Result<Option<Change>, NoMe
 fn marked(alloc: Global, text: &[u8], on: bool) -> Result<Option<Change>, NoMemory>
     ensures { IfOk result (λ wish. wish ≡ marked text.now on) }
 {
-    if !has_word(text) {
+    if !starts_with_word(text) {
         return Ok(None);
     }
     let channel = Text::from_slice(alloc, first_word(after_word(text)))?;

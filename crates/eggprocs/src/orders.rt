@@ -6,7 +6,7 @@ use crate::args::told_of;
 use crate::marks::{stick, unstick};
 use crate::people::{asked_by_command, chattr, minus_host, minus_user, plus_host, plus_user};
 use bytetext::NoMemory;
-use procstore::{Actions, Call, View};
+use procs::{Actions, Call, View};
 use std::alloc::Global;
 use userfile::Change;
 

@@ -3,7 +3,7 @@ ghost use Rattle.std.specs.Prelude.{◌≡◌, ◌∷◌, [], IfOk};
 ghost use Rattle.eggprocs.specs.Bans.{and_then};
 
 use bytetext::NoMemory;
-use procstore::{Action, Actions};
+use procs::{Action, Actions};
 use std::alloc::Global;
 
 // Two actions, in this order.

@@ -8,14 +8,14 @@ ghost use Rattle.eggprocs.specs.Rights.{standing_of};
 ghost use Rattle.bytetext.specs.Words.{first_word};
 ghost use Rattle.userfile.specs.Held.{user_of};
 
-use crate::args::{has_word, nick_of, told_of};
+use crate::args::{nick_of, told_of};
 use crate::lines::notice;
 use crate::pairs::two;
 use crate::rights::{OWNER, Requester, is_owner, standing_of};
 use bytetext::{NoMemory, Text, after_word, first_word};
 use flagexpr::Flags;
 use outqueue::Queue;
-use procstore::{Action, Actions, Call, PutWish, View};
+use procs::{Action, Actions, Call, PutWish, View, starts_with_word};
 use std::alloc::Global;
 use userfile::{Change, ChangeFault, Hostmask, User};
 
@@ -159,7 +159,7 @@ pub(crate) fn asked_unless(
 pub(crate) fn plus_user(alloc: Global, text: &[u8]) -> Result<Option<Change>, NoMemory>
     ensures { IfOk result (λ wish. wish ≡ plus_user text.now) }
 {
-    if !has_word(text) {
+    if !starts_with_word(text) {
         return Ok(None);
     }
     let handle = Text::from_slice(alloc, first_word(text))?;
@@ -170,7 +170,7 @@ pub(crate) fn plus_user(alloc: Global, text: &[u8]) -> Result<Option<Change>, No
 pub(crate) fn minus_user(alloc: Global, text: &[u8]) -> Result<Option<Change>, NoMemory>
     ensures { IfOk result (λ wish. wish ≡ minus_user text.now) }
 {
-    if !has_word(text) {
+    if !starts_with_word(text) {
         return Ok(None);
     }
     let handle = Text::from_slice(alloc, first_word(text))?;
@@ -182,7 +182,7 @@ pub(crate) fn plus_host(alloc: Global, text: &[u8]) -> Result<Option<Change>, No
     ensures { IfOk result (λ wish. wish ≡ plus_host text.now) }
 {
     let rest = after_word(text);
-    if !(has_word(text) && has_word(rest)) {
+    if !(starts_with_word(text) && starts_with_word(rest)) {
         return Ok(None);
     }
     let handle = Text::from_slice(alloc, first_word(text))?;
@@ -195,7 +195,7 @@ pub(crate) fn minus_host(alloc: Global, text: &[u8]) -> Result<Option<Change>, N
     ensures { IfOk result (λ wish. wish ≡ minus_host text.now) }
 {
     let rest = after_word(text);
-    if !(has_word(text) && has_word(rest)) {
+    if !(starts_with_word(text) && starts_with_word(rest)) {
         return Ok(None);
     }
     let handle = Text::from_slice(alloc, first_word(text))?;
@@ -208,7 +208,7 @@ pub(crate) fn chattr(alloc: Global, text: &[u8]) -> Result<Option<Change>, NoMem
     ensures { IfOk result (λ wish. wish ≡ chattr text.now) }
 {
     let rest = after_word(text);
-    if !(has_word(text) && has_word(rest)) {
+    if !(starts_with_word(text) && starts_with_word(rest)) {
         return Ok(None);
     }
     let Ok(flags) = Flags::parse(first_word(rest)) else {

@@ -2,7 +2,7 @@
 ghost use Rattle.std.specs.Prelude.{◌≡◌};
 ghost use Rattle.eggprocs.specs.Procs.{name_of, code_by};
 
-use procstore::Code;
+use procs::Code;
 
 /// The number of procs.
 pub const PROC_COUNT: usize = 30;

@@ -1,5 +1,5 @@
 // What the procs promise.
-use procstore::Promise;
+use procs::Promise;
 
 /// What the procs of the programs promise: each proc's code, and exactly what it requests, given its call and what it
 /// sees of its bot. Any of them may run out of memory. `specs/Procs` has the promise, proc by proc.

@@ -4,7 +4,7 @@ ghost use Rattle.eggprocs.specs.Rights.{is_pub, is_join, is_msg, is_timer, is_mo
 
 use crate::args::{channel_of, handle_of};
 use flagexpr::Flags;
-use procstore::{Call, CallKind, View};
+use procs::{Call, CallKind, View};
 use userfile::PersonFlags;
 
 /// The flag of users who get op when they join a channel.

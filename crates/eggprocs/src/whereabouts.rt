@@ -3,12 +3,12 @@ ghost use Rattle.std.specs.Prelude.{◌≡◌, find, IfOk};
 ghost use Rattle.std.specs.Option.{option_copied};
 ghost use Rattle.eggprocs.specs.Whereabouts.{sought, is_there, asked_here, first_shared, shared, on_now, known_text, by_records, whereabouts, asked_by_seen};
 
-use crate::args::{channel_of, has_word, last_of, nick_of};
+use crate::args::{channel_of, last_of, nick_of};
 use crate::basics::is_command;
 use crate::people::only_told;
 use crate::rights::is_pub;
 use bytetext::{NoMemory, Text, TryCopy, first_word};
-use procstore::{Actions, Call, View};
+use procs::{Actions, Call, View, starts_with_word};
 use std::alloc::Global;
 
 // What `seen` requests: a NOTICE to the caller that says whether somebody is here.
@@ -30,7 +30,7 @@ pub(crate) fn asked_by_seen(
 fn whereabouts(alloc: Global, call: &Call, view: &View<'_>) -> Result<Text, NoMemory>
     ensures { IfOk result (λ words. words ≡ whereabouts call.now view.now) }
 {
-    if !has_word(last_of(call.args.as_slice())) {
+    if !starts_with_word(last_of(call.args.as_slice())) {
         return Text::from_slice(alloc, b"use seen NICK");
     }
     match shared(alloc, call, view)? {

@@ -10,7 +10,7 @@
 
 use bytetext::NoMemory;
 use eggprocs::{EggProc, Ours, store};
-use procstore::ProcStore;
+use procs::ProcStore;
 use replaying::{
     USAGE, out_of_memory, picture_script, replay_file, replay_input, unread, words_of,
 };

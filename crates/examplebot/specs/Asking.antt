@@ -9,10 +9,10 @@ use Rattle.userfile.specs.Persons.{flags_of}
 use Rattle.chanstate.specs.Views.{member_in, is_op as is_op_there}
 use Rattle.outqueue.specs.declared.queue.Queue.{Queue}
 use Rattle.outqueue.specs.declared.queue.Queue.TheVariants.{Mode}
-use Rattle.procstore.specs.declared.action.Action.{Action}
-use Rattle.procstore.specs.declared.action.Action.TheVariants.{Ask, Utimer, Put}
-use Rattle.procstore.specs.declared.call.Call.{Call}
-use Rattle.procstore.specs.Seen.{Seen}
+use Rattle.procs.specs.declared.action.Action.{Action}
+use Rattle.procs.specs.declared.action.Action.TheVariants.{Ask, Utimer, Put}
+use Rattle.procs.specs.declared.call.Call.{Call}
+use Rattle.procs.specs.Seen.{Seen}
 
 -- an argument of a call, or the empty text if it has none at this place
 abbrev pub arg_at : Call → ℕ → List ℕ

@@ -3,12 +3,12 @@ use Rattle.std.specs.Prelude.{◌≡◌, ℕ, ◌==◌, ◌||◌, List, [], ◌�
 use Rattle.std.specs.Str.{bytes_eq}
 use Rattle.userfile.specs.Persons.{info_of}
 use Rattle.outqueue.specs.declared.queue.Queue.TheVariants.{Mode, Help}
-use Rattle.procstore.specs.declared.action.Action.{Action}
-use Rattle.procstore.specs.declared.call.Call.{Call}
-use Rattle.procstore.specs.declared.reply.Code.TheVariants.{Zero}
-use Rattle.procstore.specs.declared.reply.ProcReply.{ProcReply}
-use Rattle.procstore.specs.Promises.{Promised, promised}
-use Rattle.procstore.specs.Seen.{Seen}
+use Rattle.procs.specs.declared.action.Action.{Action}
+use Rattle.procs.specs.declared.call.Call.{Call}
+use Rattle.procs.specs.declared.reply.Code.TheVariants.{Zero}
+use Rattle.procs.specs.declared.reply.ProcReply.{ProcReply}
+use Rattle.procs.specs.Promises.{Promised, promised}
+use Rattle.procs.specs.Seen.{Seen}
 use Rattle.examplebot.specs.Asking.{nick_of, handle_of, channel_of, mask_of, has_o, is_op, second_after, put, put_after, put_later, ban}
 
 -- a member who joins with the flag o gets op

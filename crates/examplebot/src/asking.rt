@@ -5,7 +5,7 @@ ghost use Rattle.examplebot.specs.Asking.{arg_at, ban, channel_of, handle_of, ha
 
 use bytetext::{MOMENTS_END, NoMemory, Text};
 use outqueue::Queue;
-use procstore::{Action, Actions, Call, PutWish, TimerWish, View};
+use procs::{Action, Actions, Call, PutWish, TimerWish, View};
 use std::alloc::Global;
 use userfile::Change;
 

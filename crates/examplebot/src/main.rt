@@ -5,8 +5,8 @@
 #![tactic(auto)]
 
 mod asking;
+mod our_procs;
 mod ours;
-mod procs;
 
 use crate::ours::store;
 use replaying::replay_input;

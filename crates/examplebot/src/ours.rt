@@ -1,7 +1,7 @@
 // The procs that run under the names, and what they promise.
-use crate::procs::{NAMES, actions_of};
+use crate::our_procs::{NAMES, actions_of};
 use bytetext::{NoMemory, Text};
-use procstore::{AddError, Call, Code, Proc, ProcReply, ProcStore, Promise, Run, View};
+use procs::{AddError, Call, Code, Proc, ProcReply, ProcStore, Promise, Run, View};
 use std::alloc::Global;
 
 /// What the procs of this program promise, proc by proc, as `specs/Ours.antt` has it.

@@ -9,3 +9,4 @@ pub mod Printing
 pub mod Codes
 pub mod Refusals
 pub mod Carrying
+pub mod Numeric

@@ -2,7 +2,8 @@
 //!
 //! A [`LineReader`] takes the pieces of a stream, cut anywhere, and returns each line once, in order, when its end has
 //! arrived: a [`Message`], or the first [`LineFault`] that keeps it from being one. [`read_line`] reads one line, [`print`]
-//! writes the canonical line of a message or reports that no line could carry it, and [`source`] splits a prefix.
+//! writes the canonical line of a message or reports that no line could carry it, [`source`] splits a prefix, and
+//! [`numeric_of`] names the numbers that answer a registration.
 //!
 //! Beyond the RFC, CR alone and LF alone end a line, empty lines are skipped, there may be several spaces between words
 //! and before the first, and a line of more than 510 bytes is dropped as a whole without being kept.
@@ -25,6 +26,7 @@ mod fault;
 mod laws;
 mod line;
 mod message;
+mod numeric;
 mod person;
 mod pieces;
 mod prefix;
@@ -38,6 +40,7 @@ pub use crate::fault::{LineFault, NotPrintable, PrintError};
 pub use crate::laws::{reading_is_the_grammar, runs_are_the_longest};
 pub use crate::line::Line;
 pub use crate::message::Message;
+pub use crate::numeric::{Numeric, numeric_of};
 pub use crate::person::Person;
 pub use crate::pieces::read_pieces;
 pub use crate::prefix::source;

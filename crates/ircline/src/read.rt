@@ -11,7 +11,7 @@ use crate::line::Line;
 use crate::message::Message;
 use crate::prefix::nick;
 use crate::words::parted;
-use bstr::ByteSlice;
+use bstr::ByteSlice as _;
 use bytetext::{NoMemory, Text, Texts};
 use std::alloc::Global;
 
@@ -53,15 +53,7 @@ pub fn read_run(alloc: Global, run: &[u8]) -> Result<Line, NoMemory>
     if run.contains(&0) {
         return Ok(Line::Bad(LineFault::NulByte));
     }
-    read_words(alloc, without_spaces(run))
-}
-
-// Reads a line that does not begin with a space and has no NUL byte.
-fn read_words(alloc: Global, text: &[u8]) -> Result<Line, NoMemory>
-    ensures line { IfOk result (λ line. line ≡ line_at text.now) }
-    ensures memory { OnErr result (TakesMemory (line_at text.now)) }
-{
-    let Some((prefix, words)) = prefix_of(text) else {
+    let Some((prefix, words)) = prefix_of(without_spaces(run)) else {
         return Ok(Line::Bad(LineFault::BadPrefix));
     };
     let (command, tail) = parted(words, words.find_byte(b' '));

@@ -4,7 +4,7 @@ ghost use Rattle.std.specs.Option.{ForSome};
 ghost use Rattle.bstr.specs.Find.{IsFirstByte};
 ghost use Rattle.ircline.specs.Words.{up_to, from_first, holds, before, behind};
 
-use bstr::ByteSlice;
+use bstr::ByteSlice as _;
 
 /// Splits `text` at the index `first`, where a search found its byte. Returns all of the text and nothing if the search
 /// found none.

@@ -10,7 +10,7 @@ use bottimers::Zone;
 use bytejournal::was_never_made;
 use bytetext::{NoMemory, Text, Texts};
 use disks::{FileDisk, Pair};
-use procstore::{Nobodies, ProcStore};
+use procs::{Nobodies, ProcStore};
 use std::alloc::Global;
 use std::fs::File;
 use std::rt::Files;

@@ -13,7 +13,7 @@ use crate::reading::LiveScript;
 use crate::turn::{make_turns, tell};
 use bottimers::Zone;
 use bytetext::{NoMemory, Text};
-use procstore::{ProcStore, Promise, Run};
+use procs::{ProcStore, Promise, Run};
 use recordtext::put_records;
 use replay::{new_bots, script_bytes, write_text, zone_or_utc};
 use std::alloc::Global;

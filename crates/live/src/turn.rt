@@ -12,7 +12,7 @@ use crate::moment::Moment;
 use crate::network::Network;
 use botcore::{Bot, BotEvent, End};
 use bytetext::NoMemory;
-use procstore::{ProcStore, Promise, Run};
+use procs::{ProcStore, Promise, Run};
 use replay::SteadyDisk;
 use sharewire::Packet;
 use std::alloc::Global;

@@ -1,5 +1,5 @@
 -- Reads of a connection, one after another.
-use Rattle.std.proofs.Common.{◌≡◌, ◌<◌, ◌+◌, ◌∷◌, ◌++◌, ◌||◌, ◌&&◌, not, nat_lt, ℕ, Bool, true, false, List, [], length, refl, sym, ap, append_assoc, subst, ◌∙◌, arith}
+use Rattle.std.proofs.Common.{◌≡◌, ◌<◌, ◌≤◌, ◌+◌, ◌∷◌, ◌++◌, ◌||◌, ◌&&◌, not, nat_lt, ℕ, Bool, true, false, List, [], length, refl, sym, ap, append_assoc, subst, ◌∙◌, arith}
 use Rattle.std.specs.List.{list_any}
 use Rattle.std.proofs.lemmas.Bool.{lt-ltb}
 use Rattle.std.proofs.lemmas.List.{length-append}
@@ -54,10 +54,11 @@ one_read_more most count old mid new came more answer so is hears or = record {
 
 -- if none was made, the stream was not asked, or none was wanted
 pub reads_end : (pieces most count : ℕ) (old new : Talk) (came : Bool) → HeardSo most count old came new
-    → (count ≡ 0 → asks most new ≡ true → 0 < pieces → 0 < count) → Reads pieces most old came new
-reads_end pieces most count old new came so none = record {
+    → count ≤ pieces → (count ≡ 0 → asks most new ≡ true → 0 < pieces → 0 < count) → Reads pieces most old came new
+reads_end pieces most count old new came so few none = record {
   answers = so.answers;
   heard = so.heard;
+  few = subst (λ (n : ℕ). n ≤ pieces) (sym so.counted) few;
   some = some so.answers so.heard so.counted;
   brought = so.brought;
 }

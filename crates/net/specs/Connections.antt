@@ -1,6 +1,6 @@
 -- What each call does to a connection, and what was handed on and told over it, compared with what its stream gave and
 -- took.
-use Rattle.std.specs.Prelude.{◌≡◌, ◌<◌, ◌+◌, ◌∷◌, ◌++◌, ◌==◌, ◌&&◌, not, if◌then◌else◌, ℕ, nat_le, nat_lt, Bool, true, false, List, [], length, Result, Ok, Err}
+use Rattle.std.specs.Prelude.{◌≡◌, ◌<◌, ◌≤◌, ◌+◌, ◌∷◌, ◌++◌, ◌==◌, ◌&&◌, not, if◌then◌else◌, ℕ, nat_le, nat_lt, Bool, true, false, List, [], length, Result, Ok, Err}
 use Rattle.std.specs.List.{list_any}
 use Rattle.streams.specs.State.{Source, Sink}
 use Rattle.streams.specs.Calls.{Takes, bytes_taken}
@@ -114,6 +114,7 @@ HearsAll most (answer ∷ answers) old new =
 pub record Reads (pieces most : ℕ) (old : Talk) (came : Bool) (new : Talk) : Type 0 where
   pub answers : List Given
   pub heard : HearsAll most answers old new
+  pub few : length answers ≤ pieces
   pub some : asks most old ≡ true → 0 < pieces → 0 < length answers
   pub brought : came ≡ list_any brings answers
 

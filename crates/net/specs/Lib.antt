@@ -5,3 +5,4 @@ pub mod Watching
 pub mod Dials
 pub mod Addresses
 pub mod Turns
+pub mod Sockets

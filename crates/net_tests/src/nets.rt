@@ -7,7 +7,7 @@ use botcore::{Bot, Config};
 use bottimers::Zone;
 use bytetext::{NoMemory, Text, Texts};
 use disks::MemDisk;
-use procstore::{Nobodies, ProcStore};
+use procs::{Nobodies, ProcStore};
 use std::alloc::Global;
 
 // Creates the bot of this `number`, in a net of `leaves` leaves. Its nick is egg.

@@ -5,7 +5,7 @@ use botjournal::LAYOUT;
 use botworld::{Outcome, Step, Transcript, World};
 use bytetext::TryCopy;
 use disks::MemDisk;
-use procstore::Nobody;
+use procs::Nobody;
 use sharelink::Packet;
 use std::alloc::Global;
 use std::slice;

@@ -30,7 +30,7 @@ impl Display for Entry<'_> {
         match *self {
             Entry::Joined(leaf) => write!(f, "leaf {leaf} linked"),
             Entry::LeafGone(leaf, gone) => write!(f, "leaf {leaf} gone: {gone}"),
-            Entry::GuestGone(gone) => write!(f, "a connection let go: {gone}"),
+            Entry::GuestGone(gone) => write!(f, "a connection closed: {gone}"),
             Entry::Dialled(host, address) => {
                 write!(
                     f,

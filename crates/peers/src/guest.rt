@@ -54,13 +54,13 @@ impl Guest {
         match self.side.hear(self.wire.connection.heard.as_slice()) {
             HubHears::More => Ok(self.wait(came, now)),
             HubHears::Welcome { leaf, used, line } => {
-                self.wire.tell(line.as_bytes())?;
+                let _fits = self.wire.connection.tell(line.as_bytes(), b"")?;
                 self.wire.connection.take_front(used);
                 Ok(Heeded::Joins(leaf))
             }
             HubHears::Refused { fault, line } => {
-                self.wire.tell(line.as_bytes())?;
-                let _sent = self.wire.send();
+                let _fits = self.wire.connection.tell(line.as_bytes(), b"")?;
+                let _sent = self.wire.connection.send();
                 Ok(Heeded::Goes(Gone::Handshake(fault)))
             }
         }

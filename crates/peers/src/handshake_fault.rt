@@ -29,6 +29,6 @@ pub enum HandshakeFault {
     #[error("the code is wrong: give all bots of the net the same secret")]
     WrongCode,
     /// The other side knows the secret, but belongs to another net.
-    #[error("a bot of another net: its hub was made anew, so make the leaf anew too, or mend the line hub")]
+    #[error("a bot of another net: if its hub was created again, create the leaf again too, else mend the line hub")]
     OtherNet,
 }

@@ -1,8 +1,6 @@
 // A leaf's connection to its hub.
-ghost use Rattle.std.specs.Prelude.{◌≡◌, ◌<◌, ◌↔◌, IsTrue, IfOk, IfErr, OnOk, OnErr};
-ghost use Rattle.std.specs.List.{AllByRecursion};
+ghost use Rattle.std.specs.Prelude.{◌≡◌, ◌<◌, ◌↔◌, IsTrue, IfErr, OnOk, OnErr};
 ghost use Rattle.sharewire.specs.Frames.{CanBeWritten};
-ghost use Rattle.peers.specs.Waiting.{TakesTurn};
 ghost use Rattle.peers.specs.Linked.{IsHeard, IsLinked};
 ghost use Rattle.peers.specs.Tells.{TellsHub};
 ghost use Rattle.bytetext.specs.declared.moment.TheConstants.{MOMENTS_END};
@@ -220,17 +218,6 @@ impl HubConnection {
         Ok(busy)
     }
 
-    /// Returns the packets of one turn, as [`Inbox::take`] does.
-    ///
-    /// # Errors
-    /// `NoMemory` if an allocation fails.
-    pub fn take_packets(&mut self, alloc: Global) -> Result<Vec<Packet>, NoMemory>
-        ensures good { IfOk result (λ packets. AllByRecursion HasGoodRecords packets.items) }
-        ensures takes { IfOk result (λ packets. TakesTurn self.old.inbox packets.items self.new.inbox) }
-    {
-        self.inbox.take(alloc)
-    }
-
     /// Whether the hub is linked.
     pub fn is_linked(&self) -> bool
         ensures { IsTrue result ↔ IsLinked self.now.hub }
@@ -276,14 +263,6 @@ impl HubConnection {
         match &mut self.hub {
             Some(hub) => hub.tell(alloc, packet),
             None => Ok(()),
-        }
-    }
-
-    /// Offers the hub the unsent bytes. Returns whether it took a byte.
-    pub fn send(&mut self) -> bool {
-        match &mut self.hub {
-            Some(hub) => hub.wire.send(),
-            None => false,
         }
     }
 

@@ -1,8 +1,6 @@
 // The hub's connections to its leaves.
-ghost use Rattle.std.specs.Prelude.{◌≡◌, ◌≢◌, ℕ, IfOk, OnOk, OnErr, slice_get};
-ghost use Rattle.std.specs.List.{AllByRecursion};
+ghost use Rattle.std.specs.Prelude.{◌≡◌, ◌≢◌, ℕ, OnOk, OnErr, slice_get};
 ghost use Rattle.sharewire.specs.Frames.{CanBeWritten};
-ghost use Rattle.peers.specs.Waiting.{TakesTurn};
 ghost use Rattle.peers.specs.Linked.{IsTaken};
 ghost use Rattle.peers.specs.Tells.{TellsPlace};
 ghost use Rattle.sharelink.specs.Shapes.{HasGoodRecords};
@@ -17,7 +15,7 @@ use crate::link_wire::LinkWire;
 use crate::links::FIRST_TOKEN;
 use crate::net_number::NetNumber;
 use crate::nonce::Nonce;
-use crate::seat::{Seat, tell_place};
+use crate::seat::Seat;
 use bytetext::NoMemory;
 use net::{DoorFault, Registry, TcpDoor, TcpSocket, log};
 use sharewire::Packet;
@@ -188,7 +186,7 @@ impl HubLinks {
             nonce,
         };
         let mut wire = LinkWire::new(rt.alloc(), socket);
-        wire.tell(side.greeting().as_bytes())?;
+        let _fits = wire.connection.tell(side.greeting().as_bytes(), b"")?;
         self.guests.push(Guest {
             wire,
             side,
@@ -227,17 +225,6 @@ impl HubLinks {
         }
     }
 
-    /// Returns the packets of one turn, as [`Inbox::take`] does.
-    ///
-    /// # Errors
-    /// `NoMemory` if an allocation fails.
-    pub fn take_packets(&mut self, alloc: Global) -> Result<Vec<Packet>, NoMemory>
-        ensures good { IfOk result (λ packets. AllByRecursion HasGoodRecords packets.items) }
-        ensures takes { IfOk result (λ packets. TakesTurn self.old.inbox packets.items self.new.inbox) }
-    {
-        self.inbox.take(alloc)
-    }
-
     /// Queues `packet` for the leaf numbered `leaf`. If that leaf is not linked, the packet is lost.
     ///
     /// # Errors
@@ -249,8 +236,11 @@ impl HubLinks {
         ensures told { OnOk result (TellsPlace packet.now (slice_get self.old.seats.items leaf) (slice_get self.new.seats.items leaf)) }
         ensures others { (place : ℕ) → place ≢ leaf → slice_get self.new.seats.items place ≡ slice_get self.old.seats.items place }
     {
-        match self.seats.get_mut(usize::from(leaf)) {
-            Some(place) => tell_place(alloc, place, packet),
+        let Some(place) = self.seats.get_mut(usize::from(leaf)) else {
+            return Ok(());
+        };
+        match place {
+            Some(seat) => seat.wire.tell(alloc, packet),
             None => Ok(()),
         }
     }
@@ -294,7 +284,7 @@ fn no_slots(alloc: Global, places: usize) -> Result<Vec<Option<Who>>, NoMemory> 
 fn send_guests(guests: &mut [Guest]) -> bool {
     let mut moved = false;
     for guest in guests.iter_mut() {
-        if guest.wire.send() {
+        if guest.wire.connection.send() {
             moved = true;
         }
     }
@@ -305,7 +295,7 @@ fn send_seats(seats: &mut [Option<Seat>]) -> bool {
     let mut moved = false;
     for place in seats.iter_mut() {
         if let Some(seat) = place {
-            if seat.wire.send() {
+            if seat.wire.connection.send() {
                 moved = true;
             }
         }

@@ -9,6 +9,7 @@ use crate::queue::{MAX_PACKETS, Queue};
 use bytetext::NoMemory;
 use sharewire::Packet;
 use std::alloc::Global;
+use std::collections::VecDeque;
 use std::marker::Model;
 
 /// The packets that have arrived and wait for a turn, in one queue for each stream. Streams are numbered from 0.
@@ -103,7 +104,13 @@ impl Inbox {
         ensures err { OnErr result (self.new ≡ self.old) }
         ensures memory { OnErr result (0 < vec_len packets) }
     {
-        self.queues[stream].put(packets)
+        let queue = &mut self.queues[stream];
+        if packets.is_empty() {
+            return Ok(());
+        }
+        let mut packets = VecDeque::from(packets);
+        queue.packets.append(&mut packets)?;
+        Ok(())
     }
 
     /// Drops the queued packets of `stream`, for example after its connection has ended.

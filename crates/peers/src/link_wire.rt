@@ -1,10 +1,14 @@
 // A connection to another bot.
 ghost use Rattle.std.specs.Prelude.{◌≡◌, IsSome, OnOk, OnErr};
-ghost use Rattle.peers.specs.Tells.{IsTold, IsUntold};
+ghost use Rattle.sharewire.specs.Frames.{CanBeWritten};
+ghost use Rattle.sharelink.specs.Shapes.{HasGoodRecords};
+ghost use Rattle.peers.specs.Tells.{Tells};
 
+use crate::frame_writing::frame_of;
 use crate::gone::Gone;
 use bytetext::NoMemory;
 use net::{Bounds, Connection, TcpSocket};
+use sharewire::Packet;
 use std::alloc::Global;
 
 // The most bytes of a piece that is read, and the most unsent bytes.
@@ -42,21 +46,20 @@ impl LinkWire {
         }
     }
 
-    // Queues bytes for the other end, after those before them. If they do not fit, the connection is to be closed.
-    pub(crate) fn tell(&mut self, bytes: &[u8]) -> Result<(), NoMemory>
-        ensures heard { self.new.connection.heard.items ≡ self.old.connection.heard.items }
-        ensures told { OnOk result (IsTold self.old bytes.now self.new) }
-        ensures err { OnErr result (IsUntold self.old self.new) }
+    // Queues the frame of a packet for the other end. A packet that has no frame is lost. If the frame does not fit, the
+    // connection is to be closed.
+    pub(crate) fn tell(&mut self, alloc: Global, packet: &Packet) -> Result<(), NoMemory>
+        requires good { HasGoodRecords packet.now }
+        ensures frame { OnErr result (CanBeWritten packet.now) }
+        ensures told { OnOk result (Tells packet.now self.old self.new) }
     {
-        if !self.connection.tell(bytes, b"")? {
+        let Some(frame) = frame_of(alloc, packet)? else {
+            return Ok(());
+        };
+        if !self.connection.tell(frame.as_slice(), b"")? {
             self.end(Gone::TooSlow);
         }
         Ok(())
-    }
-
-    // Offers the other end the unsent bytes, once, unless the connection is over. Returns whether it took a byte.
-    pub(crate) fn send(&mut self) -> bool {
-        !self.connection.is_over && self.connection.send()
     }
 
     // Marks the connection as one to close. The first reason is the one that is logged.

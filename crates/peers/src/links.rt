@@ -119,8 +119,8 @@ impl Links {
     {
         match self {
             Links::Alone => Ok(Vec::new(alloc)),
-            Links::Hub(hub) => hub.take_packets(alloc),
-            Links::Leaf(leaf) => leaf.take_packets(alloc),
+            Links::Hub(hub) => hub.inbox.take(alloc),
+            Links::Leaf(leaf) => leaf.inbox.take(alloc),
         }
     }
 
@@ -183,7 +183,10 @@ impl Links {
         match self {
             Links::Alone => false,
             Links::Hub(hub) => hub.send(),
-            Links::Leaf(leaf) => leaf.send(),
+            Links::Leaf(leaf) => match &mut leaf.hub {
+                Some(hub) => hub.wire.connection.send(),
+                None => false,
+            },
         }
     }
 

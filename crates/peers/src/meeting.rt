@@ -7,7 +7,6 @@ ghost use Rattle.peers.specs.Tells.{Tells};
 ghost use Rattle.sharelink.specs.Shapes.{HasGoodRecords};
 
 use crate::frame_reader::FrameReader;
-use crate::frame_writing::frame_of;
 use crate::gone::Gone;
 use crate::handshake_fault::HandshakeFault;
 use crate::late::is_late;
@@ -86,7 +85,7 @@ impl Hub {
             }
             LeafHears::Answers { used, line } => {
                 self.wire.connection.take_front(used);
-                self.wire.tell(line.as_bytes())?;
+                let _fits = self.wire.connection.tell(line.as_bytes(), b"")?;
                 Ok(true)
             }
             LeafHears::Joined { used, net } => {
@@ -130,12 +129,8 @@ impl Hub {
         ensures told { OnOk result (self.old.stage ≡ Linked → Tells packet.now self.old.wire self.new.wire) }
     {
         match self.stage {
-            Stage::Linked => {}
-            Stage::Meets | Stage::Knows(_) => return Ok(()),
-        }
-        match frame_of(alloc, packet)? {
-            Some(frame) => self.wire.tell(frame.as_slice()),
-            None => Ok(()),
+            Stage::Linked => self.wire.tell(alloc, packet),
+            Stage::Meets | Stage::Knows(_) => Ok(()),
         }
     }
 }

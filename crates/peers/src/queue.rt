@@ -2,7 +2,6 @@
 ghost use Rattle.std.specs.Prelude.{◌≡◌, ◌≤◌, ◌+◌, ◌++◌, take, drop, vec_len, vec_capacity};
 ghost use Rattle.std.specs.VecDeque.{deque_len};
 
-use bytetext::NoMemory;
 use sharewire::Packet;
 use std::alloc::Global;
 use std::collections::VecDeque;
@@ -17,7 +16,7 @@ pub const MAX_OF_STREAM: usize = 64;
 // The queued packets of one stream, the oldest first.
 #[derive(Drop)]
 pub(crate) struct Queue {
-    packets: VecDeque<Packet>,
+    pub(crate) packets: VecDeque<Packet>,
 }
 
 impl Model for Queue {
@@ -35,7 +34,7 @@ impl Model for Queue {
 }
 
 impl Queue {
-    ghost use Rattle.std.specs.Prelude.{◌≡◌, ◌<◌, ◌≤◌, ◌++◌, [], length, take, drop, OnOk, OnErr, vec_len, vec_capacity};
+    ghost use Rattle.std.specs.Prelude.{◌≡◌, ◌≤◌, ◌++◌, [], length, take, drop, vec_len, vec_capacity};
     ghost use Rattle.std.specs.List.{AllByRecursion};
     ghost use Rattle.sharelink.specs.Shapes.{HasGoodRecords};
     ghost use Rattle.peers.specs.declared.queue.TheConstants.{MAX_PACKETS};
@@ -55,21 +54,6 @@ impl Queue {
         ensures { result ≡ length self.now }
     {
         self.packets.len()
-    }
-
-    // Appends all packets, or none on an error.
-    pub(crate) fn put(&mut self, packets: Vec<Packet>) -> Result<(), NoMemory>
-        requires good { AllByRecursion HasGoodRecords packets.items }
-        ensures ok { OnOk result (self.new ≡ self.old ++ packets.items) }
-        ensures err { OnErr result (self.new ≡ self.old) }
-        ensures memory { OnErr result (0 < vec_len packets) }
-    {
-        if packets.is_empty() {
-            return Ok(());
-        }
-        let mut packets = VecDeque::from(packets);
-        self.packets.append(&mut packets)?;
-        Ok(())
     }
 
     // Drops all queued packets.

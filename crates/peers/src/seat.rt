@@ -1,13 +1,10 @@
 // A linked leaf of the hub.
-ghost use Rattle.std.specs.Prelude.{◌≡◌, true, IfOk, IsSome, OnOk, OnErr};
+ghost use Rattle.std.specs.Prelude.{◌≡◌, true, IfOk};
 ghost use Rattle.std.specs.List.{AllByRecursion, list_all};
-ghost use Rattle.sharewire.specs.Frames.{CanBeWritten};
 ghost use Rattle.peers.specs.Speakers.{is_own};
-ghost use Rattle.peers.specs.Tells.{Tells, TellsSeat};
 ghost use Rattle.sharelink.specs.Shapes.{HasGoodRecords};
 
 use crate::frame_reader::FrameReader;
-use crate::frame_writing::frame_of;
 use crate::gone::Gone;
 use crate::link_wire::LinkWire;
 use crate::speaker::is_said_by;
@@ -51,8 +48,9 @@ impl Seat {
         }
     }
 
-    // Reads a piece, unless too much is unsent, and returns the packets that are whole now. Bytes that are no frames,
-    // or a packet that this leaf may not send, end the connection; after such a packet it returns none.
+    // Reads a piece, unless too much is unsent, and returns the packets that are whole now. Notes the version of the
+    // last hello among them. Bytes that are no frames, or a packet that this leaf may not send, end the connection;
+    // after such a packet it returns none.
     pub(crate) fn hear(&mut self, alloc: Global) -> Result<Vec<Packet>, NoMemory>
         ensures good { IfOk result (λ packets. AllByRecursion HasGoodRecords packets.items) }
         // A leaf speaks for itself alone.
@@ -74,51 +72,17 @@ impl Seat {
             self.wire.end(Gone::OtherSpeaker);
             return Ok(Vec::new(alloc));
         }
-        self.note_version(feed.packets.as_slice());
+        for packet in feed.packets.as_slice() {
+            if let Packet::Hello { version, .. } = packet {
+                self.version = *version;
+            }
+        }
         Ok(feed.packets.into_vec())
     }
 
     // Whether the leaf may have more to read at once.
     pub(crate) fn is_busy(&self) -> bool {
         self.wire.connection.may_give() && !self.wire.is_slow() && self.wire.gone().is_none()
-    }
-
-    // Notes the version of the last hello.
-    fn note_version(&mut self, packets: &[Packet]) {
-        for packet in packets {
-            if let Packet::Hello { version, .. } = packet {
-                self.version = *version;
-            }
-        }
-    }
-
-    // Queues a packet for the leaf, as its frame. A packet that has no frame is lost.
-    pub(crate) fn tell(&mut self, alloc: Global, packet: &Packet) -> Result<(), NoMemory>
-        requires good { HasGoodRecords packet.now }
-        ensures frame { OnErr result (CanBeWritten packet.now) }
-        ensures told { OnOk result (Tells packet.now self.old.wire self.new.wire) }
-    {
-        match frame_of(alloc, packet)? {
-            Some(frame) => self.wire.tell(frame.as_slice()),
-            None => Ok(()),
-        }
-    }
-}
-
-// Queues a packet for the leaf in a place, if there is one.
-pub(crate) fn tell_place(
-    alloc: Global,
-    place: &mut Option<Seat>,
-    packet: &Packet,
-) -> Result<(), NoMemory>
-    requires good { HasGoodRecords packet.now }
-    ensures memory { OnErr result (IsSome place.old) }
-    ensures frame { OnErr result (CanBeWritten packet.now) }
-    ensures told { OnOk result (TellsSeat packet.now place.old place.new) }
-{
-    match place {
-        Some(seat) => seat.tell(alloc, packet),
-        None => Ok(()),
     }
 }
 

@@ -10,7 +10,6 @@ use crate::hub_links::{HubLinks, Who};
 use crate::seat::Seat;
 use bytetext::NoMemory;
 use net::log;
-use std::alloc::Global;
 
 impl HubLinks {
     /// Reads from each connection that may have something to read, at second `now`. Returns whether there may be more
@@ -24,9 +23,18 @@ impl HubLinks {
         if !self.has_somebody() {
             return Ok(false);
         }
-        let guests = self.heed_guests(rt, now)?;
-        let leaves = self.hear_leaves(rt.alloc())?;
-        Ok(guests || leaves)
+        let mut more = self.heed_guests(rt, now)?;
+        for leaf in 1..self.seats.len() {
+            // A leaf is not read while packets of it wait.
+            if leaf < self.inbox.stream_count() && self.inbox.count(leaf) == 0 {
+                if let Some(Some(seat)) = self.seats.get_mut(leaf) {
+                    let packets = seat.hear(rt.alloc())?;
+                    more |= seat.is_busy();
+                    self.inbox.put(leaf, packets)?;
+                }
+            }
+        }
+        Ok(more)
     }
 
     // Whether somebody is connected.
@@ -98,30 +106,6 @@ impl HubLinks {
             self.inbox.forget(usize::from(leaf));
         }
         log(rt, now, &Entry::LeafGone(leaf, gone));
-    }
-
-    // Reads from each leaf that has no queued packets. Returns whether one may have more at once.
-    fn hear_leaves(&mut self, alloc: Global) -> Result<bool, NoMemory> {
-        let mut came = false;
-        for leaf in 1..self.seats.len() {
-            if self.hear_leaf(alloc, leaf)? {
-                came = true;
-            }
-        }
-        Ok(came)
-    }
-
-    fn hear_leaf(&mut self, alloc: Global, leaf: usize) -> Result<bool, NoMemory> {
-        if leaf >= self.inbox.stream_count() || self.inbox.count(leaf) > 0 {
-            return Ok(false);
-        }
-        let Some(Some(seat)) = self.seats.get_mut(leaf) else {
-            return Ok(false);
-        };
-        let packets = seat.hear(alloc)?;
-        let busy = seat.is_busy();
-        self.inbox.put(leaf, packets)?;
-        Ok(busy)
     }
 
     /// Disconnects each leaf whose connection is over, at second `now`.

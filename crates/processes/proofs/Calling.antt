@@ -2,13 +2,13 @@
 -- alike but for these do too.
 use Rattle.std.proofs.Common.{◌≡◌, ℕ, zero, suc, List, [], ◌∷◌, map, slice_get, Some, refl, ap, sym, subst, ◌∙◌}
 use Rattle.userfile.specs.Records.{Records}
-use Rattle.procstore.specs.Promises.{Promised}
+use Rattle.procs.specs.Promises.{Promised}
 use Rattle.protocol.specs.History.{History, start, records_of, Grows}
 use Rattle.protocol.specs.Packets.{AcceptedChange}
 use Rattle.protocol.proofs.Growing.{Grows-refl, Grows-trans}
 use Rattle.protocol.proofs.Moments.{shows}
 use Rattle.sharelink.specs.BotLinks.{BotEnd}
-use Rattle.botcalls.specs.Dispatching.{told_of}
+use Rattle.procs.specs.Dispatching.{told_of}
 use Rattle.botcore.specs.Links.{link_version, link_records}
 use Rattle.botcore.specs.declared.report.End.{End}
 use Rattle.botcore.specs.declared.report.End.TheVariants.{Done, Refused, NoMemory}

@@ -11,21 +11,21 @@ use Rattle.ircline.specs.declared.line.Line.TheVariants.{Message as a_message, B
 use Rattle.sharewire.specs.declared.packet.Packet.{Packet}
 use Rattle.disks.specs.State.{moment, left_since}
 use Rattle.disks.specs.Laws.{only_now}
-use Rattle.procstore.specs.declared.action.Action.{Action}
-use Rattle.procstore.specs.Promises.{Promised}
-use Rattle.procstore.specs.declared.action.Action.TheVariants.{Ask as ask_wished, Timer as timer_wished, Utimer, KillTimer, SendBot, Put}
-use Rattle.procstore.specs.declared.action.TimerName.{TimerName}
-use Rattle.bindtable.specs.declared.bind.Bind.{Bind as HeldBind}
-use Rattle.bindtable.specs.declared.fault.BindFault.{BindFault}
-use Rattle.bindtable.specs.Tables.{Asked, refusal}
+use Rattle.procs.specs.declared.action.Action.{Action}
+use Rattle.procs.specs.Promises.{Promised}
+use Rattle.procs.specs.declared.action.Action.TheVariants.{Ask as ask_wished, Timer as timer_wished, Utimer, KillTimer, SendBot, Put}
+use Rattle.procs.specs.declared.action.TimerName.{TimerName}
+use Rattle.procs.specs.declared.bind.Bind.{Bind as HeldBind}
+use Rattle.procs.specs.declared.bind_fault.BindFault.{BindFault}
+use Rattle.procs.specs.Tables.{Asked, refusal}
 use Rattle.botjournal.specs.Ledger.{Device}
 use Rattle.protocol.specs.Bots.{Works, Fails}
 use Rattle.protocol.specs.Ends.{End as LinkEnd}
 use Rattle.sharelink.specs.declared.answer.Answer.{Answer}
 use Rattle.sharelink.specs.declared.error.LinkFault.{LinkFault}
 use Rattle.sharelink.specs.BotLinks.{BotEnd, took, asked, MayLeave, LeavesOwn, Asks}
-use Rattle.botcalls.specs.declared.made_call.MadeCall.{MadeCall}
-use Rattle.botcalls.specs.Calls.{Telling as Told}
+use Rattle.procs.specs.declared.made_call.MadeCall.{MadeCall}
+use Rattle.procs.specs.Tellings.{Telling as Told}
 use Rattle.botcore.specs.declared.event.BotEvent.{BotEvent}
 use Rattle.botcore.specs.declared.event.BotEvent.TheVariants.{Connect, Line, Ask, Pump, Receive, Clock, Bind, Unbind, Compact, Restart}
 use Rattle.botcore.specs.declared.event.OldBind.{OldBind}

@@ -1,22 +1,27 @@
 -- Each deed leads to processes that stand for what history grew into.
-use Rattle.std.proofs.Common.{◌≡◌, inl, inr, ℕ, ◌+◌, List, [], ◌++◌, length, slice_get, slice_set, Some, refl, ap, sym}
+use Rattle.std.proofs.Common.{◌≡◌, inl, inr, ℕ, ◌+◌, Bool, true, false, if◌then◌else◌, nat_lt, List, [], ◌++◌, length, slice_get, slice_set, Some, Result, refl, ap, sym}
 use Rattle.std.proofs.Common.{subst, ◌∙◌, arith}
 use Rattle.std.proofs.lemmas.List.{append-nil}
-use Rattle.procstore.specs.Promises.{Promised}
+use Rattle.procs.specs.Promises.{Promised}
 use Rattle.botjournal.specs.Contents.{Contents, meaning}
-use Rattle.protocol.specs.Packets.{Sent as LinkSent, from_wire}
-use Rattle.protocol.specs.Bots.{How, Works, Fails, Counts, Row}
+use Rattle.protocol.specs.Packets.{AcceptedChange, Sent as LinkSent, from_wire}
+use Rattle.protocol.specs.Bots.{How, Works, Fails, Counts, Row, refused, journals}
+use Rattle.protocol.specs.Notes.{Note, LinkFault}
+use Rattle.protocol.specs.Notes.Note.{Compacted}
+use Rattle.protocol.specs.Notes.LinkFault.{Down, NumbersSpent}
+use Rattle.protocol.specs.Numbers.{last_number}
+use Rattle.protocol.specs.HubRules.{Rebase, Hub, hub_folded, hub_compacted}
+use Rattle.protocol.specs.LeafRules.{Leaf, Compact as compact_record, leaf_folded, leaf_compacted}
 use Rattle.protocol.specs.Network.{posted as link_posted}
 use Rattle.protocol.specs.Network.Event.{Pump as pumps, Compact as compacts, Restart as restarts}
-use Rattle.protocol.specs.History.{History, Grows}
-use Rattle.botworld.specs.Network.{GrowsByNote}
+use Rattle.protocol.specs.History.{History}
 use Rattle.protocol.proofs.Growing.{Grows-trans}
 use Rattle.sharelink.specs.Calls.{outgoings_of}
-use Rattle.protocol.specs.Ends.{End as LinkEnd, end_received}
-use Rattle.protocol.specs.Nets.{IsMoment, RowFollows}
+use Rattle.protocol.specs.Ends.{End as LinkEnd, AtHub, AtLeaf, end_did, end_received}
+use Rattle.protocol.specs.Nets.{IsMoment, TellsReached, MovesAsTold, RowFollows}
 use Rattle.protocol.proofs.NetGoes.{received_goes}
 use Rattle.sharelink.specs.StateOpening.{ArePutAnew}
-use Rattle.sharelink.specs.BotLinks.{BotEnd, did, took, end_meaning, compacted, RenewsEnd}
+use Rattle.sharelink.specs.BotLinks.{BotEnd, MeanEnd, did, took, end_meaning, compacted, RenewsEnd}
 use Rattle.botcore.specs.declared.event.BotEvent.{BotEvent}
 use Rattle.botcore.specs.declared.event.BotEvent.TheVariants.{Connect, Line, Ask, Pump, Receive, Clock, Bind, Unbind}
 use Rattle.botcore.specs.declared.event.BotEvent.TheVariants.{Compact, Restart}
@@ -28,9 +33,9 @@ use Rattle.botworld.proofs.Shown.{all_sent-posted}
 use Rattle.botworld.proofs.BotEnds.{IsAmong as IsBotAmong, did_row, set-set}
 use Rattle.botworld.proofs.BotSteps.{WasSentTo, bot_goes}
 use Rattle.processes.specs.Deeds.{Process, Runs, Ended, Net, Step, Doing, Nothing, Telling, Deed, Made, Died, Opened}
-use Rattle.processes.specs.Deeds.{Unopened, with_process, after_deed, WasTold, WasDoing, with_end, LeavesIn, IsOpened, IsUnopened}
-use Rattle.processes.specs.Deeds.{Makes, Happens}
-use Rattle.processes.specs.Standing.{HasEnd, IsAt, AreAmong, Stands, Reaches}
+use Rattle.processes.specs.Deeds.{Unopened, with_process, WasTold, WasDoing, with_end, LeavesIn, IsOpened, IsUnopened}
+use Rattle.processes.specs.Deeds.{Makes, Happens, AtMostOneMore}
+use Rattle.processes.specs.Standing.{HasEnd, IsAt, AreAmong, Stands, ReachesAt, Leads}
 use Rattle.processes.proofs.Lists.{AreAmong-out, AreAmong-more, AreAmong-at}
 use Rattle.processes.proofs.Resting.{rests_anew}
 use Rattle.processes.proofs.Standing.{moves, keeps_end}
@@ -52,6 +57,53 @@ was_sent told packets among bot (Unbind gone) was = tt
 was_sent told packets among bot Compact was = tt
 was_sent told packets among bot Restart was = tt
 
+-- ---- which changes a row accepts
+
+few : {old new : List AcceptedChange} {bot : ℕ} {told : Result Note LinkFault} → MovesAsTold old new bot told
+    → AtMostOneMore old new
+few moves = elim moves.stay_or_grow [ inl same ↦ inl same | inr one ↦ inr (one.0, one.1) ]
+
+-- a compaction does not report that a version was reached
+hub_compacts_quietly : (leaves : ℕ) (hub : Hub) (version bot : ℕ)
+    → TellsReached version bot (hub_compacted leaves Works hub).told → ⊥
+hub_compacts_quietly leaves hub version bot = by hub.down (nat_lt hub.kept.generation last_number)
+  where
+    by : (down room : Bool) → TellsReached version bot (
+        if down then refused Down hub
+        else (if room then journals hub_folded Works hub Rebase Compacted [] hub.loose else refused NumbersSpent hub)).told → ⊥
+    by true room (zero_bot, inl reached) = cc
+    by true room (zero_bot, inr reached) = cc
+    by false true (zero_bot, inl reached) = cc
+    by false true (zero_bot, inr reached) = cc
+    by false false (zero_bot, inl reached) = cc
+    by false false (zero_bot, inr reached) = cc
+
+leaf_compacts_quietly : (leaves number : ℕ) (leaf : Leaf) (version bot : ℕ)
+    → TellsReached version bot (leaf_compacted leaves number Works leaf).told → ⊥
+leaf_compacts_quietly leaves number leaf version bot = by leaf.down (nat_lt leaf.kept.generation last_number)
+  where
+    by : (down room : Bool) → TellsReached version bot (
+        if down then refused Down leaf
+        else (if room then journals leaf_folded Works leaf compact_record Compacted [] leaf.loose else refused NumbersSpent leaf)).told → ⊥
+    by true room (zero_bot, inl reached) = cc
+    by true room (zero_bot, inr reached) = cc
+    by false true (zero_bot, inl reached) = cc
+    by false true (zero_bot, inr reached) = cc
+    by false false (zero_bot, inl reached) = cc
+    by false false (zero_bot, inr reached) = cc
+
+compacts_quietly : (leaves number : ℕ) (end : LinkEnd) (version bot : ℕ)
+    → TellsReached version bot (end_did leaves number Works end compacts).told → ⊥
+compacts_quietly leaves number (AtHub hub) version bot = hub_compacts_quietly leaves hub version bot
+compacts_quietly leaves number (AtLeaf leaf) version bot = leaf_compacts_quietly leaves number leaf version bot
+
+none_compacted : (link : BotEnd) (old new : List AcceptedChange) (bot : ℕ)
+    → MovesAsTold old new bot (did link compacts Works).told → new ≡ old
+none_compacted link old new bot moves = elim moves.stay_or_grow [
+  | inl same ↦ same
+  | inr one ↦ absurd (compacts_quietly link.leaves link.number link.end (length old + 1) bot one.2)
+]
+
 module _ (w : Net) (h : History) (st : Stands w h) where
   -- the end of a bot that runs
   record IsRunning (place : ℕ) (bot : Bot) : Type 0 where
@@ -71,24 +123,8 @@ module _ (w : Net) (h : History) (st : Stands w h) where
 
   -- ---- a step
 
-  made_goes : (promised : Promised) (bot : ℕ) (step : Step)
-      → Makes promised w bot step → Reaches h (after_deed w (Made bot step))
+  made_goes : (promised : Promised) (bot : ℕ) (step : Step) → Makes promised w bot step → Leads h w (Made bot step)
   made_goes promised bot step m =
-      let among = (running bot step.was m.running).among in
-      let g = bot_goes promised step.names h st.ends st.packets bot step.was among step.event step.report step.after
-      (was_sent w.packets st.packets st.told bot step.event m.told) m.takes in
-      moves w h st bot step.was.link among.at (Runs step.after) (w.packets ++ posted bot step.report.packets)
-      (st.packets ++ link_posted bot (outgoings_of step.report.packets)) step.after.link g.after g.sound g.grows g.count
-      (g.number ∙ among.number) (g.leaves ∙ among.leaves) refl
-      (subst (λ (ps : List LinkSent). AreAmong (w.packets ++ posted bot step.report.packets) (st.packets ++ ps))
-      (all_sent-posted bot step.report.packets)
-      (AreAmong-out w.packets (posted bot step.report.packets) st.packets st.told))
-
-  pub made_told : (promised : Promised) (bot : ℕ) (step : Step) → Makes promised w bot step
-      → (after : History) × Stands (after_deed w (Made bot step)) after × Grows h after
-      × GrowsByNote bot step.report.note h.hub.kept.accepted after.hub.kept.accepted
-  unfolding moves
-  made_told promised bot step m =
       let among = (running bot step.was m.running).among in
       let g = bot_goes promised step.names h st.ends st.packets bot step.was among step.event step.report step.after
       (was_sent w.packets st.packets st.told bot step.event m.told) m.takes in
@@ -98,16 +134,16 @@ module _ (w : Net) (h : History) (st : Stands w h) where
       (subst (λ (ps : List LinkSent). AreAmong (w.packets ++ posted bot step.report.packets) (st.packets ++ ps))
       (all_sent-posted bot step.report.packets)
       (AreAmong-out w.packets (posted bot step.report.packets) st.packets st.told)) in
-      (g.after, r.stands, g.grows, g.accepted)
+      record { after = g.after; stands = r.stands; grows = r.grows; accepts = g.accepted }
 
   -- ---- a death
 
   -- a row was made, of which nobody was told
   row_goes : (place : ℕ) (old : BotEnd) → slice_get st.ends place ≡ Some old.end → (row : Row LinkEnd)
-      → RowFollows h st.ends st.packets place row
+      → (goes : RowFollows h st.ends st.packets place row)
       → (process : Process) (new : BotEnd) → row.after ≡ new.end → new.number ≡ place → new.leaves ≡ h.count
       → HasEnd new process
-      → Reaches h (with_process w place process [])
+      → ReachesAt h goes.after (with_process w place process [])
   row_goes place old at row goes process new same number leaves has =
       moves w h st place old at process (w.packets ++ []) (st.packets ++ link_posted place row.sends) new goes.after
       (subst (λ (e : LinkEnd).
@@ -119,10 +155,10 @@ module _ (w : Net) (h : History) (st : Stands w h) where
   -- two rows were made, one after the other
   rows_go : (place : ℕ) (old : BotEnd) → slice_get st.ends place ≡ Some old.end → (one two : Row LinkEnd)
       → (goes : RowFollows h st.ends st.packets place one)
-      → RowFollows goes.after (slice_set st.ends place one.after) (st.packets ++ link_posted place one.sends) place two
+      → (more : RowFollows goes.after (slice_set st.ends place one.after) (st.packets ++ link_posted place one.sends) place two)
       → (process : Process) (new : BotEnd) → two.after ≡ new.end → new.number ≡ place → new.leaves ≡ h.count
       → HasEnd new process
-      → Reaches h (with_process w place process [])
+      → ReachesAt h more.after (with_process w place process [])
   rows_go place old at one two goes more process new same number leaves has =
       let sent = st.packets ++ link_posted place one.sends in
       let packets = sent ++ link_posted place two.sends in
@@ -137,30 +173,38 @@ module _ (w : Net) (h : History) (st : Stands w h) where
   module _ (place : ℕ) (was : Bot) (among : IsBotAmong h st.ends st.packets place was.link)
       (first second : List ℕ) where
     -- the call was to journal nothing
-    quiet_goes : LeavesIn Nothing was.link first second → Reaches h (with_process w place (Ended first second) [])
+    quiet_goes : LeavesIn Nothing was.link first second → ReachesAt h h (with_process w place (Ended first second) [])
     quiet_goes leaves =
         keeps_end w h st place was.link among.at (Ended first second) was.link refl among.number among.leaves leaves
 
+    quiet_leads : (doing : Doing) → LeavesIn Nothing was.link first second → Leads h w (Died place was doing first second)
+    quiet_leads doing leaves =
+        let r = quiet_goes leaves in record { after = h; stands = r.stands; grows = r.grows; accepts = inl refl }
+
+    -- the call was to journal a record, by this row
+    failed_leads : (doing : Doing) (row : Row LinkEnd) → RowFollows h st.ends st.packets place row
+        → MeanEnd (with_end was.link row.after) first second → Leads h w (Died place was doing first second)
+    failed_leads doing row goes leaves =
+        let r = row_goes place was.link among.at row goes (Ended first second) (with_end was.link row.after)
+        refl among.number among.leaves leaves in
+        record { after = goes.after; stands = r.stands; grows = r.grows; accepts = few goes.moves }
+
     died_goes : (doing : Doing) → WasDoing w.packets place doing → LeavesIn doing was.link first second
-        → Reaches h (after_deed w (Died place was doing first second))
-    died_goes Nothing told leaves = quiet_goes leaves
-    died_goes (Telling Connect) told leaves = quiet_goes leaves
-    died_goes (Telling (Line line)) told leaves = quiet_goes leaves
-    died_goes (Telling (Ask change)) told leaves = quiet_goes leaves
-    died_goes (Telling (Clock now)) told leaves = quiet_goes leaves
-    died_goes (Telling (Bind asked)) told leaves = quiet_goes leaves
-    died_goes (Telling (Unbind gone)) told leaves = quiet_goes leaves
-    died_goes (Telling Restart) told leaves = quiet_goes leaves
+        → Leads h w (Died place was doing first second)
+    died_goes Nothing told leaves = quiet_leads Nothing leaves
+    died_goes (Telling Connect) told leaves = quiet_leads (Telling Connect) leaves
+    died_goes (Telling (Line line)) told leaves = quiet_leads (Telling (Line line)) leaves
+    died_goes (Telling (Ask change)) told leaves = quiet_leads (Telling (Ask change)) leaves
+    died_goes (Telling (Clock now)) told leaves = quiet_leads (Telling (Clock now)) leaves
+    died_goes (Telling (Bind asked)) told leaves = quiet_leads (Telling (Bind asked)) leaves
+    died_goes (Telling (Unbind gone)) told leaves = quiet_leads (Telling (Unbind gone)) leaves
+    died_goes (Telling Restart) told leaves = quiet_leads (Telling Restart) leaves
     died_goes (Telling Pump) told leaves =
-        row_goes place was.link among.at (did was.link pumps Fails)
-        (did_row h st.ends st.packets place was.link among pumps Fails)
-        (Ended first second) (with_end was.link (did was.link pumps Fails).after)
-        refl among.number among.leaves leaves
+        failed_leads (Telling Pump) (did was.link pumps Fails)
+        (did_row h st.ends st.packets place was.link among pumps Fails) leaves
     died_goes (Telling Compact) told leaves =
-        row_goes place was.link among.at (did was.link compacts Fails)
-        (did_row h st.ends st.packets place was.link among compacts Fails)
-        (Ended first second) (with_end was.link (did was.link compacts Fails).after)
-        refl among.number among.leaves leaves
+        failed_leads (Telling Compact) (did was.link compacts Fails)
+        (did_row h st.ends st.packets place was.link among compacts Fails) leaves
     died_goes (Telling (Receive packet)) told leaves =
         let sent = was_sent w.packets st.packets st.told place (Receive packet) told in
         let goes : RowFollows h st.ends st.packets place (took was.link packet Fails) =
@@ -170,9 +214,7 @@ module _ (w : Net) (h : History) (st : Stands w h) where
         (received_goes st.ends st.packets h st.moment was.link.leaves sent.0
         (record { from = sent.1; to = place; packet = from_wire packet })
         was.link.end Fails among.leaves sent.2 among.at) in
-        row_goes place was.link among.at (took was.link packet Fails) goes (Ended first second)
-        (with_end was.link (took was.link packet Fails).after)
-        refl among.number among.leaves leaves
+        failed_leads (Telling (Receive packet)) (took was.link packet Fails) goes leaves
 
   -- ---- an opening
 
@@ -203,6 +245,11 @@ module _ (w : Net) (h : History) (st : Stands w h) where
           leaves = is.leaves ∙ sym restarted_goes.count;
         }) compacts Works
 
+    -- the restart accepts at most the change in doubt, and the compaction none
+    few_anew : AtMostOneMore h.hub.kept.accepted compacted_goes.after.hub.kept.accepted
+    few_anew = subst (AtMostOneMore h.hub.kept.accepted) (sym (none_compacted reopened _ _ place compacted_goes.moves))
+        (few restarted_goes.moves)
+
     -- what the bytes mean to a bot of this number
     module _ (number leaves : ℕ) (same_number : number ≡ place) (many : leaves + 1 ≡ length w.processes) where
       same_leaves : leaves ≡ h.count
@@ -229,7 +276,7 @@ module _ (w : Net) (h : History) (st : Stands w h) where
 
     -- the bot that was opened has the end that its disks mean, or that put anew
     opens_end : (after : Bot) → IsOpened place (length w.processes) first second after
-        → Reaches h (after_deed w (Opened place after))
+        → Leads h w (Opened place after)
     opens_end after o =
         let found = meant after.config.number after.config.leaves o.number o.leaves o.kept.contents o.kept.before o.kept.found
         o.kept.means in
@@ -237,22 +284,24 @@ module _ (w : Net) (h : History) (st : Stands w h) where
         let leaves = ap (λ (l : BotEnd). l.leaves) o.link
         ∙ same_leaves after.config.number after.config.leaves o.number o.leaves in
         elim o.kept.keeps [
-          | inl same ↦ row_goes place is.link is.at (did is.link restarts how) restarted_goes (Runs after) after.link
-              (found ∙ sym same.1) number leaves refl
-          | inr older ↦ rows_go place is.link is.at (did is.link restarts how) (did reopened compacts Works) restarted_goes
+          | inl same ↦ let r = row_goes place is.link is.at (did is.link restarts how) restarted_goes (Runs after) after.link
+              (found ∙ sym same.1) number leaves refl in
+              record { after = restarted_goes.after; stands = r.stands; grows = r.grows; accepts = few restarted_goes.moves }
+          | inr older ↦ let r = rows_go place is.link is.at (did is.link restarts how) (did reopened compacts Works) restarted_goes
               compacted_goes (Runs after) after.link
               (renewed after.config.number after.config.leaves o.number o.leaves o.kept.before after.link.end found older.1)
-              number leaves refl
+              number leaves refl in
+              record { after = compacted_goes.after; stands = r.stands; grows = r.grows; accepts = few_anew }
         ]
 
     -- bytes that were put anew mean what a restart of that end finds
     unopens_end : (x y : List ℕ) (leaves : ℕ) → leaves + 1 ≡ length w.processes → (how ≡ Fails → ⊥)
         → (put : ArePutAnew (end_meaning place leaves) (RenewsEnd place leaves) (meaning first second) (meaning x y))
-        → Reaches h (after_deed w (Unopened place x y))
+        → Leads h w (Unopened place x y)
     unopens_end x y leaves many works put =
         let found = meant place leaves refl many put.contents put.before put.was put.means in
         let same = renewed place leaves refl many put.before put.kept found put.renews in
-        rows_go place is.link is.at (did is.link restarts how) (did reopened compacts Works) restarted_goes compacted_goes
+        let r = rows_go place is.link is.at (did is.link restarts how) (did reopened compacts Works) restarted_goes compacted_goes
         (Ended x y) (with_end is.link anew) refl is.number is.leaves
         (record {
           contents = put.anew;
@@ -262,11 +311,12 @@ module _ (w : Net) (h : History) (st : Stands w h) where
               ∙ ap (λ n. end_meaning place n put.anew) (is.leaves ∙ sym (same_leaves place leaves refl many))
               ∙ put.means_anew ∙ ap (λ (e : LinkEnd). Some e) (sym same)
               ∙ ap (λ (e : LinkEnd). Some e) (sym (rests_anew is.link.leaves is.link.number how is.link.end works)));
-        })
+        }) in
+        record { after = compacted_goes.after; stands = r.stands; grows = r.grows; accepts = few_anew }
 
   opened_goes : (place : ℕ) (first second : List ℕ) → slice_get w.processes place ≡ Some (Ended first second)
       → (after : Bot)
-      → IsOpened place (length w.processes) first second after → Reaches h (after_deed w (Opened place after))
+      → IsOpened place (length w.processes) first second after → Leads h w (Opened place after)
   opened_goes place first second at after o =
       let is = st.each place (Ended first second) at in
       elim is.has.means [
@@ -276,12 +326,13 @@ module _ (w : Net) (h : History) (st : Stands w h) where
 
   unopened_goes : (place : ℕ) (x y first second : List ℕ) → slice_get w.processes place ≡ Some (Ended x y)
       → IsUnopened place (length w.processes) x y first second
-      → Reaches h (after_deed w (Unopened place first second))
+      → Leads h w (Unopened place first second)
   unopened_goes place x y first second at u =
       let is = st.each place (Ended x y) at in
       elim u.left [
-        | inl same ↦ keeps_end w h st place is.link is.at (Ended first second) is.link refl is.number is.leaves
-            (record { contents = is.has.contents; found = same ∙ is.has.found; means = is.has.means })
+        | inl same ↦ let r = keeps_end w h st place is.link is.at (Ended first second) is.link refl is.number is.leaves
+            (record { contents = is.has.contents; found = same ∙ is.has.found; means = is.has.means }) in
+            record { after = h; stands = r.stands; grows = r.grows; accepts = inl refl }
         | inr put ↦ elim is.has.means [
           | inl works ↦ unopens_end place x y is Works works first second u.leaves u.many (λ no. cc) put
           | inr counts ↦ unopens_end place x y is Counts counts first second u.leaves u.many (λ no. cc) put
@@ -292,7 +343,7 @@ module _ (w : Net) (h : History) (st : Stands w h) where
 
   pub deed_goes : (promised : Promised) (deed : Deed)
       → Happens promised w deed
-      → Reaches h (after_deed w deed)
+      → Leads h w deed
   deed_goes promised (Made bot step) m = made_goes promised bot step m
   deed_goes promised (Died bot was doing first second) d =
       died_goes bot was (running bot was d.running).among first second doing d.told d.leaves

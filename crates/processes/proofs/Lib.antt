@@ -1,5 +1,6 @@
 mod Lists
 mod Standing
+mod Turning
 mod Going
 mod Resting
 mod Running

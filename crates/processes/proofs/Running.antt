@@ -4,7 +4,7 @@ use Rattle.std.proofs.Common.{ap, sym, subst, ◌∙◌, arith}
 use Rattle.userfile.specs.Records.{Records}
 use Rattle.userfile.specs.declared.change.Change.{Change as UserChange}
 use Rattle.sharewire.specs.declared.packet.Packet.{Packet}
-use Rattle.procstore.specs.Promises.{Promised}
+use Rattle.procs.specs.Promises.{Promised}
 use Rattle.protocol.specs.Numbers.{item_at}
 use Rattle.protocol.specs.Packets.{AcceptedChange, Sent as LinkSent, from_wire}
 use Rattle.protocol.specs.History.{History, start, records_of}

@@ -12,18 +12,17 @@ use Rattle.botworld.specs.declared.sent.Sent.{Sent}
 use Rattle.botworld.proofs.Lists.{slice_get-set, slice_get-set-same}
 use Rattle.botworld.proofs.BotEnds.{set-same}
 use Rattle.processes.specs.Deeds.{Process, Net}
-use Rattle.processes.specs.Standing.{HasEnd, IsAt, AreAmong, Stands, Reaches}
+use Rattle.processes.specs.Standing.{HasEnd, IsAt, AreAmong, Stands, ReachesAt}
 use Rattle.protocol.proofs.Lists.{slice_set-other}
 
 module _ (w : Net) (h : History) (st : Stands w h) (place : ℕ) (old : BotEnd)
     (at : slice_get st.ends place ≡ Some old.end) where
   -- the other processes have their ends, the one that moved has this one
-  unfoldable pub moves : (process : Process) (told : List Sent) (packets : List LinkSent) (new : BotEnd) (after : History)
+  pub moves : (process : Process) (told : List Sent) (packets : List LinkSent) (new : BotEnd) (after : History)
       → IsMoment (slice_set st.ends place new.end) packets after → Grows h after → after.count ≡ h.count
       → new.number ≡ place → new.leaves ≡ h.count → HasEnd new process → AreAmong told packets
-      → Reaches h (record { processes = slice_set w.processes place process; packets = told })
+      → ReachesAt h after (record { processes = slice_set w.processes place process; packets = told })
   moves process told packets new after moment grows count number leaves has among = record {
-    after = after;
     grows = grows;
     stands = record {
       ends = slice_set st.ends place new.end;
@@ -53,7 +52,7 @@ module _ (w : Net) (h : History) (st : Stands w h) (place : ℕ) (old : BotEnd)
   -- a process whose end of the link stays
   pub keeps_end : (process : Process) (new : BotEnd) → new.end ≡ old.end → new.number ≡ place → new.leaves ≡ h.count
       → HasEnd new process
-      → Reaches h (record { processes = slice_set w.processes place process; packets = w.packets ++ [] })
+      → ReachesAt h h (record { processes = slice_set w.processes place process; packets = w.packets ++ [] })
   keeps_end process new same number leaves has =
       moves process (w.packets ++ []) st.packets new h
       (subst (λ (es : List LinkEnd). IsMoment es st.packets h)

@@ -1,11 +1,12 @@
 -- What bots in processes of their own do, and where a list of their deeds leads.
-use Rattle.std.specs.Prelude.{◌≡◌, ℕ, ◌+◌, List, [], ◌∷◌, ◌++◌, length, slice_get, slice_set, Option, None, Some}
+use Rattle.std.specs.Prelude.{◌≡◌, ◌⊎◌, ℕ, ◌+◌, List, [], ◌∷◌, ◌++◌, length, slice_get, slice_set, Option, None, Some}
 use Rattle.userfile.specs.Records.{Records}
 use Rattle.sharewire.specs.declared.packet.Packet.{Packet}
-use Rattle.procstore.specs.Promises.{Promised}
+use Rattle.procs.specs.Promises.{Promised}
 use Rattle.disks.specs.State.{moment, left_since}
 use Rattle.botjournal.specs.Contents.{meaning}
 use Rattle.protocol.specs.Bots.{Fails}
+use Rattle.protocol.specs.Packets.{AcceptedChange}
 use Rattle.protocol.specs.Network.Event.{Pump as pumps, Compact as compacts}
 use Rattle.protocol.specs.Ends.{End}
 use Rattle.sharelink.specs.BotLinks.{BotEnd, did, took, MeanEnd}
@@ -19,6 +20,7 @@ use Rattle.botcore.specs.Links.{link_version, link_records}
 use Rattle.botcore.specs.Steps.{TakesStep}
 use Rattle.botworld.specs.declared.sent.Sent.{Sent}
 use Rattle.botworld.specs.Net.{packet_at, posted}
+use Rattle.botworld.specs.Network.{GrowsByNote}
 
 -- ---- processes and their deeds
 
@@ -183,6 +185,19 @@ pub record IsFirst (count : ℕ) (w : Net) : Type 0 where
   pub many : length w.processes ≡ count + 1
   pub packets : w.packets ≡ []
   pub all_new : (place : ℕ) (process : Process) → slice_get w.processes place ≡ Some process → IsNew count place process
+
+-- ---- which changes the hub accepts
+
+abbrev pub AtMostOneMore : List AcceptedChange → List AcceptedChange → Type 0
+AtMostOneMore old new = (new ≡ old) ⊎ ((entry : AcceptedChange) × (new ≡ old ++ entry ∷ []))
+
+-- A step accepts changes as its report says. Another deed accepts at most the one that was in doubt when the hub's process
+-- ended.
+abbrev pub AcceptsIn : Deed → List AcceptedChange → List AcceptedChange → Type 0
+AcceptsIn (Made bot step) old new = GrowsByNote bot step.report.note old new
+AcceptsIn (Died bot was doing first second) old new = AtMostOneMore old new
+AcceptsIn (Opened bot after) old new = AtMostOneMore old new
+AcceptsIn (Unopened bot first second) old new = AtMostOneMore old new
 
 -- ---- what is shown
 

@@ -1,3 +1,4 @@
 pub mod Deeds
 pub mod Standing
+pub mod Turning
 pub mod Promises

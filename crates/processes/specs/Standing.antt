@@ -8,7 +8,7 @@ use Rattle.protocol.specs.Nets.{IsMoment}
 use Rattle.sharelink.specs.BotLinks.{BotEnd, MeanEnd}
 use Rattle.botworld.specs.declared.sent.Sent.{Sent}
 use Rattle.botworld.specs.Network.{sent_as}
-use Rattle.processes.specs.Deeds.{Process, Runs, Ended, Net}
+use Rattle.processes.specs.Deeds.{Process, Runs, Ended, Net, Deed, after_deed, AcceptsIn}
 
 -- a process has this end of the link: its bot has it, or a restart finds it in what the disks mean
 abbrev pub HasEnd : BotEnd → Process → Type 0
@@ -41,8 +41,20 @@ pub record Stands (w : Net) (h : History) : Type 0 where
   pub told : AreAmong w.packets packets
   pub each : (place : ℕ) (process : Process) → slice_get w.processes place ≡ Some process → IsAt h ends place process
 
+-- the net stands for this moment, into which this history has grown
+pub record ReachesAt (h after : History) (w : Net) : Type 0 where
+  pub stands : Stands w after
+  pub grows : Grows h after
+
 -- the net stands for a moment into which this history has grown
 pub record Reaches (h : History) (w : Net) : Type 0 where
   pub after : History
   pub stands : Stands w after
   pub grows : Grows h after
+
+-- the same of one deed, in which changes are accepted as its kind says
+pub record Leads (h : History) (w : Net) (deed : Deed) : Type 0 where
+  pub after : History
+  pub stands : Stands (after_deed w deed) after
+  pub grows : Grows h after
+  pub accepts : AcceptsIn deed h.hub.kept.accepted after.hub.kept.accepted

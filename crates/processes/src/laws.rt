@@ -1,6 +1,6 @@
 // The laws of the deeds of bots in processes of their own.
 ghost use Rattle.std.specs.Prelude.{◌≡◌, ◌⊎◌, ◌≤◌, ◌+◌, ◌++◌, ℕ, suc, true, List, slice_get, Some, Ok};
-ghost use Rattle.protocol.specs.History.{Grows, History, start, records_of};
+ghost use Rattle.protocol.specs.History.{History, start, records_of};
 ghost use Rattle.disks.specs.State.{may_leave, moment, left_since};
 ghost use Rattle.botjournal.specs.Ledger.{Device};
 ghost use Rattle.sharelink.specs.BotLinks.{BotEnd, MayLeave};
@@ -8,18 +8,18 @@ ghost use Rattle.botcore.specs.declared.config.Config.{Config};
 ghost use Rattle.botcore.specs.Bots.{Bot};
 ghost use Rattle.botcore.specs.declared.event.BotEvent.{BotEvent};
 ghost use Rattle.botcore.specs.declared.report.Report.{Report};
-ghost use Rattle.botcore.specs.Making.{Finds, LeavesFound};
+ghost use Rattle.botcore.specs.Making.{Makes, Finds, LeavesFound};
 ghost use Rattle.botcore.specs.Steps.{TakesStep};
 ghost use Rattle.botworld.specs.Calling.{Calling, IsAlike, IsAlikeButChannels, IgnoresChannels};
-ghost use Rattle.botworld.specs.Network.{GrowsByNote};
-ghost use Rattle.processes.specs.Deeds.{Happens, after_deed};
-ghost use Rattle.processes.specs.Deeds.{Net, Step, Deed, Made, Nothing, Telling, IsOpened, IsUnopened, CrashesIn, LeavesIn, Run, IsFirst, net_after};
+ghost use Rattle.processes.specs.Deeds.{Net, Step, Deed, Made, Runs, Nothing, Telling, IsOpened, IsUnopened, CrashesIn, LeavesIn, Happens, Run, IsNew, IsFirst, net_after};
 ghost use Rattle.processes.specs.Deeds.{shown_version, shown_records};
-ghost use Rattle.processes.specs.Standing.{Stands, Reaches};
+ghost use Rattle.processes.specs.Standing.{Stands, Reaches, Leads};
+ghost use Rattle.processes.specs.Turning.{AreTold, AreDeeds};
+ghost use Rattle.turns.specs.Turns.{Steps};
 ghost use Rattle.processes.specs.Promises.{Once, calling_of};
 
 use disks::Disk;
-use procstore::Promise;
+use procs::Promise;
 
 /// States what holds of all deeds of bots in processes of their own, over procs that keep the promise `P` and disks of
 /// the type `D`. The call does nothing.
@@ -43,10 +43,9 @@ pub fn laws_of_processes<P: Promise, D: Disk>()
         → IsFirst count w → Run P.promised w (first ++ more) → (bot before after : ℕ)
         → shown_version (net_after w first) bot ≡ Some before
         → shown_version (net_after w (first ++ more)) bot ≡ Some after → before ≤ after }
-    // The list of accepted changes grows as the hub's step reports, and at no other step.
-    ensures grows_as_told { (w : Net) (h : History) (bot : ℕ) (step : Step) → Stands w h → Happens P.promised w (Made bot step)
-        → (after : History) × Stands (after_deed w (Made bot step)) after × Grows h after
-        × GrowsByNote bot step.report.note h.hub.kept.accepted after.hub.kept.accepted }
+    // The list of accepted changes grows as the hub's step reports, and at no other step. Another deed adds at most the
+    // change that was in doubt when the hub's process ended.
+    ensures grows_as_told { (w : Net) (h : History) (deed : Deed) → Stands w h → Happens P.promised w deed → Leads h w deed }
     // A request is accepted at most once, and is reported so.
     ensures once { (count : ℕ) (w : Net) (deeds : List Deed)
         → IsFirst count w → Run P.promised w deeds → Once (net_after w deeds) }
@@ -61,6 +60,14 @@ pub fn laws_of_processes<P: Promise, D: Disk>()
         → (i j one other : ℕ) (s t : Step) (a b : Calling)
         → slice_get deeds i ≡ Some (Made one s) → slice_get deeds j ≡ Some (Made other t) → s.names ≡ t.names
         → calling_of s ≡ Some a → calling_of t ≡ Some b → IsAlikeButChannels a b → a.calls ≡ b.calls }
+    // A bot that `Bot::create` made is one of the first moment.
+    ensures made { (config : Config) (first second : D) (bot : Bot) → Makes D.state config first second (Ok bot)
+        → IsNew config.leaves config.number (Runs bot) }
+    // The steps of a turn are deeds, if reports have sent its packets. `take_turn` of the crate `turns` says that it makes
+    // such steps.
+    ensures turned { (w : Net) (bot : ℕ) (names : List (List ℕ)) (old new : Bot) (events : List BotEvent) (reports : List Report)
+        → slice_get w.processes bot ≡ Some (Runs old) → AreTold w.packets bot events
+        → Steps P.promised names old events reports new → AreDeeds P.promised w bot names events reports new }
     // A bot that `Bot::open` found is opened from what its disks held, or from the same rewritten in the present
     // layout.
     ensures opened { (config : Config) (first second : D) (bot : Bot) → Finds D.state config first second (Ok bot)

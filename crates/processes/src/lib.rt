@@ -10,8 +10,8 @@
 //!
 //! [`laws_of_processes`] states for every such list what a world promises of a run. Bots at version v hold the same
 //! records, at any two moments: those after the hub's first v accepted changes. That list grows as the hub's steps
-//! report. No version goes back, even over deaths and openings. A request is accepted at most once, and is reported
-//! so. Bots that are alike call the same procs.
+//! report, and by the change in doubt when the hub's process ended. No version goes back, even over deaths and
+//! openings. A request is accepted at most once, and is reported so. Bots that are alike call the same procs.
 //!
 //! The laws rest on premises, which are definitions in `specs/Deeds` (`Happens`, `IsFirst`):
 //!
@@ -22,10 +22,11 @@
 //!   call was journaling (`LeavesIn`). Of a step of a bot the clause `died` proves it, from what `Bot::step` and
 //!   `Bot::know_disks` say.
 //!
-//! For the other deeds a bot's own calls say enough. An opening is one that `Bot::open` found (`opened`). An opening
-//! in which the process dies leaves what `Bot::open` says of each of its moments (`unopened`). A process that ends
-//! between two calls leaves what `Bot::into_disks` says (`stopped`). The opening of a journal with an older layout is
-//! two steps of history: the restart that finds what was kept, and the compaction that rewrites it.
+//! For the other deeds a bot's own calls say enough. A bot of the first moment is one that `Bot::create` made (`made`).
+//! The steps that `take_turn` of the crate `turns` makes are deeds (`turned`). An opening is one that `Bot::open` found
+//! (`opened`). An opening in which the process dies leaves what `Bot::open` says of each of its moments (`unopened`). A
+//! process that ends between two calls leaves what `Bot::into_disks` says (`stopped`). The opening of a journal with an
+//! older layout is two steps of history: the restart that finds what was kept, and the compaction that rewrites it.
 #![tactic(auto)]
 
 mod laws;

@@ -2,7 +2,7 @@
 ghost use Rattle.std.specs.Prelude.{◌≡◌, ◌≢◌, ◌∷◌, map, option_map, None, IfOk, IfErr};
 ghost use Rattle.userfile.specs.declared.change.Change.TheVariants.{SetChan, SetInfo, SetSticky};
 ghost use Rattle.recordtext.specs.Changes.{by_more_words, by_one_word, by_three_words, by_two_words, info_by_words, pair_of};
-ghost use Rattle.recordtext.specs.Changes.{change_by_count, change_named, change_of, channel_of, comment_of, flags_of, mark_of};
+ghost use Rattle.recordtext.specs.Changes.{change_named, change_of, channel_of, comment_of, flags_of, mark_of};
 
 use crate::numeral::number;
 use crate::pieces::first_word;
@@ -63,23 +63,21 @@ pub fn change_named(alloc: Global, name: &[u8], words: &[&[u8]]) -> Result<Optio
     ensures memory { IfErr result (λ _. change_named name.now (map (λ word. word.now) words.now) ≢ None) }
 {
     if name == b"info".as_slice() {
-        info_by_words(alloc, words)
-    } else {
-        change_by_count(alloc, name, words)
+        return match words {
+            [] => Ok(None),
+            [h, text @ ..] => set_info(alloc, h, text),
+        };
+    }
+    match words {
+        [] => Ok(None),
+        [h] => by_one_word(alloc, name, h),
+        [a, b] => by_two_words(alloc, name, a, b),
+        [a, b, c] => by_three_words(alloc, name, a, b, c),
+        [a, b, c, d, comment @ ..] => by_more_words(alloc, name, a, b, c, d, comment),
     }
 }
 
 // info H, and the text.
-fn info_by_words(alloc: Global, words: &[&[u8]]) -> Result<Option<Change>, NoMemory>
-    ensures change { IfOk result (λ change. change ≡ info_by_words (map (λ word. word.now) words.now)) }
-    ensures memory { IfErr result (λ _. info_by_words (map (λ word. word.now) words.now) ≢ None) }
-{
-    match words {
-        [] => Ok(None),
-        [h, words @ ..] => set_info(alloc, h, words),
-    }
-}
-
 fn set_info(alloc: Global, h: &[u8], words: &[&[u8]]) -> Result<Option<Change>, NoMemory>
     ensures change { IfOk result (λ change. change ≡ info_by_words (h.now ∷ map (λ word. word.now) words.now)) }
     ensures memory { IfErr result (λ _. info_by_words (h.now ∷ map (λ word. word.now) words.now) ≢ None) }
@@ -92,20 +90,6 @@ fn set_info(alloc: Global, h: &[u8], words: &[&[u8]]) -> Result<Option<Change>, 
     };
     let handle = Text::from_slice(alloc, h)?;
     Ok(Some(Change::SetInfo { handle, info }))
-}
-
-// Every change but info, by its number of words.
-fn change_by_count(alloc: Global, name: &[u8], words: &[&[u8]]) -> Result<Option<Change>, NoMemory>
-    ensures change { IfOk result (λ change. change ≡ change_by_count name.now (map (λ word. word.now) words.now)) }
-    ensures memory { IfErr result (λ _. change_by_count name.now (map (λ word. word.now) words.now) ≢ None) }
-{
-    match words {
-        [] => Ok(None),
-        [a] => by_one_word(alloc, name, a),
-        [a, b] => by_two_words(alloc, name, a, b),
-        [a, b, c] => by_three_words(alloc, name, a, b, c),
-        [a, b, c, d, comment @ ..] => by_more_words(alloc, name, a, b, c, d, comment),
-    }
 }
 
 // NAME H

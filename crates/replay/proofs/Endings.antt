@@ -7,7 +7,7 @@ use Rattle.streams.specs.Transfers.{ReadsUpTo, WritesFront, WritesOut}
 use Rattle.streams.proofs.ReadLemmas.{ReadsUpTo-known}
 use Rattle.bytetext.specs.declared.failure.Failure.{Failure}
 use Rattle.bytetext.specs.declared.failure.Failure.TheVariants.{Refused, NoMemory as failed_no_memory}
-use Rattle.procstore.specs.Promises.{Promised}
+use Rattle.procs.specs.Promises.{Promised}
 use Rattle.script.specs.declared.TheConstants.{MAX_SCRIPT}
 use Rattle.script.specs.declared.error.ScriptFault.{ScriptFault}
 use Rattle.script.specs.declared.reading.Script.{Script}

@@ -1,6 +1,6 @@
 -- How a world and a text relate to the deeds that were done.
 use Rattle.std.specs.Prelude.{◌≡◌, ℕ, List, ◌++◌}
-use Rattle.procstore.specs.Promises.{Promised}
+use Rattle.procs.specs.Promises.{Promised}
 use Rattle.bottimers.specs.Zones.{TzText}
 use Rattle.botworld.specs.Net.{Net}
 use Rattle.botworld.specs.Network.{State, AllMade}

@@ -2,7 +2,7 @@
 use Rattle.std.specs.Prelude.{◌≡◌, ℕ, ◌+◌, List, take, IfSome, Result, Ok, Err}
 use Rattle.streams.specs.State.{Source, Sink}
 use Rattle.streams.specs.Transfers.{FailsToGive, ReadsUpTo, WritesFront, WritesOut}
-use Rattle.procstore.specs.Promises.{Promised}
+use Rattle.procs.specs.Promises.{Promised}
 use Rattle.script.specs.declared.TheConstants.{MAX_SCRIPT}
 use Rattle.script.specs.Reading.{HasFault}
 use Rattle.replay.specs.declared.error.ReplayError.{ReplayError}

@@ -3,8 +3,8 @@ use Rattle.std.specs.Prelude.{ℕ, zero, suc, ◌+◌, List, [], ◌∷◌, ◌+
 use Rattle.std.specs.List.{flat_map}
 use Rattle.ircline.specs.Codes.{code_of as line_code}
 use Rattle.userfile.specs.Codes.{fault_code}
-use Rattle.procstore.specs.declared.reply.Code.{Code}
-use Rattle.procstore.specs.declared.reply.Code.TheVariants.{Zero, One}
+use Rattle.procs.specs.declared.reply.Code.{Code}
+use Rattle.procs.specs.declared.reply.Code.TheVariants.{Zero, One}
 use Rattle.sharelink.specs.declared.note.LinkNote.{LinkNote}
 use Rattle.sharelink.specs.declared.note.LinkNote.TheVariants.{Queued, Idle, Sent as request_sent, Accepted, Refused, Served, Old, Repeat, Gap, Early, Applied, Kept, Installed, Compacted, Relayed, Text, Stray, Restarted}
 use Rattle.sharewire.specs.declared.packet.Packet.{Packet}
@@ -13,7 +13,7 @@ use Rattle.outqueue.specs.Refusals.{code_of as queue_code}
 use Rattle.botcore.specs.Codes.{refusal_code, action_code}
 use Rattle.botcore.specs.declared.fault.StepFault.{StepFault}
 use Rattle.botcore.specs.declared.fault.StepFault.TheVariants.{Unbound as unbound_fault, Action as action_fault, Line as line_fault}
-use Rattle.botcalls.specs.declared.made_call.MadeCall.{MadeCall}
+use Rattle.procs.specs.declared.made_call.MadeCall.{MadeCall}
 use Rattle.botcore.specs.declared.report.End.{End}
 use Rattle.botcore.specs.declared.report.End.TheVariants.{Done as ended, Refused as ended_refused, NoMemory as ended_no_memory}
 use Rattle.botcore.specs.declared.report.Note.{Note}

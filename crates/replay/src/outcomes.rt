@@ -9,12 +9,11 @@ ghost use Rattle.replay.specs.Text.{outcome_text, report_text};
 
 use crate::ends::put_end;
 use crate::packets::put_sent;
-use botcalls::MadeCall;
 use botcore::StepFault;
 use botworld::{Outcome, Sent, World, WorldReport};
 use bytetext::{NoMemory, Text};
 use disks::Disk;
-use procstore::{Code, Promise, Run};
+use procs::{Code, MadeCall, Promise, Run};
 use recordtext::{put, put_number};
 
 /// Appends to `out` the lines of the step with this `outcome`, whose packets `world` holds.

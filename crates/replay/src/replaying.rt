@@ -9,7 +9,7 @@ use crate::input::script_bytes;
 use crate::output::write_text;
 use crate::transcripts::transcript;
 use bytetext::Failure;
-use procstore::{ProcStore, Promise, Run};
+use procs::{ProcStore, Promise, Run};
 use std::alloc::Global;
 use streams::Stream;
 

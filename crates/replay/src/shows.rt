@@ -5,7 +5,7 @@ ghost use Rattle.replay.specs.Deeds.{net_text};
 use botworld::World;
 use bytetext::NoMemory;
 use disks::Disk;
-use procstore::{Promise, Run};
+use procs::{Promise, Run};
 use recordtext::put_records;
 use std::alloc::Global;
 

@@ -11,7 +11,7 @@ use botcore::{Bot, Config};
 use bottimers::Zone;
 use botworld::World;
 use bytetext::{Failure, NoMemory, Text, Texts, TryCopy};
-use procstore::{ProcStore, Promise, Run};
+use procs::{ProcStore, Promise, Run};
 use recordtext::put_number;
 use std::alloc::Global;
 

@@ -17,7 +17,7 @@ use crate::starting::{new_world, zone_or_utc};
 use botworld::{Step, World};
 use bytetext::{Failure, NoMemory};
 use disks::Disk;
-use procstore::{ProcStore, Promise, Run};
+use procs::{ProcStore, Promise, Run};
 use script::{Command, Script, ScriptError};
 use std::alloc::Global;
 use std::slice;

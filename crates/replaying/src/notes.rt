@@ -1,11 +1,10 @@
 // What came of a step, as short texts beside its bot.
 use crate::canvas::{Anchor, Canvas, Point};
 use crate::places::{LINE, NOTE, place_of};
-use botcalls::MadeCall;
 use botcore::{End, Note, StepFault};
 use botworld::WorldReport;
 use bytetext::Text;
-use procstore::Code;
+use procs::{Code, MadeCall};
 use replay::put_note;
 use sharelink::LinkNote;
 use std::alloc::Global;

@@ -10,7 +10,7 @@ use crate::rows::{Sheet, put_row};
 use botworld::World;
 use bytetext::{Failure, NoMemory};
 use disks::Disk;
-use procstore::{ProcStore, Promise, Run};
+use procs::{ProcStore, Promise, Run};
 use replay::{new_world, zone_or_utc};
 use script::{Command, Commands, Saying, Script, pieces_of, saying_of};
 use std::alloc::Global;

@@ -3,7 +3,7 @@ use crate::painting::picture;
 use crate::scripts::replay_told;
 use crate::statuses::{FAULT, not_read, out_of_memory};
 use bytetext::Failure;
-use procstore::{ProcStore, Promise, Run};
+use procs::{ProcStore, Promise, Run};
 use replay::{script_bytes, write_text};
 use std::fs::File;
 use std::io;

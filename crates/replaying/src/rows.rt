@@ -6,7 +6,7 @@ use crate::places::{GAP, LABEL, LINE, place_of};
 use botcore::Note;
 use botworld::{Outcome, Step, World, WorldReport};
 use disks::Disk;
-use procstore::{Promise, Run};
+use procs::{Promise, Run};
 use replay::put_packet;
 use sharelink::LinkNote;
 use std::alloc::Global;

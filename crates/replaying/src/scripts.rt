@@ -1,6 +1,6 @@
 // Replays scripts.
 use crate::statuses::{FAULT, STREAM_FAULT, not_read, out_of_memory};
-use procstore::{ProcStore, Promise, Run};
+use procs::{ProcStore, Promise, Run};
 use replay::{ReplayError, replay};
 use std::fs::File;
 use std::io;

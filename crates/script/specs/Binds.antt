@@ -1,6 +1,6 @@
 -- The binds that a script makes and removes.
 use Rattle.std.specs.Prelude.{ℕ, ◌||◌, List, [], ◌∷◌, Option, None, Some, if◌then◌else◌}
-use Rattle.bindtable.specs.declared.bind_kind.BindKind.{BindKind}
+use Rattle.procs.specs.declared.bind_kind.BindKind.{BindKind}
 use Rattle.botcore.specs.declared.event.NewBind.{NewBind}
 use Rattle.botcore.specs.declared.event.OldBind.{OldBind}
 use Rattle.recordtext.specs.Words.{is_empty, rest_of}

@@ -1,7 +1,7 @@
 -- What is wrong with the words of a line.
 use Rattle.std.specs.Prelude.{ℕ, ◌==◌, nat_le, List, [], ◌∷◌, length, Option, None, Some, if◌then◌else◌}
 use Rattle.bottimers.specs.Zones.{rule_in}
-use Rattle.bindtable.specs.Kinds.{kind_of}
+use Rattle.procs.specs.Kinds.{kind_of}
 use Rattle.sharelink.specs.declared.TheConstants.{MAX_LEAVES}
 use Rattle.recordtext.specs.Words.{number_below}
 use Rattle.script.specs.declared.reason.Reason.{Reason}

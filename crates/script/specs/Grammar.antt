@@ -2,7 +2,7 @@
 use Rattle.std.specs.Prelude.{ℕ, ◌==◌, nat_le, Bool, false, not, List, [], ◌∷◌, Option, None, Some, option_map, option_and_then, if◌then◌else◌}
 use Rattle.script.specs.declared.command.Command.{Command}
 use Rattle.script.specs.declared.command.Command.TheVariants.{Steps, Show}
-use Rattle.bindtable.specs.Kinds.{kind_of}
+use Rattle.procs.specs.Kinds.{kind_of}
 use Rattle.sharelink.specs.declared.TheConstants.{MAX_LEAVES}
 use Rattle.botcore.specs.declared.event.BotEvent.{BotEvent}
 use Rattle.botcore.specs.declared.event.BotEvent.TheVariants.{Ask, Pump, Compact, Restart, Connect, Bind, Unbind, Clock}

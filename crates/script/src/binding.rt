@@ -2,9 +2,9 @@
 ghost use Rattle.std.specs.Prelude.{◌≡◌, map, IfOk};
 ghost use Rattle.script.specs.Binds.{new_bind_of, old_bind_of, new_bind_by, old_bind_by};
 
-use bindtable::BindKind;
 use botcore::{NewBind, OldBind};
 use bytetext::{NoMemory, Text};
+use procs::BindKind;
 use recordtext::rest_of;
 use std::alloc::Global;
 

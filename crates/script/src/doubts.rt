@@ -9,8 +9,8 @@ use crate::change_doubts::{ask_doubt, gap_doubt, text_doubt};
 use crate::reason::Reason;
 use crate::spacing::{gap_before, misread};
 use crate::verb::Verb;
-use bindtable::BindKind;
 use bottimers::Zone;
+use procs::BindKind;
 use recordtext::{bot_number, number};
 use sharelink::MAX_LEAVES;
 

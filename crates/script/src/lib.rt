@@ -10,7 +10,7 @@
 //! - A TEXT takes the rest of the line, spaces and all. The bot reads it as it would from a server: a carriage return
 //!   in it ends a line, so a `line` has a step for each line that its text holds.
 //! - `clock` makes the bot read its clock, which shows N, in seconds since 1970-01-01 UTC.
-//! - A TYPE is the word of a kind of binds ([`BindKind`](bindtable::BindKind)): `raw`, `msg`, `msgm`, `notc`, `pub`,
+//! - A TYPE is the word of a kind of binds ([`BindKind`](procs::BindKind)): `raw`, `msg`, `msgm`, `notc`, `pub`,
 //!   `pubm`, `join`, `part`, `sign`, `kick`, `nick`, `mode`, `topc`, `bot`, `time` or `cron`.
 //! - A MASK takes the rest of the line.
 //! - A CHANGE is one that `recordtext` reads, such as `adduser H`.

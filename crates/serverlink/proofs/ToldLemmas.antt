@@ -1,10 +1,12 @@
 -- What a connection was told are lines, whatever its wire does.
-use Rattle.std.proofs.Common.{◌≡◌, ◌++◌, ◌∷◌, ◌∙◌, ℕ, Bool, true, false, List, [], Result, Ok, Err, refl, ap, sym, append-nil}
+use Rattle.std.proofs.Common.{◌≡◌, ◌++◌, ◌∷◌, ◌∙◌, ℕ, Bool, true, false, List, [], Result, Ok, Err, refl, ap, sym, append-nil, if◌then◌else◌}
 use Rattle.std.proofs.lemmas.List.Concat.{flat_map-append}
 use Rattle.std.specs.List.{AllByRecursion, flat_map}
 use Rattle.streams.specs.State.{Source, Sink}
-use Rattle.net.specs.Connections.{Ledger, Holds, begun, more_handed, more_told, told_bytes}
+use Rattle.net.specs.Connections.{Ledger, Holds, Talk, begun, more_handed, more_told, told_bytes, with_bytes}
 use Rattle.serverlink.specs.Told.{TellsLines, IsLine, ended}
+use Rattle.serverlink.specs.Talks.{told as told_talk}
+use Rattle.serverlink.specs.declared.server_wire.TheConstants.{MOST}
 
 -- ---- lines, and one more
 
@@ -82,3 +84,9 @@ tells_told source new_source sink new_sink heard new_heard unsent new_unsent lin
   told = append-nil tells.ledger.told ∙ tells.told;
   holds = keeps tells.ledger tells.holds;
 }
+
+-- ---- what a call did
+
+-- a line is queued
+pub told_line : (line : List ℕ) (talk : Talk) → IsLine line → told_talk line talk ≡ with_bytes MOST (ended line) talk
+told_line line talk is = ap (λ is_it. if is_it then with_bytes MOST (ended line) talk else talk) is

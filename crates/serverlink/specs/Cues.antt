@@ -1,13 +1,15 @@
 -- What a message means for a bot's registration and its channels.
 use Rattle.std.specs.Prelude.{ℕ, ◌==◌, ◌&&◌, ◌||◌, Bool, false, List, [], length, slice_get, slice_index, unwrap_or, if◌then◌else◌, codes, Option, None, Some}
-use Rattle.std.specs.Str.{bytes_eq}
 use Rattle.rfccase.specs.Casemapping.{is_same}
 use Rattle.ircline.specs.declared.line.Line.{Line}
 use Rattle.ircline.specs.declared.line.Line.TheVariants.{Message as a_message, Bad as a_bad_line}
 use Rattle.ircline.specs.declared.message.Message.{Message}
+use Rattle.ircline.specs.declared.numeric.Numeric.{Numeric}
+use Rattle.ircline.specs.declared.numeric.Numeric.TheVariants.{Welcome, ErroneousNickname, NicknameInUse, NickCollision, UnavailableResource, Other}
+use Rattle.ircline.specs.Numeric.{is_command, numeric_of}
 use Rattle.ircline.specs.Sources.{Source, Nobody, Server, Person, source_of}
 use Rattle.serverlink.specs.declared.cue.Cue.{Cue}
-use Rattle.serverlink.specs.declared.cue.Cue.TheVariants.{Welcomed, Renamed, Joined, Parted, Kicked, Barred, NickRefused, Refused, Nothing}
+use Rattle.serverlink.specs.declared.cue.Cue.TheVariants.{Welcomed, Renamed, Joined, Parted, Kicked, Barred, NickRefused, Refused, Supports, Nothing}
 
 -- the parameter at a place, empty if the message has fewer
 abbrev pub param : Message → ℕ → List ℕ
@@ -29,17 +31,25 @@ is_to message own = is_same (param message 1) own
 abbrev pub is_numeric_fault : List ℕ → Bool
 is_numeric_fault command = length command == 3 && (slice_index command 0 == 52 || slice_index command 0 == 53)
 
-abbrev pub is_command : List ℕ → List ℕ → Bool
-is_command word command = bytes_eq command word
-
-abbrev pub numeric_cue : List ℕ → Cue
-numeric_cue command =
-    if is_command (codes "001") command then Welcomed
-    else if is_command (codes "432") command || is_command (codes "436") command || is_command (codes "437") command then NickRefused
+abbrev pub other_cue : List ℕ → Cue
+other_cue command =
+    if is_command (codes "005") command then Supports
     else if is_command (codes "471") command || is_command (codes "473") command || is_command (codes "474") command
     || is_command (codes "475") command then Barred
     else if is_numeric_fault command then Refused
     else Nothing
+
+-- a bot whose nick somebody else has asks for another one by itself (433)
+abbrev pub cue_by : Numeric → List ℕ → Cue
+cue_by Welcome command = Welcomed
+cue_by ErroneousNickname command = NickRefused
+cue_by NicknameInUse command = Refused
+cue_by NickCollision command = NickRefused
+cue_by UnavailableResource command = NickRefused
+cue_by Other command = other_cue command
+
+abbrev pub numeric_cue : List ℕ → Cue
+numeric_cue command = cue_by (numeric_of command) command
 
 -- a welcome and a change of the bot's own nick give it the nick that is the first parameter
 abbrev pub nick_by : Cue → Message → Option (List ℕ)
@@ -51,6 +61,7 @@ nick_by Kicked message = None
 nick_by Barred message = None
 nick_by NickRefused message = None
 nick_by Refused message = None
+nick_by Supports message = None
 nick_by Nothing message = None
 
 abbrev pub cue_of : Message → List ℕ → Cue

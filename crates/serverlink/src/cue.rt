@@ -1,8 +1,8 @@
 // What a message means for a bot's registration and its channels.
-ghost use Rattle.std.specs.Prelude.{◌≡◌, None, Some, MatchOption};
-ghost use Rattle.serverlink.specs.Cues.{cue_of, is_by, is_numeric_fault, is_to, new_nick, numeric_cue, param};
+ghost use Rattle.std.specs.Prelude.{◌≡◌};
+ghost use Rattle.serverlink.specs.Cues.{cue_of, is_by, is_numeric_fault, is_to, numeric_cue, other_cue, param};
 
-use ircline::{Line, Message, Source, source};
+use ircline::{Message, Numeric, Source, numeric_of, source};
 use rfccase::same;
 
 /// What a message means for a bot with a given nick.
@@ -24,6 +24,8 @@ pub enum Cue {
     NickRefused,
     /// The server rejects something else, or ends the connection (another number from 400 to 599, ERROR).
     Refused,
+    /// The server says what it supports (005).
+    Supports,
     /// Nothing.
     Nothing,
 }
@@ -48,33 +50,26 @@ pub fn cue_of(message: &Message, own: &[u8]) -> Cue
     }
 }
 
-/// Returns the nick that the bot has after `line`, if the line gives it one. Its nick before the line is `own`.
-/// Allocates nothing.
-pub fn new_nick<'a>(line: &'a Line, own: &[u8]) -> Option<&'a [u8]>
-    ensures { MatchOption result (new_nick line.now own.now ≡ None) (λ nick. new_nick line.now own.now ≡ Some nick.now) }
-{
-    match line {
-        Line::Message(message) => match cue_of(message, own) {
-            Cue::Welcomed | Cue::Renamed => Some(param(message, 0)),
-            Cue::Joined
-            | Cue::Parted
-            | Cue::Kicked
-            | Cue::Barred
-            | Cue::NickRefused
-            | Cue::Refused
-            | Cue::Nothing => None,
-        },
-        Line::Bad(_) => None,
-    }
-}
-
 // What a numeric command means.
 fn numeric_cue(command: &[u8]) -> Cue
     ensures { result ≡ numeric_cue command.now }
 {
+    match numeric_of(command) {
+        Numeric::Welcome => Cue::Welcomed,
+        Numeric::ErroneousNickname | Numeric::NickCollision | Numeric::UnavailableResource => {
+            Cue::NickRefused
+        }
+        Numeric::NicknameInUse => Cue::Refused,
+        Numeric::Other => other_cue(command),
+    }
+}
+
+// What a command means that is no answer to a registration.
+fn other_cue(command: &[u8]) -> Cue
+    ensures { result ≡ other_cue command.now }
+{
     match command {
-        b"001" => Cue::Welcomed,
-        b"432" | b"436" | b"437" => Cue::NickRefused,
+        b"005" => Cue::Supports,
         b"471" | b"473" | b"474" | b"475" => Cue::Barred,
         _ => {
             if is_numeric_fault(command) {

@@ -157,7 +157,7 @@ impl IrcConnection {
         let mut session = Session::new(alloc, dialled.socket, now);
         if let Some(pass) = &server.pass {
             let line = joined(alloc, b"PASS :", pass.as_bytes())?;
-            session.tell(line.as_slice(), now)?;
+            session.wire.tell(line.as_slice(), now)?;
         }
         self.session = Some(session);
         Ok(())
@@ -170,7 +170,7 @@ impl IrcConnection {
     {
         if let Some(session) = &mut self.session {
             if tokens.contains(&TOKEN) {
-                session.wire.connection.wake();
+                session.wire.connection.is_ready = true;
             }
         }
     }
@@ -223,10 +223,10 @@ impl IrcConnection {
         ensures err { OnErr result (talk_in self.new.session ≡ talk_in self.old.session) }
         ensures memory { OnErr result (self.old.session ≢ None) }
     {
-        let Some(session) = &mut self.session else {
+        let Some(Session { wire, .. }) = &mut self.session else {
             return Ok(());
         };
-        session.tell(line, now)?;
+        wire.tell(line, now)?;
         if settings.log_lines {
             log(rt, now, &Entry::Plain(Fact::Told, line));
         }

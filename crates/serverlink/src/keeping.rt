@@ -109,7 +109,7 @@ impl IrcConnection {
         let (Some(session), Some(line)) = (&mut self.session, self.own.next()) else {
             return Ok(());
         };
-        session.tell(line.as_bytes(), now)?;
+        session.wire.tell(line.as_bytes(), now)?;
         if settings.log_lines {
             log(rt, now, &Entry::ToldOwn);
         }

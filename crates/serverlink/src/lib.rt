@@ -12,7 +12,7 @@
 //! let connected = irc.connect(rt, watch.registry(), settings, now)?;
 //! irc.read(now)?;
 //! let bytes = irc.take_heard(alloc);
-//! irc.look(rt, settings, &line, logged, nick, now)?;    // each line of them, after the bot's step
+//! irc.look(rt, settings, &line, logged, nick, now)?;    // each line of them, after the bot's step; a new nick or None
 //! irc.tell(rt, settings, b"PRIVMSG #chan :hi", now)?;   // each line of the bot's
 //! irc.keep(rt, settings, now)?;
 //! irc.send();
@@ -38,7 +38,7 @@
 //! - [`cue_of`]: what a message means for the bot's registration and its channels.
 //! - [`Seat`]: a channel of the bot's configuration, and when the bot rejoins it.
 //! - [`other_nick`]: the nick to try next when a server rejects the bot's own.
-//! - [`is_line`]: whether a server may be sent a line. [`is_base_due`]: when to rewrite a journal.
+//! - [`is_base_due`]: when to rewrite a journal.
 //!
 //! ```text
 //! let mut vigil = Vigil::new(1_000);
@@ -70,9 +70,9 @@ mod vigil;
 mod why;
 
 pub use crate::configured_channels::ConfiguredChannels;
-pub use crate::cue::{Cue, cue_of, new_nick, param};
+pub use crate::cue::{Cue, cue_of, param};
 pub use crate::irc_connection::IrcConnection;
-pub use crate::line::{A_BASE, MAX_LINE, is_base_due, is_line};
+pub use crate::line::{A_BASE, MAX_LINE, is_base_due};
 pub use crate::nicks::{SHORT_NICK, other_nick};
 pub use crate::own_lines::OwnLines;
 pub use crate::pace::{AHEAD, COST, Pace};

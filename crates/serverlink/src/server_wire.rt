@@ -4,7 +4,8 @@ ghost use Rattle.net.specs.Connections.{new_talk};
 ghost use Rattle.serverlink.specs.Lines.{is_line};
 ghost use Rattle.serverlink.specs.Talks.{told};
 
-use crate::line::is_line;
+use crate::line::MAX_LINE;
+use crate::pace::Pace;
 use bytetext::NoMemory;
 use net::{Bounds, Connection};
 use std::alloc::Global;
@@ -20,17 +21,22 @@ const BOUNDS: Bounds = Bounds {
 };
 
 /// A connection to a server. It sends only lines of 1 to 510 bytes without NUL, CR and LF, each followed by CR and LF;
-/// what the stream has taken is a prefix of them. At most 65,536 bytes wait on either side. Contracts see it as a
-/// `Rattle.net.specs.Connections.Talk`.
+/// what the stream has taken is a prefix of them. At most 65,536 bytes wait on either side. It counts its lines as the
+/// server does. Contracts see it as a `Rattle.net.specs.Connections.Talk`.
 pub struct ServerWire<S: Stream + Drop> {
     // Only `tell` tells it anything.
     pub(crate) connection: Connection<S>,
+    // The server's timer, which each line that `tell` queues advances.
+    pub(crate) pace: Pace,
 }
 
 // Written by hand, so that the drop is proved once.
 impl<S: Stream + Drop> Drop for ServerWire<S> {
     fn drop(self) {
-        let ServerWire { connection: _ } = self;
+        let ServerWire {
+            connection: _,
+            pace: _,
+        } = self;
     }
 }
 
@@ -58,23 +64,30 @@ impl<S: Stream + Drop> ServerWire<S> {
     {
         ServerWire {
             connection: Connection::new(alloc, stream, BOUNDS),
+            pace: Pace::new(),
         }
     }
 
-    /// Queues `line` for the server, after the lines before it. Ignores bytes that are not a line. If the line does
-    /// not fit, the connection is over.
+    /// Queues `line` for the server, after the lines before it, and counts it as sent at second `now`. Ignores bytes
+    /// that are not a line. If the line does not fit, the connection is over.
     ///
     /// # Errors
     /// `NoMemory` if an allocation fails: never for bytes that are not a line. Nothing is queued then.
-    pub fn tell(&mut self, line: &[u8]) -> Result<(), NoMemory>
+    pub fn tell(&mut self, line: &[u8], now: u64) -> Result<(), NoMemory>
         ensures told { OnOk result (self.new ≡ told line.now self.old) }
         ensures err { OnErr result (self.new ≡ self.old) }
         ensures memory { OnErr result (is_line line.now ≡ true) }
     {
-        if !is_line(line) {
+        if line.is_empty()
+            || line.len() > MAX_LINE
+            || line
+                .iter()
+                .any(|byte| *byte == 0 || *byte == b'\n' || *byte == b'\r')
+        {
             return Ok(());
         }
         let _fits = self.connection.tell(line, b"\r\n")?;
+        self.pace.count(now);
         Ok(())
     }
 }

@@ -1,11 +1,8 @@
 // One connection to a server.
-ghost use Rattle.std.specs.Prelude.{◌≡◌, length, OnOk, OnErr};
-ghost use Rattle.serverlink.specs.Talks.{told};
+ghost use Rattle.std.specs.Prelude.{◌≡◌, length};
 
-use crate::pace::Pace;
 use crate::server_wire::ServerWire;
 use crate::vigil::{Care, Vigil};
-use bytetext::NoMemory;
 use net::TcpSocket;
 use std::alloc::Global;
 
@@ -13,7 +10,6 @@ use std::alloc::Global;
 pub struct Session {
     pub(crate) wire: ServerWire<TcpSocket>,
     pub(crate) vigil: Vigil,
-    pace: Pace,
     /// Whether the server has welcomed the bot (001).
     pub is_welcomed: bool,
     // How many other nicks the bot has asked for.
@@ -26,7 +22,6 @@ impl Drop for Session {
         let Session {
             wire: _,
             vigil: _,
-            pace: _,
             is_welcomed: _,
             tried: _,
         } = self;
@@ -39,25 +34,14 @@ impl Session {
         Session {
             wire: ServerWire::new(alloc, socket),
             vigil: Vigil::new(now),
-            pace: Pace::new(),
             is_welcomed: false,
             tried: 0,
         }
     }
 
-    // Queues `line` for the server, and counts it as sent at second `now`. Ignores bytes that are not a line.
-    pub(crate) fn tell(&mut self, line: &[u8], now: u64) -> Result<(), NoMemory>
-        ensures told { OnOk result (self.new.wire ≡ told line.now self.old.wire) }
-        ensures err { OnErr result (self.new.wire ≡ self.old.wire) }
-    {
-        self.wire.tell(line)?;
-        self.pace.count(now);
-        Ok(())
-    }
-
     // Whether the process may send a line of its own at second `now`.
     pub(crate) fn may_tell(&self, now: u64) -> bool {
-        self.is_welcomed && self.pace.may(now)
+        self.is_welcomed && self.wire.pace.may(now)
     }
 
     // Returns what to do about the connection at second `now`. Returns `Ask` once for each silence.

@@ -6,6 +6,7 @@ pub mod Goodness
 pub mod KeptReplies
 pub mod HubStates
 pub mod EndStates
+pub mod WritingLaws
 pub mod KeptLaws
 pub mod AnewLaws
 pub mod Sending

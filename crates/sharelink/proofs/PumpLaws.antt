@@ -1,19 +1,22 @@
 -- How a pump stands to its row: what is out goes again, and then the oldest ask.
-use Rattle.std.proofs.Common.{◌≡◌, ◌<◌, ◌≤◌, ◌+◌, ℕ, suc, true, List, [], ◌∷◌, ◌++◌, length, drop, slice_index_or, if◌then◌else◌, Some, Ok, inl, refl, sym, ap, subst, ◌∙◌, arith}
+use Rattle.std.proofs.Common.{◌≡◌, ◌<◌, ◌≤◌, ◌+◌, ℕ, suc, Bool, true, false, List, [], ◌∷◌, ◌++◌, length, drop, slice_index_or, if◌then◌else◌, Some, Result, Ok, inl, refl, sym, ap, subst, ◌∙◌, arith}
+use Rattle.bytetext.specs.declared.failure.Failure.{Failure}
 use Rattle.userfile.specs.declared.change.Change.{Change}
 use Rattle.botjournal.specs.declared.request.Request.{Request}
 use Rattle.protocol.specs.Notes.Note.{Sent}
 use Rattle.protocol.specs.Packets.{Outgoing as Going}
 use Rattle.protocol.specs.Packets.Packet.{Request as request_to}
-use Rattle.protocol.specs.Bots.{How, Works, Row, journals}
+use Rattle.protocol.specs.Notes.LinkFault.{Down}
+use Rattle.protocol.specs.Bots.{How, Works, Row, refused, journals}
 use Rattle.protocol.specs.LeafRules.{Leaf, LeafLoose, Out, may_go_out, with_request, leaf_folded, hello, asking, sent_again, held_back, leaf_pumped_up}
 use Rattle.protocol.specs.Journals.{leaf_meaning}
 use Rattle.sharelink.specs.declared.answer.Answer.{Answer}
 use Rattle.sharelink.specs.declared.answer.Outgoing.{Outgoing}
+use Rattle.sharelink.specs.declared.error.LinkFault.{LinkFault}
 use Rattle.sharelink.specs.Calls.{note_of, outgoings_of}
 use Rattle.sharelink.specs.Shapes.{AreGood}
 use Rattle.sharelink.specs.Kept.{Journals, LeavesOwn}
-use Rattle.sharelink.specs.LeafLinks.{LeafEnd, KeptLeaf, Calls, leaf_end, pumped_up, sent_again_at, hello_packet, request_packet, request_packets, again_note}
+use Rattle.sharelink.specs.LeafLinks.{LeafEnd, KeptLeaf, Calls, leaf_end, pumped, pumped_up, sent_again_at, hello_packet, request_packet, request_packets, again_note}
 use Rattle.sharelink.proofs.LeafLinkLaws.{meets-kept}
 
 -- ---- requests as packets
@@ -116,6 +119,13 @@ module _ (leaves : ℕ) (old new : KeptLeaf) (before : LeafLoose) (change : Chan
       meets-kept leaves old new before (pumped_up end) (Out change) (Sent (old.state.last + 1)) sends left moments row-is answer kept notes
       (ap outgoings_of sent
       ∙ ap (λ (l : List Going). hello leaves old.who Works end.bot ∷ l) (sym (asking-is leaves old.who Works end.bot next)))
+
+-- the row of a leaf that is up
+pub pumped-if-up : (end new : LeafEnd) (result : Result Answer (Failure LinkFault)) → end.bot.down ≡ false → Calls end (pumped_up end) result new
+    → Calls end (pumped end) result new
+pumped-if-up end new result up meets =
+    subst (λ (down : Bool). Calls end (λ how. if down then refused Down end.bot
+    else leaf_pumped_up end.leaves end.number how end.bot end.bot.kept.out end.bot.loose.waiting) result new) (sym up) meets
 
 -- the packets of what is out, and of the oldest ask
 packets-next : (leaf version number : ℕ) (change : Change) (out : List Request) (front packets : List Outgoing) (last : Outgoing)

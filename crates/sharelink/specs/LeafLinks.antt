@@ -80,9 +80,6 @@ module _ (leaf : LeafEnd) where
   abbrev pub received : Packet → How → Row Leaf
   received packet how = leaf_received leaf.leaves leaf.number how leaf.bot (from_wire packet)
 
-  abbrev pub received_up : Packet → How → Row Leaf
-  received_up packet how = leaf_received_up leaf.leaves leaf.number how leaf.bot (from_wire packet)
-
   -- the row of a change
   abbrev pub change_placed_at : ℕ → Change → How → Row Leaf
   change_placed_at number change how =

@@ -1,8 +1,8 @@
 // The packets that a hub sends.
-ghost use Rattle.std.specs.Prelude.{◌≡◌, ◌+◌, ◌-◌, ◌*◌, ◌/◌, ◌<◌, ◌≤◌, ◌^◌, ◌++◌, nat_lt, take, drop, IfOk, OnOk, OnErr, length};
+ghost use Rattle.std.specs.Prelude.{◌≡◌, ◌+◌, ◌-◌, ◌*◌, ◌/◌, ◌<◌, ◌≤◌, ◌^◌, nat_lt, take, drop, IfOk, OnErr, length};
 ghost use Rattle.std.specs.List.{AllByRecursion};
 ghost use Rattle.usercodec.specs.Records.{IsGoodRecord};
-ghost use Rattle.protocol.specs.Packets.{from_wire, answer_packet, change_packet, numbered_from, to_each};
+ghost use Rattle.protocol.specs.Packets.{from_wire, answer_packet, change_packet, numbered_from};
 ghost use Rattle.protocol.specs.HubRules.{version_of, changes_from, all_parts};
 ghost use Rattle.protocol.specs.Snapshots.{items_of, part_count};
 ghost use Rattle.sharelink.specs.Calls.{outgoing_of, outgoings_of};
@@ -50,7 +50,13 @@ pub(crate) fn accepted_packets(
     ensures { IfOk result (λ packets. outgoings_of packets.items ≡ told_accepted leaves number entry.now) }
 {
     let mut packets = told_before(alloc, entry.origin(), entry.request(), number)?;
-    put_to_each(alloc, &mut packets, leaves, number, entry)?;
+    for place in 0..leaves {
+        let packet = numbered_packet(alloc, number, entry)?;
+        packets.push(Outgoing {
+            to: place + 1,
+            packet,
+        })?;
+    }
     Ok(packets)
 }
 
@@ -67,27 +73,6 @@ fn told_before(
         return Ok(Vec::new(alloc));
     }
     Ok(vec![in alloc; reply_packet(origin, request, Verdict::Taken(number))]?)
-}
-
-// Appends the accepted change of this number, for each leaf in order, to the packets that go first.
-fn put_to_each(
-    alloc: Global,
-    packets: &mut Vec<Outgoing>,
-    leaves: u16,
-    number: u32,
-    entry: &AcceptedChange,
-) -> Result<(), NoMemory>
-    ensures { OnOk result (outgoings_of packets.new.items
-        ≡ outgoings_of packets.old.items ++ to_each 1 leaves (change_packet number entry.now)) }
-{
-    for place in 0..leaves {
-        let packet = numbered_packet(alloc, number, entry)?;
-        packets.push(Outgoing {
-            to: place + 1,
-            packet,
-        })?;
-    }
-    Ok(())
 }
 
 // Returns the packet of the accepted change of this number.

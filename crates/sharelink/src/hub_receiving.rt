@@ -18,7 +18,6 @@ impl<D: Disk> HubLink<D> {
     ghost use Rattle.std.specs.Prelude.{◌≡◌, ◌+◌, ◌||◌, true, false, nat_lt};
     ghost use Rattle.protocol.specs.Packets.{from_wire};
     ghost use Rattle.protocol.specs.Packets.Packet.{Hello as hello_packet, Request as request_packet, BotText as text_packet};
-    ghost use Rattle.userfile.specs.Apply.{refusal};
     ghost use Rattle.protocol.specs.Numbers.{item_at};
     ghost use Rattle.protocol.specs.HubRules.{version_of, is_no_leaf, hello_met, hub_received, hub_received_up, repeats, next_request};
     ghost use Rattle.protocol.specs.Journals.{is_next_of};
@@ -36,14 +35,6 @@ impl<D: Disk> HubLink<D> {
         if self.kept.is_down() {
             return Err(Failure::Refused(LinkFault::Down));
         }
-        self.receive_up(alloc, packet)
-    }
-
-    fn receive_up(&mut self, alloc: Global, packet: &Packet) -> Result<Answer, LinkError>
-        requires up { self.old.bot.down ≡ false }
-        ensures row { Calls self.old (λ how. hub_received_up self.old.leaves how self.old.bot (from_wire packet.now)) result self.new }
-        ensures packets { GoOut (MAX_LEAVES + 1) result }
-    {
         match packet {
             Packet::Hello {
                 layout,
@@ -160,7 +151,10 @@ impl<D: Disk> HubLink<D> {
         if request - last > 1 {
             return Ok(Answer::only(alloc, LinkNote::Gap));
         }
-        self.receive_next(alloc, leaf, request, change)
+        match self.kept.state().userfile().refusal_of(change) {
+            Some(fault) => self.refuse_request(alloc, leaf, request, fault),
+            None => accept(alloc, &mut self.kept, leaf, request, change),
+        }
     }
 
     // Answers a request that was replied to before: with that reply, if it is still kept.
@@ -182,26 +176,6 @@ impl<D: Disk> HubLink<D> {
             note: LinkNote::Repeat,
             packets: Seq::new(vec![in alloc; reply]?),
         })
-    }
-
-    // Takes a leaf's next request.
-    fn receive_next(
-        &mut self,
-        alloc: Global,
-        leaf: u16,
-        request: u32,
-        change: &Change,
-    ) -> Result<Answer, LinkError>
-        requires up { self.old.bot.down ≡ false }
-        requires next { is_next_of (item_at self.old.bot.kept.replies leaf) request ≡ true }
-        ensures row { Calls self.old (λ how. next_request self.old.leaves how self.old.bot leaf request change.now
-            (refusal self.old.bot.kept.records change.now)) result self.new }
-        ensures packets { GoOut (MAX_LEAVES + 1) result }
-    {
-        match self.kept.state().userfile().refusal_of(change) {
-            Some(fault) => self.refuse_request(alloc, leaf, request, fault),
-            None => accept(alloc, &mut self.kept, leaf, request, change),
-        }
     }
 
     // Rejects a leaf's next request.

@@ -5,9 +5,10 @@ ghost use Rattle.protocol.specs.Numbers.{last_number};
 ghost use Rattle.protocol.specs.Journals.{is_next};
 
 use crate::accepted::AcceptedChange;
-use crate::journaled::{base_journaled, entry_journaled};
+use crate::fields::know_change;
+use crate::journaled::{base_journaled, change_journaled};
 use crate::leaf_replies::LeafReplies;
-use crate::next_change::{accepted_entry, apply_next, keep_next};
+use crate::next_change::apply_next;
 use crate::records::{items_of, userfile_of};
 use crate::replies::{
     is_next, is_next_of, know_replies, put_reply, replies_at, replies_in, replies_of,
@@ -292,19 +293,19 @@ impl HubState {
         ensures accepts { OnOk result (self.new ≡ hub_folded self.old (Accept entry)) }
         ensures stays { OnErr result (self.new ≡ self.old) }
     {
-        let record = accepted_entry(alloc, &entry)?;
+        know_change(entry.change());
         let number = self.version() + 1;
         let origin = entry.origin();
         let request = entry.request();
-        match keep_next(
-            alloc,
-            &mut self.userfile,
-            &mut self.tail,
-            ledger,
-            &record,
-            entry,
-        ) {
+        let record = Entry::Accepted {
+            origin,
+            request,
+            change: entry.change().copy(alloc)?,
+        };
+        self.tail.reserve(1)?;
+        match change_journaled(alloc, &mut self.userfile, ledger, entry.change(), &record) {
             Ok(()) => {
+                self.tail.push_reserved(entry);
                 put_reply(&mut self.replies, origin, request, Verdict::Taken(number));
                 Ok(())
             }
@@ -334,7 +335,7 @@ impl HubState {
             request,
             fault,
         };
-        match entry_journaled(alloc, ledger, &entry) {
+        match ledger.append(alloc, &entry) {
             Ok(()) => {
                 put_reply(&mut self.replies, leaf, request, Verdict::Refused(fault));
                 Ok(())

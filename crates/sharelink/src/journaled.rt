@@ -13,25 +13,6 @@ use disks::{Disk, DiskFault};
 use std::alloc::Global;
 use userfile::{Change, Userfile};
 
-// Appends an entry.
-pub(crate) fn entry_journaled<D: Disk>(
-    alloc: Global,
-    ledger: &mut Ledger<D>,
-    entry: &Entry,
-) -> Result<(), LedgerError>
-    requires up { ledger.old.account.down ≡ false }
-    requires current { ledger.old.account.contents.layout ≡ LAYOUT }
-    requires good { IsGoodEntry entry.now }
-    ensures row { WritesAny ledger.old (Adding entry.now) result ledger.new }
-    ensures any_moment { LeavesWritten (Adding entry.now) ledger.old ledger.new }
-{
-    match ledger.append(alloc, entry) {
-        Ok(()) => Ok(()),
-        Err(Failure::NoMemory) => Err(Failure::NoMemory),
-        Err(Failure::Refused(fault)) => Err(Failure::Refused(fault)),
-    }
-}
-
 // Replaces the base, if there are generations left.
 pub(crate) fn base_journaled<D: Disk>(
     alloc: Global,
@@ -54,6 +35,7 @@ pub(crate) fn base_journaled<D: Disk>(
 
 // Appends the entry of a change that the userfile doesn't refuse, and then applies the change. It allocates everything
 // before the first device call; if a disk failed, or memory ran out, the userfile is as it was.
+#[tactic(auto, using(crate::proofs::WritingLaws::appended_written))]
 pub(crate) fn change_journaled<D: Disk>(
     alloc: Global,
     userfile: &mut Userfile,
@@ -74,7 +56,7 @@ pub(crate) fn change_journaled<D: Disk>(
         Ok(update) => update,
         Err(_) => return Err(Failure::NoMemory),
     };
-    match entry_journaled(alloc, ledger, entry) {
+    match ledger.append(alloc, entry) {
         Ok(()) => {
             update.commit();
             Ok(())

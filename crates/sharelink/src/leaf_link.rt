@@ -57,20 +57,20 @@ impl<D: Disk> Model for LeafLink<D> {
 }
 
 impl<D: Disk> LeafLink<D> {
-    ghost use Rattle.std.specs.Prelude.{◌≡◌, ◌≢◌, ◌<◌, ◌≤◌, ◌+◌, [], length, Err, IfOk, OnErr, true, false};
+    ghost use Rattle.std.specs.Prelude.{◌≡◌, ◌≢◌, ◌<◌, ◌≤◌, ◌+◌, [], length, Err, IfOk, OnErr};
     ghost use Rattle.bytetext.specs.declared.failure.Failure.TheVariants.{NoMemory as no_memory};
     ghost use Rattle.disks.specs.State.{IsSettled};
     ghost use Rattle.botjournal.specs.declared.TheConstants.{WINDOW};
     ghost use Rattle.sharelink.specs.declared.TheConstants.{MAX_LEAVES};
     ghost use Rattle.protocol.specs.Journals.{leaf_meaning};
-    ghost use Rattle.protocol.specs.LeafRules.{no_loose, may_go_out, leaf_folded};
+    ghost use Rattle.protocol.specs.LeafRules.{no_loose, leaf_folded};
     ghost use Rattle.protocol.specs.Network.{new_leaf};
     ghost use Rattle.botjournal.specs.Ledger.{AreStill};
     ghost use Rattle.sharelink.specs.Kept.{MayLeave};
     ghost use Rattle.sharelink.specs.StateOpening.{AreCurrent};
     ghost use Rattle.sharelink.specs.StateEnds.{Creates, Opens, OpensAtEachMoment};
     ghost use Rattle.sharelink.specs.Shapes.{GoOut};
-    ghost use Rattle.sharelink.specs.LeafLinks.{Calls, CallsRestart, RenewsLeaf, asked, keeps_asks, pumped, pumped_up, sent_again_at, compacted, restarted, told};
+    ghost use Rattle.sharelink.specs.LeafLinks.{Calls, CallsRestart, RenewsLeaf, asked, keeps_asks, pumped, sent_again_at, compacted, restarted, told};
     ghost use Rattle.sharelink.specs.Texts.{Sends};
 
     // See `BotLink::create`: the leaf `number`, from 1.
@@ -209,22 +209,12 @@ impl<D: Disk> LeafLink<D> {
         if self.kept.is_down() {
             return Err(Failure::Refused(LinkFault::Down));
         }
-        if self.kept.state().may_go_out() {
-            return self.pump_ask(alloc);
+        if !self.kept.state().may_go_out() {
+            if !self.waiting.is_empty() && self.kept.state().out().is_empty() {
+                return Err(Failure::Refused(LinkFault::NumbersSpent));
+            }
+            return self.send_again(alloc);
         }
-        if !self.waiting.is_empty() && self.kept.state().out().is_empty() {
-            return Err(Failure::Refused(LinkFault::NumbersSpent));
-        }
-        self.send_again(alloc)
-    }
-
-    // Sends the oldest ask, after the outstanding requests.
-    fn pump_ask(&mut self, alloc: Global) -> Result<Answer, LinkError>
-        requires up { self.old.bot.down ≡ false }
-        requires may { may_go_out self.old.bot.kept.last self.old.bot.kept.out ≡ true }
-        ensures row { Calls self.old (pumped_up self.old) result self.new }
-        ensures few { GoOut (WINDOW + 1) result }
-    {
         let Some(change) = self.waiting.front() else {
             return self.send_again(alloc);
         };

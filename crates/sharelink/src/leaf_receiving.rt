@@ -24,7 +24,7 @@ impl<D: Disk> LeafLink<D> {
     ghost use Rattle.usercodec.specs.Records.{IsGoodRecord};
     ghost use Rattle.sharelink.specs.Shapes.{HasGoodRecords};
     ghost use Rattle.sharelink.specs.LeafLinks.{Calls};
-    ghost use Rattle.sharelink.specs.LeafLinks.{received, received_up, change_placed_at, reply_placed_at, part_placed_at, part_taken_at, text_placed_at};
+    ghost use Rattle.sharelink.specs.LeafLinks.{received, change_placed_at, reply_placed_at, part_placed_at, part_taken_at, text_placed_at};
 
     // See `BotLink::receive`. `Diverged` drops the kept parts; the other errors but `JournalFault` leave the leaf as it
     // was. `Old`, `Early` and `Stray` allocate nothing.
@@ -36,15 +36,6 @@ impl<D: Disk> LeafLink<D> {
         if self.kept.is_down() {
             return Err(Failure::Refused(LinkFault::Down));
         }
-        self.receive_up(alloc, packet)
-    }
-
-    fn receive_up(&mut self, alloc: Global, packet: &Packet) -> Result<Answer, LinkError>
-        requires up { self.old.bot.down ≡ false }
-        requires records { HasGoodRecords packet.now }
-        ensures row { Calls self.old (received_up self.old packet.now) result self.new }
-        ensures few { IfOk result (λ answer. answer.packets ≡ []) }
-    {
         match packet {
             Packet::Change { number, change, .. } => self.receive_change(alloc, *number, change),
             Packet::Accepted {

@@ -1,6 +1,6 @@
 // What a leaf keeps.
 use crate::fields::know_change;
-use crate::journaled::{base_journaled, change_journaled, entry_journaled};
+use crate::journaled::{base_journaled, change_journaled};
 use crate::records::{items_of, userfile_of};
 use crate::requests::{has_room, is_out, remove_request};
 use crate::state_fault::{StateError, StateFault};
@@ -325,7 +325,7 @@ impl LeafState {
             request: number,
             change: change.copy(alloc)?,
         };
-        match entry_journaled(alloc, ledger, &entry) {
+        match ledger.append(alloc, &entry) {
             Ok(()) => {
                 self.last = number;
                 self.out.push_reserved(Request { number, change });
@@ -350,7 +350,7 @@ impl LeafState {
         ensures stays { OnErr result (self.new ≡ self.old) }
     {
         let entry = Entry::ReqDone { request };
-        match entry_journaled(alloc, ledger, &entry) {
+        match ledger.append(alloc, &entry) {
             Ok(()) => {
                 remove_request(&mut self.out, request);
                 Ok(())

@@ -70,7 +70,7 @@ fn meet(seen: &mut Seen, watch: &mut Watch, door: &TcpDoor, caller: TcpSocket) -
     );
     drop(caller);
     seen.note(
-        "the caller is let go",
+        "the caller is disconnected",
         given(heard(watch, &mut guest, &mut piece)?),
     );
     Ok(())

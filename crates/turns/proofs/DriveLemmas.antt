@@ -3,7 +3,7 @@ use Rattle.std.proofs.Common.{◌≡◌, ◌++◌, ℕ, ◌+◌, ◌<◌, ◌≤
 use Rattle.streams.specs.State.{Source, Sink}
 use Rattle.streams.specs.Transfers.{Reads}
 use Rattle.streams.proofs.ReadLemmas.{Reads-none, Reads-more, ReadsUntil-end, ReadsUntil-stall, ReadsUntil-fault}
-use Rattle.procstore.specs.Promises.{Promised}
+use Rattle.procs.specs.Promises.{Promised}
 use Rattle.sharelink.specs.declared.answer.Outgoing.{Outgoing}
 use Rattle.botcore.specs.Bots.{Bot}
 use Rattle.botcore.specs.declared.event.BotEvent.TheVariants.{Clock}

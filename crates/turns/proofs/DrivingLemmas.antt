@@ -3,7 +3,7 @@ use Rattle.std.proofs.Common.{◌≡◌, ◌≢◌, ◌∙◌, ◌++◌, ℕ, �
 use Rattle.std.proofs.lemmas.List.{take_more, map-append}
 use Rattle.ircline.specs.declared.line.Line.{Line as ReadLine}
 use Rattle.ircline.specs.Stream.{lines_of, held_of}
-use Rattle.procstore.specs.Promises.{Promised}
+use Rattle.procs.specs.Promises.{Promised}
 use Rattle.sharelink.specs.declared.answer.Outgoing.{Outgoing}
 use Rattle.botcore.specs.declared.event.BotEvent.{BotEvent}
 use Rattle.botcore.specs.declared.event.BotEvent.TheVariants.{Line}

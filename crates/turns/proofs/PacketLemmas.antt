@@ -1,7 +1,7 @@
 -- What a drive has to send has records of good shape: lines and readings send nothing but texts.
 use Rattle.std.proofs.Common.{◌≡◌, ◌++◌, ℕ, List, [], ◌∷◌, refl, sym, ap, subst, ◌∙◌}
 use Rattle.ircline.specs.declared.line.Line.{Line as ReadLine}
-use Rattle.procstore.specs.Promises.{Promised}
+use Rattle.procs.specs.Promises.{Promised}
 use Rattle.sharelink.specs.declared.answer.Outgoing.{Outgoing}
 use Rattle.sharelink.specs.Shapes.{AreGood}
 use Rattle.botcore.specs.declared.event.BotEvent.{BotEvent}

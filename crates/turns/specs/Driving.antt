@@ -7,7 +7,7 @@ use Rattle.streams.specs.Calls.{Gives}
 use Rattle.streams.specs.Transfers.{Reads, ReadsUntil, WritesOut, WritesFront}
 use Rattle.ircline.specs.declared.line.Line.{Line as ReadLine}
 use Rattle.ircline.specs.Stream.{lines_of, held_of}
-use Rattle.procstore.specs.Promises.{Promised}
+use Rattle.procs.specs.Promises.{Promised}
 use Rattle.sharelink.specs.declared.answer.Outgoing.{Outgoing}
 use Rattle.turns.specs.declared.driving.DriveEnd.{DriveEnd}
 use Rattle.turns.specs.declared.driving.DriveEnd.TheVariants.{Done, Read, Write, NoMemory}

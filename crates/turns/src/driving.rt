@@ -13,7 +13,7 @@ use botcore::Bot;
 use bytetext::{NoMemory, Seq};
 use disks::Disk;
 use ircline::LineReader;
-use procstore::{ProcStore, Promise, Run};
+use procs::{ProcStore, Promise, Run};
 use sharelink::Outgoings;
 use std::alloc::Global;
 use streams::{Stream, WriteFault};

@@ -9,7 +9,7 @@ use botcore::Bot;
 use bytetext::NoMemory;
 use disks::Disk;
 use ircline::LineReader;
-use procstore::{ProcStore, Promise, Run};
+use procs::{ProcStore, Promise, Run};
 use std::alloc::Global;
 use streams::{Given, Stream};
 

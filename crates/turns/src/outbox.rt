@@ -12,7 +12,7 @@ use botcore::{Bot, End, Report};
 use bytetext::{NoMemory, Texts};
 use disks::Disk;
 use ircline::Line;
-use procstore::{ProcStore, Promise, Run};
+use procs::{ProcStore, Promise, Run};
 use sharelink::{MAX_TEXTS, Outgoing, Outgoings};
 use std::alloc::Global;
 

@@ -1,7 +1,7 @@
 // What a step reports besides what it has to send.
-use botcalls::MadeCalls;
 use botcore::{Faults, Note};
 use bytetext::Seq;
+use procs::MadeCalls;
 
 /// What a step reports besides what it has to send.
 pub struct DriveOutcome {

@@ -2,16 +2,15 @@
 ghost use Rattle.std.specs.Prelude.{◌≡◌, ◌≢◌, ◌<◌, ◌++◌, ◌∷◌, [], OnOk, OnErr, vec_len, vec_capacity};
 ghost use Rattle.std.specs.List.{AllByRecursion};
 ghost use Rattle.sharelink.specs.Shapes.{HasGoodRecords};
-ghost use Rattle.botcore.specs.declared.event.BotEvent.TheVariants.{Line as line_event};
 ghost use Rattle.botcore.specs.declared.report.End.TheVariants.{NoMemory as ends_no_memory};
-ghost use Rattle.turns.specs.Turns.{Turns, IsTold, IsTurnEvent, IsNoLine, StepsTo, StepsFirstTo, Stops, AllGood};
+ghost use Rattle.turns.specs.Turns.{Turns, IsTold, IsTurnEvent, Stops, AllGood};
 
 use crate::events::events_of;
 use botcore::{Bot, BotEvent, End, Report};
 use bytetext::{NoMemory, Seq};
 use disks::Disk;
 use ircline::{Line, LineReader};
-use procstore::{ProcStore, Promise, Run};
+use procs::{ProcStore, Promise, Run};
 use sharewire::Packet;
 use std::alloc::Global;
 use userfile::Change;
@@ -100,13 +99,17 @@ pub fn take_turn<P: Promise, D: Disk, B: Run>(
     ensures good { AllGood result.reports }
 {
     let mut stepped = Stepped::new(alloc);
-    match events_of(alloc, lines, heard) {
-        Ok(events) => match step_all(alloc, bot, store, events, &mut stepped) {
-            Ok(()) => stepped.into_told(TurnEnd::Done),
-            Err(NoMemory) => stepped.into_told(TurnEnd::NoMemory),
-        },
-        Err(NoMemory) => stepped.into_told(TurnEnd::NoMemory),
+    let events = match events_of(alloc, lines, heard) {
+        Ok(events) => events,
+        Err(NoMemory) => return stepped.into_told(TurnEnd::NoMemory),
+    };
+    for event in events {
+        match step_one(alloc, bot, store, event, &mut stepped) {
+            Ok(()) => {}
+            Err(NoMemory) => return stepped.into_told(TurnEnd::NoMemory),
+        }
     }
+    stepped.into_told(TurnEnd::Done)
 }
 
 // The lines and the reports of the steps so far.
@@ -170,29 +173,6 @@ impl Stepped {
     }
 }
 
-// Makes a step of each event, in order. Out of memory, only the first of them are made.
-fn step_all<P: Promise, D: Disk, B: Run>(
-    alloc: Global,
-    bot: &mut Bot<D>,
-    store: &ProcStore<P, B>,
-    events: Vec<BotEvent>,
-    stepped: &mut Stepped,
-) -> Result<(), NoMemory>
-    requires no_lines { stepped.old.lines.items ≡ [] }
-    requires none { stepped.old.reports.items ≡ [] }
-    requires good { AllByRecursion IsTurnEvent events.items }
-    ensures ok { OnOk result (StepsTo P.promised store.now bot.old events.items
-        stepped.new.lines.items stepped.new.reports.items bot.new) }
-    ensures err { OnErr result (StepsFirstTo P.promised store.now bot.old events.items
-        stepped.new.lines.items stepped.new.reports.items bot.new) }
-    ensures good { AllGood stepped.new.reports.items }
-{
-    for event in events {
-        step_one(alloc, bot, store, event, stepped)?;
-    }
-    Ok(())
-}
-
 // Makes a step, and keeps its report, and its line if it has one. Out of memory, it keeps nothing, and the bot is as
 // it was, since no step is a restart.
 fn step_one<P: Promise, D: Disk, B: Run>(
@@ -209,8 +189,17 @@ fn step_one<P: Promise, D: Disk, B: Run>(
     ensures lines { OnErr result (stepped.new.lines.items ≡ stepped.old.lines.items) }
     ensures reports { OnErr result (stepped.new.reports.items ≡ stepped.old.reports.items) }
 {
+    stepped.reports.reserve(1)?;
     match event {
-        BotEvent::Line(line) => step_line(alloc, bot, store, line, stepped),
+        // The bot borrows the line, which is kept with its report.
+        BotEvent::Line(line) => {
+            stepped.lines.reserve(1)?;
+            let report = bot.take_line(alloc, store, &line);
+            let logged = report.logged;
+            stepped.put(report)?;
+            stepped.lines.push_reserved(HeardLine { line, logged });
+            Ok(())
+        }
         BotEvent::Connect
         | BotEvent::Ask(_)
         | BotEvent::Pump
@@ -219,51 +208,9 @@ fn step_one<P: Promise, D: Disk, B: Run>(
         | BotEvent::Bind(_)
         | BotEvent::Unbind(_)
         | BotEvent::Compact
-        | BotEvent::Restart => step_other(alloc, bot, store, event, stepped),
+        | BotEvent::Restart => {
+            let report = bot.step(alloc, store, event);
+            stepped.put(report)
+        }
     }
-}
-
-// Makes the step of a line, which the bot borrows, and keeps the line with its report.
-fn step_line<P: Promise, D: Disk, B: Run>(
-    alloc: Global,
-    bot: &mut Bot<D>,
-    store: &ProcStore<P, B>,
-    line: Line,
-    stepped: &mut Stepped,
-) -> Result<(), NoMemory>
-    ensures ok { OnOk result (IsTold P.promised store.now bot.old (line_event line)
-        stepped.old.lines.items stepped.new.lines.items
-        stepped.old.reports.items stepped.new.reports.items bot.new) }
-    ensures stops { OnErr result (Stops P.promised store.now bot.old (line_event line) bot.new) }
-    ensures lines { OnErr result (stepped.new.lines.items ≡ stepped.old.lines.items) }
-    ensures reports { OnErr result (stepped.new.reports.items ≡ stepped.old.reports.items) }
-{
-    stepped.lines.reserve(1)?;
-    stepped.reports.reserve(1)?;
-    let report = bot.take_line(alloc, store, &line);
-    let logged = report.logged;
-    stepped.put(report)?;
-    stepped.lines.push_reserved(HeardLine { line, logged });
-    Ok(())
-}
-
-// Makes the step of an event that is not a line, and keeps its report.
-fn step_other<P: Promise, D: Disk, B: Run>(
-    alloc: Global,
-    bot: &mut Bot<D>,
-    store: &ProcStore<P, B>,
-    event: BotEvent,
-    stepped: &mut Stepped,
-) -> Result<(), NoMemory>
-    requires good { IsTurnEvent event }
-    requires other { IsNoLine event }
-    ensures ok { OnOk result (IsTold P.promised store.now bot.old event stepped.old.lines.items stepped.new.lines.items
-        stepped.old.reports.items stepped.new.reports.items bot.new) }
-    ensures stops { OnErr result (Stops P.promised store.now bot.old event bot.new) }
-    ensures lines { OnErr result (stepped.new.lines.items ≡ stepped.old.lines.items) }
-    ensures reports { OnErr result (stepped.new.reports.items ≡ stepped.old.reports.items) }
-{
-    stepped.reports.reserve(1)?;
-    let report = bot.step(alloc, store, event);
-    stepped.put(report)
 }

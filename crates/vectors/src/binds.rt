@@ -1,9 +1,9 @@
 // Which binds an event calls.
-use bindtable::{BindError, BindEvent, BindKind, BindTable};
 use bottimers::{CivilMinute, Zone, civil};
 use bytetext::Text;
 use caselines::{BAD_WORDS, CaseError, Sink, cut, number};
 use flagexpr::Flags;
+use procs::{BindError, BindEvent, BindKind, BindTable};
 use std::alloc::Global;
 
 /// Answers `binds STEP..` on `out`: what each step answers, with ` ; ` between. A step is one word.

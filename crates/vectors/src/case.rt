@@ -30,6 +30,7 @@ enum Asked {
     Line,
     Literals,
     Mask,
+    Numeric,
     OldChange,
     OldRecord,
     Person,
@@ -49,7 +50,7 @@ enum Asked {
     Zone,
 }
 
-const ASKED: [(&[u8], Asked); 36] = [
+const ASKED: [(&[u8], Asked); 37] = [
     (b"ban", Asked::Ban),
     (b"binds", Asked::Binds),
     (b"chan", Asked::Chan),
@@ -69,6 +70,7 @@ const ASKED: [(&[u8], Asked); 36] = [
     (b"line", Asked::Line),
     (b"literals", Asked::Literals),
     (b"mask", Asked::Mask),
+    (b"numeric", Asked::Numeric),
     (b"oldchange", Asked::OldChange),
     (b"oldrecord", Asked::OldRecord),
     (b"person", Asked::Person),
@@ -125,6 +127,7 @@ fn answer_to(asked: Asked, alloc: Global, words: &[Text], out: &mut Sink) -> Res
         Asked::Line => lines::line(alloc, words, out),
         Asked::Literals => masks::literals(alloc, words, out),
         Asked::Mask => masks::mask(alloc, words, out),
+        Asked::Numeric => lines::numeric(words, out),
         Asked::OldChange => spellings::old_change(alloc, words, out),
         Asked::OldRecord => spellings::old_record(alloc, words, out),
         Asked::Person => persons::person(alloc, words, out),

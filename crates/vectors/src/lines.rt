@@ -1,7 +1,7 @@
 // Lines of IRC.
 use bytetext::{NoMemory, Text, Texts, TryCopy, copies_of};
 use caselines::{BAD_WORDS, CaseError, Sink, line_shown};
-use ircline::{Line, LineReader, Message, Person, PrintError, Source};
+use ircline::{Line, LineReader, Message, Numeric, Person, PrintError, Source};
 use std::alloc::Global;
 
 /// Answers `line TEXT` on `out`: what the line reads as: `'PREFIX' COMMAND 'PARAM'.. rest 'REST'`, or the code of its
@@ -81,6 +81,23 @@ pub fn prefix(words: &[Text], out: &mut Sink) -> Result<(), CaseError> {
             out.quoted(host);
         }
     }
+    Ok(())
+}
+
+/// Answers `numeric COMMAND` on `out`: the name of the numeric in RFC 2812, or `other`.
+pub fn numeric(words: &[Text], out: &mut Sink) -> Result<(), CaseError> {
+    let [command] = words else {
+        return Err(BAD_WORDS);
+    };
+    let name = match ircline::numeric_of(command.as_bytes()) {
+        Numeric::Welcome => b"RPL_WELCOME".as_slice(),
+        Numeric::ErroneousNickname => b"ERR_ERRONEUSNICKNAME",
+        Numeric::NicknameInUse => b"ERR_NICKNAMEINUSE",
+        Numeric::NickCollision => b"ERR_NICKCOLLISION",
+        Numeric::UnavailableResource => b"ERR_UNAVAILRESOURCE",
+        Numeric::Other => b"other",
+    };
+    out.put(name);
     Ok(())
 }
 

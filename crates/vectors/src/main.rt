@@ -31,6 +31,7 @@
 //! | `feed PIECE..` | the lines that end in each piece of a stream, and last the one that its end ends, or `none` |
 //! | `print PREFIX COMMAND PARAM..` | the line, or the code of why there is none |
 //! | `prefix TEXT` | whom the prefix names |
+//! | `numeric COMMAND` | the numeric's name in RFC 2812, or `other` |
 //! | `person WHO CHANGE..` | WHO's handle, `*` for nobody |
 //! | `userflags HANDLE CHANNEL CHANGE..` | the user's flags everywhere, on the channel and as a bot, `-` for none |
 //! | `ban CHANNEL WHO MOMENT CHANGE..` | channel (`*` for all) and mask of the ban that keeps WHO off, or `no ban` |

@@ -2,6 +2,8 @@ use Rattle.std.proofs.Common.{◌≡◌, ◌≢◌, ℕ, Bool, true, false, List
 use Rattle.std.specs.Prelude.{codes, if◌then◌else◌, unwrap_or}
 use Rattle.std.specs.List.{flat_map}
 use Rattle.ircline.specs.declared.message.Message.{Message}
+use Rattle.ircline.specs.declared.numeric.Numeric.{Numeric}
+use Rattle.ircline.specs.declared.numeric.Numeric.TheVariants.{Welcome, ErroneousNickname, NicknameInUse, NickCollision, UnavailableResource, Other}
 use Rattle.ircline.specs.Sources.{source_of}
 use Rattle.userfile.specs.declared.ban.Ban.{Ban}
 use Rattle.chanstate.specs.declared.state.ChanState.{ChanState}
@@ -13,23 +15,25 @@ use Rattle.chanstate.proofs.FindLemmas.{pointwise-same}
 use Rattle.botcore.specs.declared.config.Config.{Config}
 use Rattle.botcore.specs.declared.watched_command.WatchedCommand.{WatchedCommand}
 use Rattle.botcore.specs.declared.watched_command.WatchedCommand.TheVariants as cue
-use Rattle.botcore.specs.Automatic.{cue_of, watched, barred, lines_by}
+use Rattle.botcore.specs.Automatic.{cue_of, numeric_cue, watched, barred, lines_by}
 use Rattle.botcore.proofs.JoiningLemmas.{watched-after}
 use Rattle.botcore.proofs.automatic_laws.laws_of_automatic_lines.Goals as goal
 
 -- the command whose cue is JOIN
-second_of : (a b c d e : Bool)
-    → (if a then cue.Ping else (if b then cue.Join else (if c then cue.Mode else (if d then cue.RplWelcome else (if e then cue.ErrNicknameInUse else cue.Other)))))
-    ≡ cue.Join → b ≡ true
-second_of true b c d e is = cc
-second_of false true c d e is = refl
-second_of false false true d e is = cc
-second_of false false false true e is = cc
-second_of false false false false true is = cc
-second_of false false false false false is = cc
+second_of : (a b c : Bool) (n : Numeric)
+    → (if a then cue.Ping else (if b then cue.Join else (if c then cue.Mode else numeric_cue n))) ≡ cue.Join → b ≡ true
+second_of true b c n is = cc
+second_of false true c n is = refl
+second_of false false true n is = cc
+second_of false false false Welcome is = cc
+second_of false false false ErroneousNickname is = cc
+second_of false false false NicknameInUse is = cc
+second_of false false false NickCollision is = cc
+second_of false false false UnavailableResource is = cc
+second_of false false false Other is = cc
 
 join_verb : (command : List ℕ) → cue_of command ≡ cue.Join → verb_of command ≡ verb.Join
-join_verb command is = ap verb_of (pointwise-same command (codes "JOIN") (second_of _ _ _ _ _ is))
+join_verb command is = ap verb_of (pointwise-same command (codes "JOIN") (second_of _ _ _ _ is))
 
 alike : (c : WatchedCommand) (config : Config) (s : ChanState) (bans : List Ban) (last : Option ℕ) (welcomed : Bool) (message : Message)
     → cue_of message.command ≡ c → c ≢ cue.Mode

@@ -1,5 +1,5 @@
 use Rattle.std.proofs.Common.{arith}
-use Rattle.procstore.specs.declared.limits.TheConstants.{MAX_ACTIONS}
+use Rattle.procs.specs.declared.limits.TheConstants.{MAX_ACTIONS}
 use Rattle.eggprocs.specs.Everyone.{mode_for}
 use Rattle.eggprocs.proofs.EveryoneLemmas.{first-given-more}
 use Rattle.eggprocs.proofs.everyone.modes_for.Goals as goal

@@ -1,6 +1,6 @@
 use Rattle.std.proofs.Common.{◌≡◌, take}
 use Rattle.std.specs.List.{filter_map}
-use Rattle.procstore.specs.declared.limits.TheConstants.{MAX_ACTIONS}
+use Rattle.procs.specs.declared.limits.TheConstants.{MAX_ACTIONS}
 use Rattle.eggprocs.specs.Everyone.{mode_for}
 use Rattle.eggprocs.proofs.everyone.modes_for.Given as goal
 

@@ -2,7 +2,8 @@ use Rattle.protocol.specs.History.{start}
 use Rattle.processes.proofs.Running.{stands_at_version, run_goes, first_stands, run_same_records, run_never_back, stands_once}
 use Rattle.processes.proofs.Calling.{run_same_calls, run_same_calls_ignoring_channels}
 use Rattle.processes.proofs.Dying.{step_dies}
-use Rattle.processes.proofs.Going.{made_told}
+use Rattle.processes.proofs.Going.{deed_goes}
+use Rattle.processes.proofs.Turning.{steps_are_deeds}
 use Rattle.processes.proofs.laws.laws_of_processes.Goals as goal
 
 pub returns-clause-begins : goal.returns-clause-begins
@@ -23,7 +24,7 @@ returns-clause-never_back g c = λ count w first more is run. run_never_back g.P
     w first more is run
 
 pub returns-clause-grows_as_told : goal.returns-clause-grows_as_told
-returns-clause-grows_as_told g c = λ w h bot step st m. made_told w h st g.P.Promise.promised bot step m
+returns-clause-grows_as_told g c = λ w h deed st happens. deed_goes w h st g.P.Promise.promised deed happens
 
 pub returns-clause-once : goal.returns-clause-once
 returns-clause-once g c =
@@ -40,6 +41,10 @@ pub returns-clause-same_calls_ignoring_channels : goal.returns-clause-same_calls
 returns-clause-same_calls_ignoring_channels g c =
     λ ignores count w deeds is run i j one other s t a b. run_same_calls_ignoring_channels g.P.Promise.promised count w deeds is
     run ignores i j one other s t a b
+
+pub returns-clause-turned : goal.returns-clause-turned
+returns-clause-turned g c = λ w bot names old new events reports at told steps.
+    steps_are_deeds g.P.Promise.promised w bot names old new events reports at told steps
 
 pub returns-clause-stopped : goal.returns-clause-stopped
 returns-clause-stopped g c = λ first second link leaves x y left right. (leaves x y left right).mean

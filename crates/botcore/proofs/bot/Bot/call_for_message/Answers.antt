@@ -1,7 +1,7 @@
 use Rattle.std.proofs.Common.{sym, ap, ◌∙◌}
 use Rattle.chanstate.specs.Events.{events_of}
-use Rattle.bindtable.specs.Hearing.{hear_messages}
-use Rattle.botcalls.proofs.UnheardLemmas.{made-silent}
+use Rattle.procs.specs.Hearing.{hear_messages}
+use Rattle.procs.proofs.UnheardLemmas.{made-silent}
 use Rattle.botcore.specs.Bots.{Bot, bot_seen, bot_setting}
 use Rattle.botcore.proofs.bot.Bot.call_for_message.Goals as goal
 

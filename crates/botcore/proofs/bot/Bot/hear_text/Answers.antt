@@ -1,6 +1,6 @@
 use Rattle.std.proofs.Common.{refl, Some}
 use Rattle.botcore.specs.Bots.{bot_setting}
-use Rattle.botcalls.specs.Dispatching.{told_of}
+use Rattle.procs.specs.Dispatching.{told_of}
 use Rattle.botcore.specs.Happenings.{Saying}
 use Rattle.botcore.specs.Lines.{finish_text}
 use Rattle.botcore.specs.Steps.{said_occasions, text_note}

@@ -1,4 +1,0 @@
-pub mod HeardLemmas
-pub mod MakingLemmas
-pub mod NextLemmas
-pub mod UnheardLemmas

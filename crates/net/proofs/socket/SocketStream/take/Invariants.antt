@@ -1,0 +1,6 @@
+use Rattle.std.proofs.Common.{◌≡◌}
+use Rattle.net.proofs.socket.SocketStream.take.Given as goal
+
+-- the interruptions so far are no answers
+abbrev pub invariant-loop-turn : goal.invariant-loop-turn
+invariant-loop-turn g l = l.self.account.past ≡ l.fn.self.account.past

@@ -1,0 +1,15 @@
+pub mod StoreLemmas
+pub mod WordLemmas
+pub mod MaskLemmas
+pub mod OnceLemmas
+pub mod KindLemmas
+pub mod ApartLemmas
+pub mod IndexLemmas
+pub mod SoundLemmas
+pub mod TableLemmas
+pub mod BehindLemmas
+pub mod CandidateLemmas
+pub mod HeardLemmas
+pub mod MakingLemmas
+pub mod NextLemmas
+pub mod UnheardLemmas

@@ -1,0 +1,145 @@
+// Looks people up.
+//
+// The events of one line are all by one person, who is looked up once: pubm and pub of a channel message, or a sign
+// for each channel of a person who quits.
+ghost use Rattle.std.specs.Prelude.{◌≡◌, [], IfOk};
+ghost use Rattle.procs.specs.Heard.{text_at, who_of};
+
+use crate::heard::is_personal;
+use bytetext::{NoMemory, Text};
+use chanstate::IrcEvent;
+use flagexpr::Flags;
+use std::alloc::Global;
+use std::marker::Model;
+use userfile::{PersonFlags, Userfile};
+
+// The person behind an event, as far as the userfile knows.
+#[derive(Clone, Copy)]
+pub(crate) struct Person<'a> {
+    // Empty if the event is by nobody.
+    pub(crate) handle: &'a [u8],
+    pub(crate) flags: PersonFlags,
+}
+
+// The users of a scene, and the person who was looked up last. Contracts see the users.
+#[derive(Drop)]
+pub(crate) struct People<'a> {
+    userfile: &'a Userfile,
+    last: Option<Known<'a>>,
+}
+
+// A person, written as `nick!user@host`, and the person's handle.
+#[derive(Drop)]
+struct Known<'a> {
+    who: Text,
+    handle: &'a [u8],
+}
+
+impl<'a> Model for People<'a> {
+    ghost use Rattle.std.specs.Prelude.{◌≡◌, List, IfSome};
+    ghost use Rattle.userfile.specs.declared.user.User.{User};
+    ghost use Rattle.userfile.specs.Persons.{handle_of};
+
+    ghost Value = { List User };
+
+    ghost view = { λ p. p.userfile.now.users };
+
+    ghost invariant = { λ p. IfSome p.last (λ known. known.handle.now ≡ handle_of p.userfile.now.users known.who) };
+}
+
+impl<'a> People<'a> {
+    ghost use Rattle.std.specs.Prelude.{◌≡◌, true, IfOk, OnErr};
+    ghost use Rattle.std.specs.Option.{option_copied};
+    ghost use Rattle.procs.specs.Heard.{is_personal, flags_on, person_of};
+
+    // Starts with these users and nobody looked up. Does not allocate.
+    pub(crate) fn new(userfile: &'a Userfile) -> People<'a>
+        ensures { result ≡ userfile.now.users }
+    {
+        People {
+            userfile,
+            last: None,
+        }
+    }
+
+    // Returns the person behind an event.
+    pub(crate) fn person_of(
+        &mut self,
+        alloc: Global,
+        event: &IrcEvent,
+    ) -> Result<Person<'a>, NoMemory>
+        ensures handle { IfOk result (λ person. person.handle.now ≡ (person_of self.old event.now).handle) }
+        ensures flags { IfOk result (λ person. person.flags ≡ (person_of self.old event.now).flags) }
+        ensures users { self.new ≡ self.old }
+        ensures memory { OnErr result (is_personal event.now.kind ≡ true) }
+    {
+        if !is_personal(event.kind) {
+            return Ok(nobody());
+        }
+        let who = who_of(alloc, event.arguments.as_slice())?;
+        let channel = event.channel.as_ref().map(|name| name.as_bytes());
+        match &self.last {
+            Some(known) if known.who.is_same(who.as_bytes()) => {
+                let handle = known.handle;
+                let flags = self.flags_on(handle, channel);
+                Ok(Person { handle, flags })
+            }
+            Some(_) | None => {
+                let handle = self.userfile.handle_of(who.as_bytes());
+                self.last = Some(Known { who, handle });
+                let flags = self.flags_on(handle, channel);
+                Ok(Person { handle, flags })
+            }
+        }
+    }
+
+    // Returns the flags of a handle for an event on this channel, or on none.
+    fn flags_on(&self, handle: &[u8], channel: Option<&[u8]>) -> PersonFlags
+        ensures { result ≡ flags_on self.now handle.now (option_copied channel.entry) }
+    {
+        match channel {
+            Some(channel) => self.userfile.flags_of(handle, channel),
+            None => {
+                let flags = self.userfile.flags_of(handle, b"");
+                PersonFlags {
+                    global: flags.global,
+                    chan: Flags::empty(),
+                    bot: flags.bot,
+                }
+            }
+        }
+    }
+}
+
+// Returns nobody.
+fn nobody<'a>() -> Person<'a>
+    ensures handle { result.handle.now ≡ [] }
+    ensures flags { result.flags ≡ record { global = 0; chan = 0; bot = 0 } }
+{
+    let flags = PersonFlags {
+        global: Flags::empty(),
+        chan: Flags::empty(),
+        bot: Flags::empty(),
+    };
+    Person { handle: b"", flags }
+}
+
+// Returns a text of a list, or the empty text if there is none.
+fn text_at(texts: &[Text], place: usize) -> &[u8]
+    ensures { result.now ≡ text_at texts.now place }
+{
+    match texts.get(place) {
+        Some(text) => text.as_bytes(),
+        None => b"",
+    }
+}
+
+// Returns the person in these arguments, as hostmasks match one.
+fn who_of(alloc: Global, arguments: &[Text]) -> Result<Text, NoMemory>
+    ensures { IfOk result (λ who. who ≡ who_of arguments.now) }
+{
+    let mut who = Vec::from_slice(alloc, text_at(arguments, 0))?;
+    who.push(b'!')?;
+    who.extend_from_slice(text_at(arguments, 1))?;
+    Ok(Text::new(who))
+}

@@ -1,6 +1,0 @@
-pub mod Actions
-pub mod Calling
-pub mod Faults
-pub mod Named
-pub mod Promises
-pub mod Seen
