@@ -4,6 +4,7 @@ pub mod AutomaticLemmas
 pub mod Calendar
 pub mod CallingLemmas
 pub mod GoodLemmas
+pub mod GreetingLemmas
 pub mod JoiningLemmas
 pub mod LineLemmas
 pub mod MomentLemmas

@@ -14,5 +14,6 @@ pub mod Putting
 pub mod Quiet
 pub mod Reports
 pub mod Rising
+pub mod ServerLines
 pub mod Shown
 pub mod Steps

@@ -59,7 +59,7 @@ pub record Due : Type 0 where
   pub after : Bot
 
 -- connected: on no channel, under the nick of the configuration, and of all lines for the server only the greeting
--- waits
+-- waits; the bot does not allocate
 abbrev pub connect_due : Bot → Due
 connect_due old = record {
   report = record (done None) { faults = put_faults idle (greeting old.config) };
@@ -250,7 +250,7 @@ IsGoodEvent Restart = Unit {0}
 -- one step with a store of these names, from old to new
 abbrev pub TakesStep : Promised → List (List ℕ)
     → Bot → BotEvent → Report → Bot → Type 0
-TakesStep promised names old Connect report new = Gives report.end (Unit {0}) old (connect_due old) report new
+TakesStep promised names old Connect report new = Gives report.end ⊥ old (connect_due old) report new
 TakesStep promised names old (Line (a_message message)) report new = TakesMessage promised names old message report new
 TakesStep promised names old (Line (a_bad_line fault)) report new = (report ≡ done (Some (Bad fault))) × (new ≡ old)
 TakesStep promised names old (Ask change) report new = GivesAsk old change report new

@@ -1,10 +1,10 @@
 // One bot.
 use crate::config::Config;
 use crate::presence::Presence;
+use crate::server_lines::ServerLines;
 use bottimers::{Clock, Timers};
 use bytejournal::Disks;
 use disks::Disk;
-use outqueue::Queues;
 use procs::BindTable;
 use sharelink::BotLink;
 use std::marker::Model;
@@ -19,7 +19,7 @@ pub struct Bot<D: Disk> {
     pub(crate) channels: Presence,
     pub(crate) clock: Clock,
     pub(crate) timers: Timers,
-    pub(crate) queues: Queues,
+    pub(crate) queues: ServerLines,
     // Whether a 001 was taken in since the bot last connected.
     pub(crate) welcomed: bool,
 }
@@ -52,19 +52,24 @@ impl<D: Disk> Model for Bot<D> {
       channels = b.channels.current;
       clock = b.clock;
       timers = b.timers;
-      queues = b.queues;
+      queues = b.queues.current;
       welcomed = b.welcomed;
     } };
 
     ghost use Rattle.botcore.specs.Rising.{IsReached};
-    ghost use Rattle.std.specs.Prelude.{◌≡◌};
-    ghost use Rattle.outqueue.specs.Sending.{no_room};
+    ghost use Rattle.std.specs.Prelude.{◌≡◌, []};
+    ghost use Rattle.outqueue.specs.Sending.{no_room, idle};
     ghost use Rattle.chanstate.specs.Views.{connected};
+    ghost use Rattle.botcore.specs.Automatic.{greeting};
+    ghost use Rattle.botcore.specs.Putting.{put_faults};
+    ghost use Rattle.botcore.specs.ServerLines.{greeting_lines};
 
-    // The timers have seen no second that the clock has not, no room is reserved for further lines, and the state to
-    // which the bot returns when it leaves all channels has the nick of its configuration.
-    ghost invariant = { λ b. IsReached b.timers.last b.clock × (b.queues.room ≡ no_room)
-        × (b.channels.first ≡ connected b.config.nick) };
+    // The timers have seen no second that the clock has not, and no room is reserved for further lines. The state to
+    // which the bot returns when it leaves all channels has the nick of its configuration, and so has the greeting that
+    // it queues when it connects. No line of the greeting is refused.
+    ghost invariant = { λ b. IsReached b.timers.last b.clock × (b.queues.current.room ≡ no_room)
+        × (b.channels.first ≡ connected b.config.nick) × (b.queues.greeting ≡ greeting_lines b.config)
+        × (put_faults idle (greeting b.config) ≡ []) };
 }
 
 impl<D: Disk> Bot<D> {

@@ -10,13 +10,11 @@ use crate::report::Faults;
 use bottimers::Timers;
 use bytetext::{NoMemory, Seq, Texts, TryCopy};
 use disks::Disk;
-use outqueue::Queues;
 use procs::{
     Dispatch, MadeCall, ProcStore, Promise, Run, Scene, Trigger, Unbound, View, call_procs,
 };
 use sharelink::Outgoings;
 use std::alloc::Global;
-use std::mem;
 
 // What actions leave, besides the link and the queues.
 #[derive(Drop)]
@@ -101,10 +99,10 @@ impl<D: Disk> Bot<D> {
             });
         }
         let timers = self.timers.copy(alloc)?;
-        let queues = mem::replace(&mut self.queues, Queues::new(alloc));
+        let queues = self.queues.take(alloc)?;
         let mut doing = Doing::new(alloc, timers, self.clock.last(), queues, faults);
         let done = doing.act_for(alloc, &mut self.link, calls);
-        self.queues = doing.queues;
+        self.queues.set(doing.queues);
         done?;
         Ok(Left {
             timers: Some(doing.timers),

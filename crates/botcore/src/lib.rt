@@ -44,6 +44,7 @@ mod quiet;
 mod reading;
 mod report;
 mod running;
+mod server_lines;
 mod step;
 mod sticky;
 mod watched_command;

@@ -121,7 +121,7 @@ impl<D: Disk> Bot<D> {
             packets,
             mut faults,
         } = self.carry_out(alloc, calls, unbound)?;
-        self.put_own(wishes, &mut faults)?;
+        self.put_own(alloc, wishes, &mut faults)?;
         self.take_in(alloc, message)?;
         self.put_timers(timers);
         let lines = Seq::empty(alloc);
@@ -162,17 +162,24 @@ impl<D: Disk> Bot<D> {
     }
 
     // Queues lines of the bot's own, and appends the refusals to the faults.
-    fn put_own(&mut self, wishes: Vec<PutWish>, faults: &mut Faults) -> Result<(), NoMemory>
+    fn put_own(
+        &mut self,
+        alloc: Global,
+        wishes: Vec<PutWish>,
+        faults: &mut Faults,
+    ) -> Result<(), NoMemory>
         ensures queues { OnOk result (self.new ≡ record self.old { queues = put_all self.old.queues wishes.items }) }
         ensures faults { OnOk result (faults.new ≡ faults.old ++ put_faults self.old.queues wishes.items) }
         ensures kept { HasMore self.old self.new }
         ensures needs_none { wishes.items ≡ [] → IsOk result }
     {
         if wishes.is_empty() {
-            Ok(())
-        } else {
-            put_all(&mut self.queues, faults, wishes)
+            return Ok(());
         }
+        let mut queues = self.queues.take(alloc)?;
+        let put = put_all(&mut queues, faults, wishes);
+        self.queues.set(queues);
+        put
     }
 
     // Applies a message to the channel state.

@@ -3,16 +3,17 @@ ghost use Rattle.std.specs.Prelude.{◌≡◌, IfOk, IfErr};
 ghost use Rattle.botcore.specs.Configs.{IsGood};
 ghost use Rattle.botcore.specs.Making.{IsWhyNot};
 ghost use Rattle.botcore.specs.Presence.{absent};
+ghost use Rattle.botcore.specs.ServerLines.{silent};
 
 use crate::bot::Bot;
 use crate::config::Config;
 use crate::fault::{BotError, of_journal};
 use crate::presence::Presence;
+use crate::server_lines::ServerLines;
 use bottimers::{Clock, Timers};
 use bytejournal::Disks;
 use bytetext::{Failure, NoMemory};
 use disks::Disk;
-use outqueue::Queues;
 use procs::BindTable;
 use sharelink::BotLink;
 use std::alloc::Global;
@@ -35,6 +36,7 @@ impl<D: Disk> Bot<D> {
     ghost use Rattle.botcore.specs.Configs.{IsGood};
     ghost use Rattle.botcore.specs.Making.{Makes, Finds, FindsAtEachMoment};
     ghost use Rattle.botcore.specs.Presence.{absent};
+    ghost use Rattle.botcore.specs.ServerLines.{silent};
 
     /// Makes a bot with this `config` at version 0, without binds and on no channel, with a new journal on the disks
     /// `first` and `second`. What the disks held is lost.
@@ -52,8 +54,8 @@ impl<D: Disk> Bot<D> {
         requires second_settled { IsSettled (D.state second) }
         ensures made { Makes D.state config first second result }
     {
-        let channels = match ready(alloc, &config) {
-            Ok(channels) => channels,
+        let beginning = match ready(alloc, &config) {
+            Ok(beginning) => beginning,
             Err(error) => {
                 return Err(UnopenedBot {
                     error,
@@ -62,7 +64,7 @@ impl<D: Disk> Bot<D> {
             }
         };
         match BotLink::create(alloc, first, second, config.number, config.leaves) {
-            Ok(link) => Ok(Bot::over(alloc, config, channels, link)),
+            Ok(link) => Ok(Bot::over(alloc, config, beginning, link)),
             Err(returned) => Err(UnopenedBot {
                 error: of_journal(returned.error),
                 disks: returned.disks,
@@ -94,8 +96,8 @@ impl<D: Disk> Bot<D> {
         // At each moment of the call a crash leaves what the disks meant, or the same in the present layout.
         ensures any_moment { FindsAtEachMoment D.state config first second result }
     {
-        let channels = match ready(alloc, &config) {
-            Ok(channels) => channels,
+        let beginning = match ready(alloc, &config) {
+            Ok(beginning) => beginning,
             Err(error) => {
                 return Err(UnopenedBot {
                     error,
@@ -104,7 +106,7 @@ impl<D: Disk> Bot<D> {
             }
         };
         match BotLink::open(alloc, first, second, config.number, config.leaves) {
-            Ok(link) => Ok(Bot::over(alloc, config, channels, link)),
+            Ok(link) => Ok(Bot::over(alloc, config, beginning, link)),
             Err(returned) => Err(UnopenedBot {
                 error: of_journal(returned.error),
                 disks: returned.disks,
@@ -113,9 +115,11 @@ impl<D: Disk> Bot<D> {
     }
 
     // Creates a bot as it begins over this end of the link. Does not allocate.
-    fn over(alloc: Global, config: Config, channels: Presence, link: BotLink<D>) -> Bot<D>
+    #[tactic(auto, using(crate::proofs::GreetingLemmas::greeting_put))]
+    fn over(alloc: Global, config: Config, beginning: Beginning, link: BotLink<D>) -> Bot<D>
         requires good { IsGood config }
-        requires absent { channels ≡ absent config.nick }
+        requires absent { beginning.channels ≡ absent config.nick }
+        requires silent { beginning.queues ≡ silent config }
         ensures { result ≡ begun config link }
     {
         let binds = BindTable::new(alloc);
@@ -123,26 +127,44 @@ impl<D: Disk> Bot<D> {
             config,
             link,
             binds,
-            channels,
+            channels: beginning.channels,
             clock: Clock::new(),
             timers: Timers::new(alloc),
-            queues: Queues::new(alloc),
+            queues: beginning.queues,
             welcomed: false,
         }
     }
 }
 
-// Returns the channels of a bot with this configuration, if the configuration is good.
-fn ready(alloc: Global, config: &Config) -> Result<Presence, BotError>
+// What a bot begins with besides its end of the link: all of it that must be allocated.
+#[derive(Drop)]
+struct Beginning {
+    channels: Presence,
+    queues: ServerLines,
+}
+
+// Returns what a bot with this configuration begins with, if the configuration is good.
+fn ready(alloc: Global, config: &Config) -> Result<Beginning, BotError>
     ensures good { IfOk result (λ _. IsGood config.now) }
-    ensures absent { IfOk result (λ channels. channels ≡ absent config.now.nick) }
+    ensures absent { IfOk result (λ beginning. beginning.channels ≡ absent config.now.nick) }
+    ensures silent { IfOk result (λ beginning. beginning.queues ≡ silent config.now) }
     ensures why { IfErr result (λ why. IsWhyNot config.now why) }
 {
     if let Some(fault) = config.refusal() {
         return Err(Failure::Refused(fault));
     }
-    match Presence::new(alloc, config.nick.as_bytes()) {
-        Ok(channels) => Ok(channels),
+    match begin(alloc, config) {
+        Ok(beginning) => Ok(beginning),
         Err(NoMemory) => Err(Failure::NoMemory),
     }
+}
+
+// Returns what a bot with this configuration begins with.
+fn begin(alloc: Global, config: &Config) -> Result<Beginning, NoMemory>
+    ensures absent { IfOk result (λ beginning. beginning.channels ≡ absent config.now.nick) }
+    ensures silent { IfOk result (λ beginning. beginning.queues ≡ silent config.now) }
+{
+    let channels = Presence::new(alloc, config.nick.as_bytes())?;
+    let queues = ServerLines::new(alloc, config)?;
+    Ok(Beginning { channels, queues })
 }

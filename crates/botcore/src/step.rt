@@ -1,11 +1,8 @@
 // One step of a bot.
-use crate::automatic::greeting;
 use crate::bot::Bot;
 use crate::event::{BotEvent, NewBind, OldBind};
-use crate::putting::put_all;
-use crate::report::{End, Faults, Report};
+use crate::report::{End, Report};
 use bottimers::{Clock, Timers};
-use bytetext::{NoMemory, Seq};
 use disks::Disk;
 use outqueue::Queues;
 use procs::{ProcStore, Promise, Run};
@@ -13,7 +10,7 @@ use sharelink::{Answer, Packet};
 use std::alloc::Global;
 
 impl<D: Disk> Bot<D> {
-    ghost use Rattle.std.specs.Prelude.{◌≡◌, ◌≢◌, ◌≤◌, ◌+◌, [], Some, None, Ok, length, IfOk, OnOk, OnErr};
+    ghost use Rattle.std.specs.Prelude.{◌≡◌, ◌≢◌, ◌≤◌, ◌+◌, [], Some, None, Ok, length};
     ghost use Rattle.botcore.specs.Happenings.{Saying, saying_in};
     ghost use Rattle.botcore.specs.Reports.{answer_report};
     ghost use Rattle.sharelink.specs.declared.TheConstants.{MAX_LEAVES};
@@ -46,8 +43,8 @@ impl<D: Disk> Bot<D> {
     /// The report ends with `NoMemory` if an allocation failed. The bot is then as it was, except after a restart, and
     /// the calls that were made are the first of those that were due. These events never end with `NoMemory`:
     ///
-    /// - a line that is not a message, an ask, an unbind, a reading that is refused or not above the last, and each
-    ///   call of the link that does not allocate;
+    /// - a connect, a line that is not a message, an ask, an unbind, a reading that is refused or not above the last,
+    ///   and each call of the link that does not allocate;
     /// - a message, once the bot has taken one in since it connected, if no bind waits for messages, nobody has joined
     ///   a channel on which the bot is op, the bot queues no line, and the channels get no new text or member;
     /// - a reading, if at its seconds no timer is due and no minute begins, and no line may go.
@@ -81,36 +78,15 @@ impl<D: Disk> Bot<D> {
         }
     }
 
-    // The bot has connected.
+    // The bot has connected: it is on no channel, not welcomed yet, and queues its greeting alone. Does not allocate.
     fn connect(&mut self, alloc: Global) -> Report
-        ensures takes { Gives result.end (Unit {0}) self.old (connect_due self.old) result self.new }
+        ensures takes { Gives result.end ⊥ self.old (connect_due self.old) result self.new }
         ensures few { result.packets ≡ [] }
     {
-        match self.begin_anew(alloc) {
-            Ok(faults) => {
-                let mut report = Report::done(alloc, None);
-                report.faults = faults;
-                report
-            }
-            Err(NoMemory) => Report::out_of_memory(alloc),
-        }
-    }
-
-    // Puts the bot on no channel, not welcomed yet, and with the greeting alone queued. Returns the refusals of its
-    // lines.
-    fn begin_anew(&mut self, alloc: Global) -> Result<Faults, NoMemory>
-        ensures faults { IfOk result (λ faults. faults ≡ (connect_due self.old).report.faults) }
-        ensures ok { OnOk result (self.new ≡ (connect_due self.old).after) }
-        ensures err { OnErr result (self.new ≡ self.old) }
-    {
-        let wishes = greeting(alloc, &self.config)?;
-        let mut queues = Queues::new(alloc);
-        let mut faults = Seq::empty(alloc);
-        put_all(&mut queues, &mut faults, wishes)?;
+        self.queues.greet();
         self.channels.leave_all();
-        self.queues = queues;
         self.welcomed = false;
-        Ok(faults)
+        Report::done(alloc, None)
     }
 
     // Opens the journal again, and then the bot begins again.
@@ -135,7 +111,7 @@ impl<D: Disk> Bot<D> {
         self.channels.leave_all();
         self.clock = Clock::new();
         self.timers = Timers::new(alloc);
-        self.queues = Queues::new(alloc);
+        self.queues.set(Queues::new(alloc));
         self.welcomed = false;
     }
 

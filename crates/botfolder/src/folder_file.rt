@@ -29,6 +29,8 @@ pub enum FolderFile {
     Net,
     /// `net.new`
     NewNet,
+    /// `room`
+    Room,
     /// `control`
     Control,
 }
@@ -44,6 +46,7 @@ impl FolderFile {
             FolderFile::NewSecond => "new/second",
             FolderFile::Net => "net",
             FolderFile::NewNet => "net.new",
+            FolderFile::Room => "room",
             FolderFile::Control => "control",
         }
     }

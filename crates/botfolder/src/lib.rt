@@ -6,6 +6,7 @@
 //!   journal/        first and second, the two disks of the bot's journal
 //!   new/            the same while they are made
 //!   net             the number of the bot's net: 16 digits and a line feed
+//!   room            zeros: the space that is set aside for the bot
 //!   control         a socket, at which the running bot takes commands
 //! ```
 //!
@@ -28,6 +29,9 @@
 //! // listen at folder.control()
 //! ```
 //!
+//! [`BotFolder::room`] returns a [`Room`], which finds out whether the disk has room for changes before one is written to
+//! the journal.
+//!
 //! The lock is released when the program ends, however it ends. [`read_stopped`] reads the journal of a bot that does
 //! not run, and leaves the folder unchanged. It locks the journal for a moment, so a start that finds a lock taken tries
 //! it again for two seconds. What has the name of a file and is a FIFO, a device or a folder is not opened.
@@ -41,6 +45,7 @@ mod folders;
 mod locking;
 mod net_file;
 mod paths;
+mod room;
 mod stopped;
 
 pub use crate::begun::Begun;
@@ -49,4 +54,5 @@ pub use crate::fault::{FolderError, FolderFault};
 pub use crate::folder_file::FolderFile;
 pub use crate::net_file::NET_DIGITS;
 pub use crate::paths::{MAX_PATH, control_of};
+pub use crate::room::{Room, SET_ASIDE};
 pub use crate::stopped::{Stopped, read_stopped};

@@ -4,6 +4,7 @@ pub mod Bases
 pub mod Ending
 pub mod Outcomes
 pub mod Passing
+pub mod Spaces
 pub mod Stations
 pub mod Sums
 pub mod Taking

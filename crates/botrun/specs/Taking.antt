@@ -1,6 +1,7 @@
 -- A turn of a bot, and what it says about changes.
-use Rattle.std.specs.Prelude.{◌≡◌, ℕ, zero, suc, Bool, false, not, List, [], Option}
+use Rattle.std.specs.Prelude.{◌≡◌, ℕ, zero, suc, Bool, true, false, not, List, [], Option}
 use Rattle.userfile.specs.declared.change.Change.{Change}
+use Rattle.sharewire.specs.declared.packet.Packet.{Packet}
 use Rattle.procs.specs.Promises.{Promised}
 use Rattle.botcore.specs.Bots.{Bot}
 use Rattle.turns.specs.declared.turn.Heard.{Heard}
@@ -61,14 +62,21 @@ pub record GoesOn (promised : Promised)
   pub count : ℕ
   pub turns : TakesQuietTurns count promised names old held new after
 
--- A turn takes exactly these bytes from the server, and the packets that are taken from these connections. The bot goes
--- on from that turn by turns in which nothing is heard.
-pub record Hears (promised : Promised) (names : List (List ℕ)) (old : Bot) (held bytes : List ℕ) (links : Links)
-    (new : Bot) (after : List ℕ) : Type 0 where
+-- with room for changes a turn takes all of these packets, and without none: they are dropped
+abbrev pub admitted : Bool → List Packet → List Packet
+admitted true packets = packets
+admitted false packets = []
+
+-- A turn takes exactly these bytes from the server, and the packets that are taken from these connections: none of them
+-- if there is no room. The bot goes on from that turn by turns in which nothing is heard.
+pub record Hears (promised : Promised) (names : List (List ℕ)) (old : Bot) (held bytes : List ℕ)
+    (has_room : Bool) (links : Links) (new : Bot) (after : List ℕ) : Type 0 where
   pub heard : Heard
   pub same : heard.bytes.items ≡ bytes
+  pub waiting : List Packet
   pub left : Links
-  pub packets : TakesPackets links heard.packets.items left
+  pub taken : TakesPackets links waiting left
+  pub packets : heard.packets.items ≡ admitted has_room waiting
   pub told : Told
   pub mid : Bot
   pub between : List ℕ

@@ -3,9 +3,10 @@ ghost use Rattle.std.specs.Prelude.{◌<◌, length, vec_len, IfSome};
 
 use crate::asks::Asks;
 use crate::entry::Entry;
+use crate::seconds::Seconds;
 use bytetext::NoMemory;
 use control::MAX_COMMAND;
-use net::{Bounds, Connection, DoorFault, Registry, UnixDoor, UnixSocket, Watch, log};
+use net::{Bounds, Connection, DoorFault, Log, Registry, UnixDoor, UnixSocket, Watch};
 use std::alloc::Global;
 use std::net::Net;
 use std::rt::Files;
@@ -42,7 +43,7 @@ struct Admin {
     is_last: bool,
     // The admin's number among all that have connected.
     number: u64,
-    // The second at which the admin last sent something, or connected.
+    // The second of the monotonic clock at which the admin last sent something, or connected.
     spoke: u64,
 }
 
@@ -75,7 +76,7 @@ pub(crate) struct Admins {
     count: u64,
     // Whether somebody may wait at the door: false after a poll that found nobody, until an event names the door again.
     may_come: bool,
-    // The second at which the door was last polled.
+    // The second of the monotonic clock at which the door was last polled.
     asked: u64,
 }
 
@@ -113,14 +114,15 @@ impl Admins {
 
     // Accepts the admins that wait at the door, and reads from each admin. `watch` names the door or the admins, which
     // share a token, if something has arrived there. Returns whether a byte arrived.
-    pub(crate) fn read<R: AllocGlobal + Print>(
+    pub(crate) fn read<R: AllocGlobal>(
         &mut self,
         rt: &R,
+        log: &mut Log,
         watch: &Watch,
         asks: &Asks,
-        now: u64,
+        seconds: Seconds,
     ) -> Result<bool, NoMemory> {
-        self.let_in(rt, watch, asks, now)?;
+        self.let_in(rt, log, watch, asks, seconds)?;
         let is_named = watch.tokens().contains(&TOKEN);
         let mut came = false;
         for seat in self.seats.iter_mut() {
@@ -128,7 +130,7 @@ impl Admins {
                 seat.connection.wake();
             }
             if !seat.is_last && seat.connection.read(1)? {
-                seat.spoke = now;
+                seat.spoke = seconds.steady;
                 came = true;
             }
         }
@@ -138,30 +140,31 @@ impl Admins {
     // Accepts waiting admins, as long as there are places or an admin gives way. Polls the door if somebody may wait
     // there, until nobody does, since one event names it for all that came before. Also polls it once a second: at the
     // limit of open files nobody seems to wait, and no event announces that a file is free again.
-    fn let_in<R: AllocGlobal + Print>(
+    fn let_in<R: AllocGlobal>(
         &mut self,
         rt: &R,
+        log: &mut Log,
         watch: &Watch,
         asks: &Asks,
-        now: u64,
+        seconds: Seconds,
     ) -> Result<(), NoMemory> {
         if watch.tokens().contains(&DOOR) {
             self.may_come = true;
         }
-        if !self.may_come && self.asked == now {
+        if !self.may_come && self.asked == seconds.steady {
             return Ok(());
         }
-        self.asked = now;
+        self.asked = seconds.steady;
         for _admin in 0..MAX_ADMINS {
-            if self.is_full() && self.silent(asks, now).is_none() {
+            if self.is_full() && self.silent(asks, seconds.steady).is_none() {
                 return Ok(());
             }
             let Some(socket) = self.door.let_in(watch.registry(), TOKEN) else {
                 self.may_come = false;
                 return Ok(());
             };
-            self.make_way(rt, asks, now);
-            self.seat(rt.alloc(), socket, now)?;
+            self.make_way(log, asks, seconds);
+            self.seat(rt.alloc(), socket, seconds.steady)?;
         }
         Ok(())
     }
@@ -171,14 +174,15 @@ impl Admins {
         self.seats.len() >= MAX_ADMINS
     }
 
-    // The place of the admin that gives way if all places are taken, if one does.
-    fn silent(&self, asks: &Asks, now: u64) -> Option<usize>
+    // The place of the admin that gives way if all places are taken, if one does. The monotonic clock shows second
+    // `steady`.
+    fn silent(&self, asks: &Asks, steady: u64) -> Option<usize>
         ensures within { IfSome result (λ place. place < vec_len self.now.seats) }
     {
         let mut found = None;
         let mut longest = SILENCE - 1;
         for (place, seat) in self.seats.iter().enumerate() {
-            let silence = now.saturating_sub(seat.spoke);
+            let silence = steady.saturating_sub(seat.spoke);
             if silence > longest && seat.is_idle() && !asks.holds(seat.number) {
                 found = Some(place);
                 longest = silence;
@@ -188,23 +192,23 @@ impl Admins {
     }
 
     // If all places are taken, disconnects the admin that gives way.
-    fn make_way<R: Print>(&mut self, rt: &R, asks: &Asks, now: u64) {
+    fn make_way(&mut self, log: &mut Log, asks: &Asks, seconds: Seconds) {
         if !self.is_full() {
             return;
         }
-        if let Some(place) = self.silent(asks, now) {
+        if let Some(place) = self.silent(asks, seconds.steady) {
             let _gone = self.seats.remove(place);
-            log(rt, now, &Entry::GaveWay);
+            log.note(seconds.wall, &Entry::GaveWay);
         }
     }
 
-    // Adds an admin.
-    fn seat(&mut self, alloc: Global, socket: UnixSocket, now: u64) -> Result<(), NoMemory> {
+    // Adds an admin, which connects when the monotonic clock shows second `steady`.
+    fn seat(&mut self, alloc: Global, socket: UnixSocket, steady: u64) -> Result<(), NoMemory> {
         self.seats.push(Admin {
             connection: Connection::new(alloc, socket, BOUNDS),
             is_last: false,
             number: self.count,
-            spoke: now,
+            spoke: steady,
         })?;
         self.count = self.count.wrapping_add(1);
         Ok(())

@@ -13,16 +13,17 @@ use crate::others::Others;
 use crate::outcome::Outcome;
 use botcore::{End, Note, Refusal, Report};
 use bytetext::NoMemory;
-use net::log;
+use net::Log;
 use serverlink::IrcConnection;
 use sharelink::LinkFault;
 
 impl Others {
     // Queues the packets of a step for the other bots, in order, and notes the changes that the step asked for. A leaf
     // decides from the note of the link when to say hello.
-    pub(crate) fn pass<R: AllocGlobal + Print>(
+    pub(crate) fn pass<R: AllocGlobal>(
         &mut self,
         rt: &R,
+        log: &mut Log,
         report: &Report,
         now: u64,
     ) -> Result<(), NoMemory>
@@ -39,7 +40,7 @@ impl Others {
         if self.asks.len() > count {
             self.links.ask();
         }
-        log_layout(rt, report.end, now);
+        log_layout(log, report.end, now);
         let Some(Note::Link(note)) = &report.note else {
             return Ok(());
         };
@@ -55,9 +56,10 @@ impl Others {
 
     // Logs the `outcome` of a step: at a leaf, of one that `settles` changes. If it settles changes, and one was accepted
     // or refused, answers whoever asked for the oldest.
-    pub(crate) fn answer<R: AllocGlobal + Print>(
+    pub(crate) fn answer<R: AllocGlobal>(
         &mut self,
         rt: &R,
+        log: &mut Log,
         admins: &mut Admins,
         uplink: &mut IrcConnection,
         outcome: Outcome,
@@ -71,7 +73,7 @@ impl Others {
     {
         let is_obeying = self.asks.asker.is_some();
         if settles || !self.links.is_leaf() {
-            log_outcome(rt, outcome, is_obeying, now);
+            log_outcome(log, outcome, is_obeying, now);
         }
         if !settles {
             return Ok(());
@@ -91,25 +93,26 @@ impl Others {
     }
 }
 
-// Logs that a change was accepted or refused. What the link refuses at once is not logged while an admin is obeyed: the
-// answer to the command says so.
-fn log_outcome<R: Print>(rt: &R, outcome: Outcome, is_obeying: bool, now: u64) {
+// Logs that a change was accepted or refused. `is_obeying` says whether a leaf executes an admin's command: then it does
+// not log what its link refuses at once, since the answer to the command says so. A hub logs that too, and so does a bot
+// that is alone.
+fn log_outcome(log: &mut Log, outcome: Outcome, is_obeying: bool, now: u64) {
     match outcome {
         Outcome::Nothing => {}
         Outcome::Barred(fault) => {
             if !is_obeying {
-                log(rt, now, &Entry::NotDone(fault.code()));
+                log.note(now, &Entry::NotDone(fault.code()));
             }
         }
-        Outcome::Accepted(number) => log(rt, now, &Entry::Accepted(number)),
-        Outcome::Refused(fault) => log(rt, now, &Entry::NotDone(fault.code())),
+        Outcome::Accepted(number) => log.note(now, &Entry::Accepted(number)),
+        Outcome::Refused(fault) => log.note(now, &Entry::NotDone(fault.code())),
     }
 }
 
 // Logs that a leaf's hello is refused since its journal has another layout.
-fn log_layout<R: Print>(rt: &R, end: End, now: u64) {
+fn log_layout(log: &mut Log, end: End, now: u64) {
     match end {
-        End::Refused(Refusal::Link(LinkFault::OtherLayout)) => log(rt, now, &Entry::OtherLayout),
+        End::Refused(Refusal::Link(LinkFault::OtherLayout)) => log.note(now, &Entry::OtherLayout),
         End::Refused(_) | End::Done | End::NoMemory => {}
     }
 }

@@ -11,11 +11,13 @@ use crate::entry::Entry;
 use crate::netting::{count_out, keep_net, links_of, secret_of};
 use crate::others::Others;
 use crate::process::{Process, Turned};
+use crate::seconds::Seconds;
+use crate::space::Space;
 use crate::starting::{bind_all, bot_of, folder_of};
 use crate::sums::Sums;
 use botfolder::BotFolder;
 use ircline::LineReader;
-use net::{Timeline, Watch, log};
+use net::{Log, Timeline, Watch};
 use peers::Key;
 use procs::{ProcStore, Promise, Run};
 use serverlink::IrcConnection;
@@ -52,6 +54,26 @@ where
 {
     check(rt.alloc(), store, settings)?;
     let key = secret_of(rt, settings)?;
+    // Before the folder, so that a bot that gets no log changes nothing there.
+    let mut log = Log::open(rt)?;
+    let ended = run_logged(rt, &mut log, store, settings, key);
+    log.flush(rt);
+    ended
+}
+
+// Takes the folder, and makes turns until an admin ends the bot. Writes the log at the end of each turn.
+fn run_logged<R, P: Promise, B: Run>(
+    rt: &R,
+    log: &mut Log,
+    store: &ProcStore<P, B>,
+    settings: &Settings,
+    key: Option<Key>,
+) -> Result<(), RunError>
+where
+    R: AllocGlobal + Net + Clock + Files<File = File> + Print + RandomSource,
+    requires some { 0 < length settings.now.servers }
+    requires known { IsKnownWhereWanted settings.now.station key }
+{
     let folder = folder_of(rt, settings)?;
     let mut watch = Watch::new(rt, EVENTS)?;
     let mut process = begin(rt, &watch, &folder, settings, key)?;
@@ -59,14 +81,18 @@ where
     look_back(rt.alloc(), &mut process, store)?;
     let mut timeline = Timeline::begin(rt.monotonic()?.as_secs());
     let up = timeline.read_clocks(rt)?;
-    log(rt, up, &Entry::Up(process.bot.version()));
+    log.note(up, &Entry::Up(process.bot.version()));
+    process.space.tell_start(log, up);
     let mut turned = Turned::Busy;
     for _turn in 0..u64::MAX {
-        let now = wait(rt, &mut watch, &mut timeline, turned)?;
-        turned = process.turn(rt, &watch, store, settings, now)?;
-        keep_new_net(rt, &folder, &mut process, now)?;
+        log.flush(rt);
+        let seconds = wait(rt, &mut watch, &mut timeline, turned)?;
+        let is_awake = turned == Turned::Busy || !watch.tokens().is_empty();
+        process.space.look_if_due(log, is_awake, seconds);
+        turned = process.turn(rt, log, &watch, store, settings, seconds)?;
+        keep_new_net(rt, log, &folder, &mut process, seconds.wall)?;
         if turned == Turned::Ended {
-            log(rt, now, &Entry::Ended);
+            log.note(seconds.wall, &Entry::Ended);
             break;
         }
     }
@@ -91,6 +117,7 @@ where
     let bot = bot_of(rt, folder, settings)?;
     let links = links_of(rt, watch.registry(), folder, settings, key, bot.version())?;
     let admins = door_of(rt, watch, folder)?;
+    let space = space_of(rt, folder)?;
     let bases = Bases::new(bot.version());
     Ok(Process {
         bot,
@@ -100,6 +127,7 @@ where
         others: Others::new(rt.alloc(), links),
         bases,
         sums: Sums::new(),
+        space,
         until: None,
     })
 }
@@ -118,6 +146,17 @@ where
     }
 }
 
+// Sets space aside on the disk of the folder.
+fn space_of<R: AllocGlobal + Files<File = File>>(
+    rt: &R,
+    folder: &BotFolder,
+) -> Result<Space, RunError> {
+    match folder.room(rt) {
+        Ok(room) => Ok(Space::new(room)),
+        Err(error) => Err(of_folder(error)),
+    }
+}
+
 // Notes the changes of an earlier run that are out: they are answered before all that are asked for in this one.
 fn look_back<P: Promise, B: Run>(
     alloc: Global,
@@ -132,35 +171,40 @@ fn look_back<P: Promise, B: Run>(
 }
 
 // If a leaf has just learned the number of its net, saves it before the leaf goes on.
-fn keep_new_net<R: AllocGlobal + Print + Files<File = File>>(
+fn keep_new_net<R: AllocGlobal + Files<File = File>>(
     rt: &R,
+    log: &mut Log,
     folder: &BotFolder,
     process: &mut Process,
     now: u64,
 ) -> Result<(), RunError> {
     if let Some(net) = process.others.links.to_keep() {
+        process.space.lend();
         keep_net(rt, folder, &net)?;
-        process.others.links.keep(rt, net, now);
+        process.space.look(log, now);
+        process.others.links.keep(log, net, now);
     }
     Ok(())
 }
 
 // Waits until there may be something to do: not at all if there may be more at once, and at most until the next second.
-// Returns the second after the wait.
+// Returns what the clocks show after the wait.
 fn wait<R: Clock>(
     rt: &R,
     watch: &mut Watch,
     timeline: &mut Timeline,
     turned: Turned,
-) -> Result<u64, RunError>
-    ensures moment { IfOk result (λ now. now < MOMENTS_END) }
+) -> Result<Seconds, RunError>
+    ensures moment { IfOk result (λ seconds. seconds.wall < MOMENTS_END) }
 {
     let most = match turned {
         Turned::Busy | Turned::Ended => 0,
         Turned::Rests => rest_of_second(rt)?,
     };
     watch.wait(most)?;
-    Ok(timeline.read_clocks(rt)?)
+    let wall = timeline.read_clocks(rt)?;
+    let steady = rt.monotonic()?.as_secs();
+    Ok(Seconds { wall, steady })
 }
 
 // The milliseconds that are left of this second, at least 1.

@@ -12,6 +12,7 @@ use crate::status::status_of;
 use botcore::BotEvent;
 use bytetext::{NoMemory, Text};
 use control::UnbindWords;
+use net::Log;
 use procs::{ProcStore, Promise, Run};
 use recordtext::put_records;
 use serverlink::{MAX_LINE, Why};
@@ -22,14 +23,15 @@ use std::alloc::Global;
 const LAST_SECONDS: u64 = 2;
 
 impl Process {
-    pub(crate) fn compact_now<R: AllocGlobal + Print, P: Promise, B: Run>(
+    pub(crate) fn compact_now<R: AllocGlobal, P: Promise, B: Run>(
         &mut self,
         rt: &R,
+        log: &mut Log,
         store: &ProcStore<P, B>,
         settings: &Settings,
         now: u64,
     ) -> Result<Vec<u8>, RunError> {
-        match self.compact(rt, store, settings, now)? {
+        match self.compact(rt, log, store, settings, now)? {
             Outcome::Nothing => Ok(Vec::from_slice(rt.alloc(), b"compacted\n")?),
             outcome => Ok(of_change(rt.alloc(), outcome)?),
         }
@@ -108,9 +110,10 @@ impl Process {
     }
 
     // Disconnects from this server. The next one is tried after a wait.
-    pub(crate) fn jump<R: AllocGlobal + Print>(
+    pub(crate) fn jump<R: AllocGlobal>(
         &mut self,
         rt: &R,
+        log: &mut Log,
         settings: &Settings,
         now: u64,
     ) -> Result<Vec<u8>, RunError>
@@ -123,23 +126,24 @@ impl Process {
             )?);
         }
         self.uplink
-            .tell(rt, settings, b"QUIT :changing servers", now)?;
+            .tell(log, settings, b"QUIT :changing servers", now)?;
         let _sent = self.uplink.send();
-        self.uplink.lose(rt, Why::Jump, now);
+        self.uplink.lose(log, Why::Jump, now);
         Ok(Vec::from_slice(rt.alloc(), b"jumping\n")?)
     }
 
     // Marks the process to end, and queues a QUIT for the server.
-    pub(crate) fn die<R: AllocGlobal + Print>(
+    pub(crate) fn die<R: AllocGlobal>(
         &mut self,
         rt: &R,
+        log: &mut Log,
         settings: &Settings,
         text: &Text,
         now: u64,
     ) -> Result<Vec<u8>, RunError> {
         let line = quit_line(rt.alloc(), text.as_bytes())?;
         self.uplink.own.clear();
-        self.uplink.tell(rt, settings, line.as_slice(), now)?;
+        self.uplink.tell(log, settings, line.as_slice(), now)?;
         if self.until.is_none() {
             self.until = Some(now.saturating_add(LAST_SECONDS));
         }

@@ -63,7 +63,7 @@ pub enum RunError {
         /// The number of the change that may count or not: one above the version.
         change: u64,
     },
-    /// The system cannot wait for sockets, read the time, or draw a number for a net.
+    /// The system cannot wait for sockets or for standard output, read the time, or draw a number for a net.
     System,
     /// An allocation failed.
     NoMemory,

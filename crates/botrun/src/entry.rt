@@ -24,6 +24,10 @@ pub(crate) enum Entry<'a> {
     OtherLayout,
     // The journal was rewritten.
     Compacted,
+    // The disk of the bot's folder has no more room for changes.
+    NoRoom,
+    // It has room again.
+    RoomAgain,
     // The bot ends.
     Ended,
 }
@@ -51,6 +55,10 @@ impl Display for Entry<'_> {
                 f.write_str("a leaf has another layout: run one version of the program on all bots")
             }
             Entry::Compacted => f.write_str("journal rewritten"),
+            Entry::NoRoom => {
+                f.write_str("no room for changes: free some on the disk of the bot's folder")
+            }
+            Entry::RoomAgain => f.write_str("room for changes again"),
             Entry::Ended => f.write_str("ended"),
         }
     }

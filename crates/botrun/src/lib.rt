@@ -27,10 +27,27 @@
 //!
 //! # The log
 //!
-//! The log goes to standard output, one line for each event: seconds since 1970-01-01 UTC, and what happened. A log
-//! that cannot be written does not stop the bot. The log shows the bot's version with the sum of its records at the
-//! start, when the version has changed and 5 seconds have passed since the last time, and at the end. So the logs of
-//! two bots show whether their records were the same at each version that both logs show.
+//! The log goes to standard output, one line for each event: seconds since 1970-01-01 UTC, and what happened. Each turn
+//! ends by writing what waits, as far as standard output takes it. A log that cannot be written does not stop the bot,
+//! and one that nobody reads does not block it ([`net::Log`]).
+//!
+//! The log shows the bot's version with the sum of its records at the start, when the version has changed and 5 seconds
+//! have passed since the last time, and at the end. So the logs of two bots show whether their records were the same at
+//! each version that both logs show.
+//!
+//! # The clocks
+//!
+//! The monotonic clock measures silences and time limits: of a server, of a handshake, of a lookup, and of admins. So
+//! nobody is disconnected because somebody sets the machine's clock ahead. The wall clock, by its readings in a
+//! [`net::Timeline`], gives the bot's time, the log's seconds, and when a hello or an attempt to connect is due.
+//!
+//! # A full disk
+//!
+//! A record that can't be written whole may count or not, and only a new start finds out. So the bot looks for room on
+//! the disk of its folder ([`botfolder::Room`]) before it takes changes: once a second, and at rest once a minute. While
+//! it finds none, it refuses changes and `compact` to admins, does not rewrite its journal by itself, and drops what
+//! other bots send, which they send again. It still takes the server's lines: for the changes of procs, the journal has
+//! the space that is set aside.
 //!
 //! # The sum
 //!
@@ -62,6 +79,8 @@ mod outcome;
 mod passing;
 mod process;
 mod record_sum;
+mod seconds;
+mod space;
 mod starting;
 mod status;
 mod steps;

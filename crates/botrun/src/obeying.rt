@@ -1,15 +1,17 @@
 // The commands of admins.
-ghost use Rattle.std.specs.Prelude.{◌<◌, length, IfSome};
+ghost use Rattle.std.specs.Prelude.{◌<◌};
 ghost use Rattle.bytetext.specs.declared.moment.TheConstants.{MOMENTS_END};
 
 use crate::answers::{of_advice, of_change};
 use crate::ending::RunError;
 use crate::entry::Entry;
 use crate::process::Process;
+use crate::space::NO_ROOM;
 use bytetext::Failure;
 use control::AdminCommand;
-use net::log;
+use net::Log;
 use procs::{ProcStore, Promise, Run};
+use recordtext::first_word;
 use settings::Settings;
 
 // The most commands of each admin that one turn executes. The changes of a turn go to each other bot in one write,
@@ -21,9 +23,10 @@ const MAX_COMMANDS: usize = 16;
 impl Process {
     // Executes the admins' commands, in rounds of one command of each, so that no admin waits for all commands
     // of another. Begins no further round once the bot is to end or is down. Returns whether there was a command.
-    pub(crate) fn obey_all<R: AllocGlobal + Print, P: Promise, B: Run>(
+    pub(crate) fn obey_all<R: AllocGlobal, P: Promise, B: Run>(
         &mut self,
         rt: &R,
+        log: &mut Log,
         store: &ProcStore<P, B>,
         settings: &Settings,
         now: u64,
@@ -31,7 +34,7 @@ impl Process {
         requires moment { now < MOMENTS_END }
     {
         for round in 0..MAX_COMMANDS {
-            if !self.obey_each(rt, store, settings, now)? {
+            if !self.obey_each(rt, log, store, settings, now)? {
                 return Ok(round > 0);
             }
             if self.until.is_some() || self.bot.is_down() {
@@ -42,9 +45,10 @@ impl Process {
     }
 
     // Executes one command of each admin. Returns whether there was one.
-    fn obey_each<R: AllocGlobal + Print, P: Promise, B: Run>(
+    fn obey_each<R: AllocGlobal, P: Promise, B: Run>(
         &mut self,
         rt: &R,
+        log: &mut Log,
         store: &ProcStore<P, B>,
         settings: &Settings,
         now: u64,
@@ -57,7 +61,7 @@ impl Process {
             if let Some(command) = self.admins.take_command(rt.alloc(), place)? {
                 // At a leaf, changes are answered later, since the hub accepts them.
                 self.others.asks.asker = if is_leaf { Some(command.number) } else { None };
-                let answer = self.obey(rt, store, settings, command.line.as_slice(), now)?;
+                let answer = self.obey(rt, log, store, settings, command.line.as_slice(), now)?;
                 self.others.asks.asker = None;
                 self.admins.tell(command.number, answer.as_slice())?;
                 obeyed = true;
@@ -67,9 +71,10 @@ impl Process {
     }
 
     // Executes the command in a line, and returns the answer.
-    fn obey<R: AllocGlobal + Print, P: Promise, B: Run>(
+    fn obey<R: AllocGlobal, P: Promise, B: Run>(
         &mut self,
         rt: &R,
+        log: &mut Log,
         store: &ProcStore<P, B>,
         settings: &Settings,
         line: &[u8],
@@ -84,12 +89,16 @@ impl Process {
             Err(Failure::NoMemory) => return Err(RunError::NoMemory),
         };
         if is_logged(&command) {
-            log(rt, now, &Entry::Asked(first_word(line)));
+            let (word, _rest) = first_word(line);
+            log.note(now, &Entry::Asked(word));
+        }
+        if needs_room(&command) && !self.space.has_room() {
+            return Ok(Vec::from_slice(alloc, NO_ROOM)?);
         }
         match command {
             AdminCommand::Change(change) => {
                 let changes = vec![in alloc; change]?;
-                let outcome = self.take(rt, store, settings, changes, false, now)?;
+                let outcome = self.take(rt, log, store, settings, changes, false, now)?;
                 Ok(of_change(alloc, outcome)?)
             }
             AdminCommand::Show => self.show(alloc, settings),
@@ -97,9 +106,9 @@ impl Process {
             AdminCommand::Bind(words) => self.bind(alloc, store, &words),
             AdminCommand::Unbind(words) => self.unbind(alloc, store, words),
             AdminCommand::Say(line) => self.say(alloc, line),
-            AdminCommand::Compact => self.compact_now(rt, store, settings, now),
-            AdminCommand::Jump => self.jump(rt, settings, now),
-            AdminCommand::Die(text) => self.die(rt, settings, &text, now),
+            AdminCommand::Compact => self.compact_now(rt, log, store, settings, now),
+            AdminCommand::Jump => self.jump(rt, log, settings, now),
+            AdminCommand::Die(text) => self.die(rt, log, settings, &text, now),
         }
     }
 }
@@ -118,16 +127,16 @@ fn is_logged(command: &AdminCommand) -> bool {
     }
 }
 
-// The bytes before the first space.
-fn first_word(line: &[u8]) -> &[u8] {
-    match first_space(line) {
-        Some(end) => &line[..end],
-        None => line,
+// Whether a command writes to the journal.
+fn needs_room(command: &AdminCommand) -> bool {
+    match command {
+        AdminCommand::Change(_) | AdminCommand::Compact => true,
+        AdminCommand::Show
+        | AdminCommand::Status
+        | AdminCommand::Bind(_)
+        | AdminCommand::Unbind(_)
+        | AdminCommand::Say(_)
+        | AdminCommand::Jump
+        | AdminCommand::Die(_) => false,
     }
-}
-
-fn first_space(line: &[u8]) -> Option<usize>
-    ensures within { IfSome result (λ end. end < length line.now) }
-{
-    line.iter().position(|byte| *byte == b' ')
 }

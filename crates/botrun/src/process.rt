@@ -6,17 +6,21 @@ use crate::admins::Admins;
 use crate::bases::Bases;
 use crate::ending::RunError;
 use crate::others::Others;
+use crate::seconds::Seconds;
+use crate::space::Space;
 use crate::sums::Sums;
 use botcore::Bot;
 use bytetext::NoMemory;
 use disks::FileDisk;
 use ircline::LineReader;
-use net::{Registry, Watch};
+use net::{Log, Registry, Watch};
 use procs::{ProcStore, Promise, Run};
 use serverlink::IrcConnection;
 use settings::Settings;
+use std::fs::File;
 use std::net::Net;
 use std::random::RandomSource;
+use std::rt::Files;
 
 // A bot, its connections, and the state of its process.
 pub(crate) struct Process {
@@ -29,6 +33,8 @@ pub(crate) struct Process {
     pub(crate) bases: Bases,
     // When the log shows the sum of the records.
     pub(crate) sums: Sums,
+    // The room for changes on the disk.
+    pub(crate) space: Space,
     // Once the process is to end: the second until which it waits for what is still unsent.
     pub(crate) until: Option<u64>,
 }
@@ -44,6 +50,7 @@ impl Drop for Process {
             others: _,
             bases: _,
             sums: _,
+            space: _,
             until: _,
         } = self;
     }
@@ -62,6 +69,7 @@ pub(crate) enum Turned {
     // - It reads the server and the other bots until a read would block. It reads admins so too, unless they have
     //   first to take answers; an event announces that they do.
     // - It polls the door until nobody waits or no place is left, and again at the next second.
+    // - It reads the answer to a lookup until a read would block, and looks at the time that it takes at each second.
     // - It offers unsent bytes until all are taken or none is; then an event announces room for more.
     // - A turn is busy if it executed a command, took a packet or began a connection to a server, or if a hello got due
     //   in it. No readiness event will announce the work that these leave, so the next turn starts at once.
@@ -75,28 +83,34 @@ pub(crate) enum Turned {
 impl Process {
     // Makes a turn: connects what is lost and due, reads, steps, writes, closes the connections that are over, and logs
     // the sum of the records if that is due. `watch` names the sockets that may have something to read.
-    pub(crate) fn turn<R: AllocGlobal + Net + Print + RandomSource, P: Promise, B: Run>(
+    pub(crate) fn turn<R, P: Promise, B: Run>(
         &mut self,
         rt: &R,
+        log: &mut Log,
         watch: &Watch,
         store: &ProcStore<P, B>,
         settings: &Settings,
-        now: u64,
+        seconds: Seconds,
     ) -> Result<Turned, RunError>
-        requires moment { now < MOMENTS_END }
+    where
+        R: AllocGlobal + Net + Files<File = File> + RandomSource,
+        requires moment { seconds.wall < MOMENTS_END }
     {
-        self.uplink.wake(watch.tokens());
-        self.others.links.wake(watch.tokens());
-        let connected = self.connect(rt, watch.registry(), settings, now)?;
+        let now = seconds.wall;
+        self.uplink.wake(watch.tokens(), seconds.steady);
+        self.others.links.wake(watch.tokens(), seconds.steady);
+        let connected = self.connect(rt, log, watch.registry(), settings, now)?;
         let mut is_busy = connected;
-        is_busy |= self.uplink.read(now)?;
-        is_busy |= self.admins.read(rt, watch, &self.others.asks, now)?;
-        is_busy |= self.others.links.read(rt, now)?;
-        is_busy |= self.hear(rt, store, settings, connected, now)?;
-        is_busy |= self.obey_all(rt, store, settings, now)?;
-        is_busy |= self.send(rt, settings, now)?;
+        is_busy |= self.uplink.read()?;
+        is_busy |= self
+            .admins
+            .read(rt, log, watch, &self.others.asks, seconds)?;
+        is_busy |= self.others.links.read(rt, log, now)?;
+        is_busy |= self.hear(rt, log, store, settings, connected, now)?;
+        is_busy |= self.obey_all(rt, log, store, settings, now)?;
+        is_busy |= self.send(rt, log, settings, now)?;
         let has_ended = self.has_ended(now);
-        self.tell_sum(rt, has_ended, now)?;
+        self.tell_sum(rt, log, has_ended, now)?;
         if has_ended {
             return Ok(Turned::Ended);
         }
@@ -105,9 +119,10 @@ impl Process {
 
     // Unless the process is to end, connects what is lost and due, and accepts other bots. Returns whether a connection
     // to a server began.
-    fn connect<R: AllocGlobal + Net + Print + RandomSource>(
+    fn connect<R: AllocGlobal + Net + Files<File = File> + RandomSource>(
         &mut self,
         rt: &R,
+        log: &mut Log,
         registry: &Registry,
         settings: &Settings,
         now: u64,
@@ -117,27 +132,28 @@ impl Process {
         if self.until.is_some() {
             return Ok(false);
         }
-        let _linking = self.others.links.connect(rt, registry, settings, now)?;
-        self.uplink.connect(rt, registry, settings, now)
+        let _linking = self.others.links.connect(rt, log, registry, settings, now)?;
+        self.uplink.connect(rt, log, registry, settings, now)
     }
 
     // Keeps up the connection to the server, offers each connection its unsent bytes, and closes the connections that
     // are over. Returns whether another turn is due at once: a connection may take more, is to be closed, or has more
     // to be done for it.
-    fn send<R: AllocGlobal + Print>(
+    fn send<R: AllocGlobal>(
         &mut self,
         rt: &R,
+        log: &mut Log,
         settings: &Settings,
         now: u64,
     ) -> Result<bool, RunError>
         requires moment { now < MOMENTS_END }
     {
-        self.uplink.keep(rt, settings, now)?;
+        self.uplink.keep(rt, log, settings, now)?;
         let server = self.uplink.send();
         let admins = self.admins.send();
         let links = self.others.links.send();
-        self.uplink.let_go(rt, now);
-        self.others.links.let_go(rt, now);
+        self.uplink.let_go(log, now);
+        self.others.links.let_go(log, now);
         self.stay_up()?;
         Ok(server || admins || links)
     }

@@ -14,7 +14,7 @@ use crate::outcome::{Outcome, outcome_of, told_by};
 use crate::passing::pass_lines;
 use crate::process::Process;
 use bytetext::{NoMemory, Text, TryCopy};
-use net::log;
+use net::Log;
 use procs::{ProcStore, Promise, Run};
 use settings::Settings;
 use sharelink::MAX_ASKS;
@@ -25,26 +25,30 @@ use userfile::Change;
 impl Process {
     // Has the bot take what its server and the other bots sent, in one turn. Then the connection to the server looks at
     // the server's lines, before the bot's lines are queued. Then the bot takes all that waits, and the journal is
-    // rewritten if that is due. Returns whether there may be more at once: another bot sent something, or a hello got
-    // due.
-    pub(crate) fn hear<R: AllocGlobal + Print, P: Promise, B: Run>(
+    // rewritten if that is due. If there is no room, the bot takes nothing of the other bots; procs may still change
+    // records, so the journal is lent the space that is set aside. Returns whether there may be more at once: another bot
+    // sent something, or a hello got due.
+    pub(crate) fn hear<R: AllocGlobal, P: Promise, B: Run>(
         &mut self,
         rt: &R,
+        log: &mut Log,
         store: &ProcStore<P, B>,
         settings: &Settings,
         connected: bool,
         now: u64,
     ) -> Result<bool, RunError>
         requires moment { now < MOMENTS_END }
-        // The first turn takes all that was read from the server, and packets that wait. The bot goes on from it by
-        // turns in which it hears nothing.
+        // The first turn takes all that was read from the server, and packets that wait: none if there is no room. The
+        // bot goes on from it by turns in which it hears nothing.
         ensures hears { OnOk result (Hears P.promised store.now self.old.bot self.old.lines
-            (heard_in (talk_in self.old.uplink.session)) self.old.others.links self.new.bot self.new.lines) }
+            (heard_in (talk_in self.old.uplink.session)) self.old.space.room self.old.others.links
+            self.new.bot self.new.lines) }
     {
         let alloc = rt.alloc();
         let bytes = self.uplink.take_heard(alloc);
-        let packets = self.others.links.take_packets(alloc)?;
-        let said = !packets.is_empty();
+        let waiting = self.others.links.take_packets(alloc)?;
+        let said = !waiting.is_empty();
+        let packets = self.space.admit(alloc, waiting);
         let pumps = self.others.links.is_pump_due(now);
         let nick = self.nick_before(alloc, connected)?;
         let changes = Vec::new(alloc);
@@ -57,13 +61,15 @@ impl Process {
             pump: pumps,
             compact: false,
         };
+        self.space.lend_if_full();
         let told = take_turn(alloc, &mut self.bot, store, &mut self.lines, heard);
         let lines = told.lines.as_slice();
-        look_at_all(rt, &mut self.uplink, settings, nick, lines, now)?;
-        self.pass(rt, settings, &told, pumps, now)?;
+        look_at_all(rt, log, &mut self.uplink, settings, nick, lines, now)?;
+        self.pass(rt, log, settings, &told, pumps, now)?;
         let first = outcome_of(told.reports.as_slice());
-        self.pump(rt, store, settings, first, now)?;
-        self.compact_if_due(rt, store, settings, now)?;
+        self.pump(rt, log, store, settings, first, now)?;
+        self.compact_if_due(rt, log, store, settings, now)?;
+        self.space.look_if_full(log, now);
         // A proc may have had a leaf ask for a change. If this turn pumped and more is due at once, the link took
         // bytes, so the next turn comes at once too.
         Ok(said || (!pumps && self.others.links.is_pump_due(now)))
@@ -71,9 +77,10 @@ impl Process {
 
     // Unless the bot is a leaf, pumps until nothing waits, or the link refuses. `first` is the outcome of the turn
     // before.
-    fn pump<R: AllocGlobal + Print, P: Promise, B: Run>(
+    fn pump<R: AllocGlobal, P: Promise, B: Run>(
         &mut self,
         rt: &R,
+        log: &mut Log,
         store: &ProcStore<P, B>,
         settings: &Settings,
         first: Outcome,
@@ -91,16 +98,17 @@ impl Process {
             if !is_settled(outcome) {
                 return Ok(());
             }
-            outcome = self.take(rt, store, settings, Vec::new(rt.alloc()), false, now)?;
+            outcome = self.take(rt, log, store, settings, Vec::new(rt.alloc()), false, now)?;
         }
         Ok(())
     }
 
-    // Has the journal rewritten if that is due.
+    // Has the journal rewritten if that is due and there is room.
     #[tactic(auto, using(crate::proofs::TakingLemmas::stays))]
-    fn compact_if_due<R: AllocGlobal + Print, P: Promise, B: Run>(
+    fn compact_if_due<R: AllocGlobal, P: Promise, B: Run>(
         &mut self,
         rt: &R,
+        log: &mut Log,
         store: &ProcStore<P, B>,
         settings: &Settings,
         now: u64,
@@ -108,17 +116,18 @@ impl Process {
         ensures goes_on { OnOk result (GoesOn P.promised store.now self.old.bot self.old.lines self.new.bot self.new.lines) }
     {
         self.bases.see(self.bot.version(), now);
-        if !self.bases.is_due(now) {
+        if !self.space.has_room() || !self.bases.is_due(now) {
             return Ok(());
         }
-        self.compact(rt, store, settings, now)?;
+        self.compact(rt, log, store, settings, now)?;
         Ok(())
     }
 
-    // Has the journal rewritten.
-    pub(crate) fn compact<R: AllocGlobal + Print, P: Promise, B: Run>(
+    // Has the journal rewritten, for which it is lent the space that is set aside.
+    pub(crate) fn compact<R: AllocGlobal, P: Promise, B: Run>(
         &mut self,
         rt: &R,
+        log: &mut Log,
         store: &ProcStore<P, B>,
         settings: &Settings,
         now: u64,
@@ -126,16 +135,19 @@ impl Process {
         ensures goes_on { IfOk result (λ _. GoesOn P.promised store.now self.old.bot self.old.lines self.new.bot self.new.lines) }
     {
         self.bases.write(self.bot.version());
-        let outcome = self.take(rt, store, settings, Vec::new(rt.alloc()), true, now)?;
-        log(rt, now, &Entry::Compacted);
+        self.space.lend();
+        let outcome = self.take(rt, log, store, settings, Vec::new(rt.alloc()), true, now)?;
+        self.space.look(log, now);
+        log.note(now, &Entry::Compacted);
         Ok(outcome)
     }
 
     // Has the bot take `changes` in a turn in which it hears nothing. The turn pumps, or has the journal rewritten if
     // it `compacts`. Queues the bot's lines for the server. Returns what the turn says about changes.
-    pub(crate) fn take<R: AllocGlobal + Print, P: Promise, B: Run>(
+    pub(crate) fn take<R: AllocGlobal, P: Promise, B: Run>(
         &mut self,
         rt: &R,
+        log: &mut Log,
         store: &ProcStore<P, B>,
         settings: &Settings,
         changes: Vec<Change>,
@@ -161,7 +173,7 @@ impl Process {
             compact: compacts,
         };
         let told = take_turn(alloc, &mut self.bot, store, &mut self.lines, heard);
-        self.pass(rt, settings, &told, !compacts, now)?;
+        self.pass(rt, log, settings, &told, !compacts, now)?;
         Ok(outcome_of(told.reports.as_slice()))
     }
 
@@ -177,9 +189,10 @@ impl Process {
     // Passes on what each step of a turn says, in order: its lines to the server, its packets to the other bots, and
     // its answer to whoever asked for the change that it accepted or refused. `pumped` says whether the last step is a
     // pump.
-    fn pass<R: AllocGlobal + Print>(
+    fn pass<R: AllocGlobal>(
         &mut self,
         rt: &R,
+        log: &mut Log,
         settings: &Settings,
         told: &Told,
         pumped: bool,
@@ -197,12 +210,13 @@ impl Process {
         let is_leaf = self.others.links.is_leaf();
         let mut rest = told.reports.as_slice();
         while let Some((report, behind)) = rest.split_first() {
-            pass_lines(rt, &mut self.uplink, settings, report, now)?;
-            self.others.pass(rt, report, now)?;
+            pass_lines(log, &mut self.uplink, settings, report, now)?;
+            self.others.pass(rt, log, report, now)?;
             let outcome = told_by(report);
             let settles = is_leaf || (pumped && behind.is_empty());
             self.others.answer(
                 rt,
+                log,
                 &mut self.admins,
                 &mut self.uplink,
                 outcome,

@@ -6,7 +6,7 @@ use crate::entry::Entry;
 use crate::process::Process;
 use crate::record_sum::sum_of;
 use bytetext::NoMemory;
-use net::log;
+use net::Log;
 
 // At least this many seconds pass between two of these lines, except at the bot's end, so that their cost is bounded.
 const APART: u64 = 5;
@@ -52,16 +52,17 @@ impl Sums {
 
 impl Process {
     // Logs the sum of the bot's records if that is due at second `now`. `is_last` says whether the bot ends.
-    pub(crate) fn tell_sum<R: AllocGlobal + Print>(
+    pub(crate) fn tell_sum<R: AllocGlobal>(
         &mut self,
         rt: &R,
+        log: &mut Log,
         is_last: bool,
         now: u64,
     ) -> Result<(), NoMemory> {
         let version = self.bot.version();
         if self.sums.is_due(version, is_last, now) {
             let sum = sum_of(rt.alloc(), self.bot.userfile())?;
-            log(rt, now, &Entry::Records(version, &sum));
+            log.note(now, &Entry::Records(version, &sum));
             self.sums.tell(version, now);
         }
         Ok(())

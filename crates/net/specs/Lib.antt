@@ -3,6 +3,7 @@ pub mod Waits
 pub mod Connections
 pub mod Watching
 pub mod Dials
+pub mod Lookups
 pub mod Addresses
 pub mod Turns
-pub mod Sockets
+pub mod Logs

@@ -1,22 +1,25 @@
 // The address of a host.
-ghost use Rattle.net.specs.Addresses.{IsLiteral, IsOfRound, LeadsTo};
+ghost use Rattle.std.specs.Prelude.{◌<◌, length};
+ghost use Rattle.net.specs.Addresses.{IsLiteral, IsOfRound};
 
-use std::net::{IpAddr, Ipv4Addr, Net, SocketAddr};
-use std::str;
+use mio::net::UdpSocket;
+use resolver::Addresses;
+use std::net::{IpAddr, Ipv4Addr, Ipv6Addr, Net, SocketAddr};
 use thiserror::Error;
-
-/// The most addresses of one name that are tried.
-pub const MAX_ADDRESSES: usize = 32;
 
 /// Why a try did not even begin.
 #[derive(Clone, Copy, Debug, PartialEq, Eq, Error)]
 pub enum DialFault {
-    /// The host is neither an address nor UTF-8.
+    /// The host is neither an address nor a name that can be looked up: labels of 1 to 63 letters, digits, `-` and `_`
+    /// with dots between them, at most 253 bytes.
     #[error("the host is no name: write it in letters, digits, dots and dashes")]
     Unreadable,
-    /// The resolver knows no address of the host, or can't be asked.
-    #[error("the host has no address: look at its name, or wait for the resolver")]
+    /// Nobody has the name, or it has no address.
+    #[error("the host has no address: look at its name")]
     Unknown,
+    /// No name server answered a question, asked three times of each.
+    #[error("no name server answered: look at /etc/resolv.conf")]
+    Unanswered,
     /// The system does not begin to connect: no route leads to the address, or it has no more sockets.
     #[error("no way leads to the address, or this machine has no more sockets")]
     Unreached,
@@ -33,35 +36,8 @@ pub fn literal(host: &[u8], port: u16) -> Option<SocketAddr>
     }
 }
 
-// The address of `host` in this round: the one that it spells, or one of its name's addresses.
-pub(crate) fn address_of<R: Net>(
-    rt: &R,
-    host: &[u8],
-    port: u16,
-    round: u64,
-) -> Result<SocketAddr, DialFault>
-    ensures { LeadsTo host.now port result }
-{
-    match literal(host, port) {
-        Some(address) => Ok(address),
-        None => look_up(rt, host, port, round),
-    }
-}
-
-// Looks a name up, and returns the address of this round.
-fn look_up<R: Net>(rt: &R, host: &[u8], port: u16, round: u64) -> Result<SocketAddr, DialFault> {
-    let Ok(name) = str::from_utf8(host) else {
-        return Err(DialFault::Unreadable);
-    };
-    let mut found = [SocketAddr::from((Ipv4Addr::UNSPECIFIED, port)); MAX_ADDRESSES];
-    match rt.lookup_host(name, port, &mut found) {
-        Ok(count) => of_round(&found[..count], round).ok_or(DialFault::Unknown),
-        Err(_) => Err(DialFault::Unknown),
-    }
-}
-
-// The address of this round among those of a name, if it has one.
-fn of_round(found: &[SocketAddr], round: u64) -> Option<SocketAddr>
+// Returns the address of this round among those of a name, if it has one.
+pub(crate) fn of_round(found: &[IpAddr], round: u64) -> Option<IpAddr>
     ensures { IsOfRound found.now round result }
 {
     if found.is_empty() {
@@ -69,4 +45,39 @@ fn of_round(found: &[SocketAddr], round: u64) -> Option<SocketAddr>
     }
     let place = round % found.len() as u64;
     Some(found[place as usize])
+}
+
+// Returns those of the addresses to which this machine has a route, or all of them if it has a route to none.
+pub(crate) fn with_route<R: Net>(rt: &R, found: Addresses) -> Addresses
+    ensures { 0 < length found → 0 < length result }
+{
+    let mut reached = Addresses::none();
+    for address in found.as_slice() {
+        if has_route(rt, *address) {
+            reached.put(*address);
+        }
+    }
+    if reached.as_slice().is_empty() {
+        found
+    } else {
+        reached
+    }
+}
+
+// Returns whether the system has a route to `address`. It looks for one when a socket for datagrams is connected, and
+// sends nothing.
+fn has_route<R: Net>(rt: &R, address: IpAddr) -> bool {
+    // The port does not matter.
+    match UdpSocket::bind(rt, unspecified(address)) {
+        Ok(socket) => socket.connect(SocketAddr::new(address, 9)).is_ok(),
+        Err(_) => false,
+    }
+}
+
+// Returns where a socket is bound that talks to `address`: anywhere, by the same family.
+pub(crate) fn unspecified(address: IpAddr) -> SocketAddr {
+    match address {
+        IpAddr::V4(_) => SocketAddr::from((Ipv4Addr::UNSPECIFIED, 0)),
+        IpAddr::V6(_) => SocketAddr::from((Ipv6Addr::UNSPECIFIED, 0)),
+    }
 }

@@ -3,22 +3,43 @@ ghost use Rattle.std.specs.Prelude.{◌<◌, ℕ};
 ghost use Rattle.net.specs.Dials.{Dials};
 ghost use Rattle.net.specs.Turns.{IsTriedSoon};
 
-use crate::address::{DialFault, address_of};
+use crate::address::{DialFault, literal, of_round, with_route};
+use crate::lookup::{Lookup, Step, own_addresses};
 use crate::redial::Redial;
 use crate::tcp::TcpSocket;
+use bytetext::Failure;
 use mio::Registry;
+use resolver::{Addresses, is_host_name};
+use std::fs::File;
 use std::marker::Model;
 use std::net::{Net, SocketAddr};
+use std::random::RandomSource;
+use std::rt::Files;
 
 /// Which server of a list is tried next, or is connected, and when the next try is due. Contracts see it as a
 /// `Rattle.net.specs.Dials.Dials`.
-#[derive(Drop)]
 pub struct Dialling {
     servers: usize,
     place: usize,
     round: u64,
     is_good: bool,
     redial: Redial,
+    // The lookup of the name of the server that is tried, while it goes on.
+    lookup: Option<Lookup>,
+}
+
+// By hand, so that this is proved once, and not in each crate in which a dialling ends.
+impl Drop for Dialling {
+    fn drop(self) {
+        let Dialling {
+            servers: _,
+            place: _,
+            round: _,
+            is_good: _,
+            redial: _,
+            lookup: _,
+        } = self;
+    }
 }
 
 impl Model for Dialling {
@@ -38,6 +59,15 @@ impl Model for Dialling {
     ghost invariant = { λ d. d.place < d.servers };
 }
 
+/// The tokens under which a watch names what a [`Dialling`] opens.
+#[derive(Clone, Copy)]
+pub struct DialTokens {
+    /// That of the connection.
+    pub connection: usize,
+    /// That of the socket at which the answers of a name server arrive.
+    pub lookup: usize,
+}
+
 /// A connection that was begun, and its address.
 #[derive(Drop)]
 pub struct Dialled {
@@ -48,10 +78,12 @@ pub struct Dialled {
 }
 
 impl Dialling {
-    ghost use Rattle.std.specs.Prelude.{◌≡◌, ◌≤◌, ◌+◌, ◌↔◌, IsTrue, true, false};
+    ghost use Rattle.std.specs.Prelude.{◌≡◌, ◌<◌, ◌≤◌, ◌+◌, ◌↔◌, IfOk, IfSome, IsSome, IsTrue, true, false, length};
     ghost use Rattle.bytetext.specs.declared.moment.TheConstants.{MOMENTS_END};
     ghost use Rattle.net.specs.declared.redial.TheConstants.{FIRST_WAIT};
     ghost use Rattle.net.specs.Dials.{good, lost};
+    ghost use Rattle.net.specs.Addresses.{LeadsTo};
+    ghost use Rattle.streams.specs.Accounts.{nothing_yet};
 
     /// Creates a `Dialling` over a list of `servers` servers, the first of which is due at once. `number` is the bot's
     /// number, and `most` the longest wait in seconds.
@@ -72,6 +104,7 @@ impl Dialling {
             round: 0,
             is_good: false,
             redial: Redial::new(number, most),
+            lookup: None,
         }
     }
 
@@ -106,7 +139,7 @@ impl Dialling {
     }
 
     /// Records that a try failed at second `now`, or that a connection was lost then. The next server of the list is
-    /// due after the wait.
+    /// due after the wait. A lookup ends.
     pub fn lost(&mut self, now: u64)
         requires { now < MOMENTS_END }
         ensures value { self.new ≡ lost self.old now }
@@ -116,6 +149,7 @@ impl Dialling {
     {
         self.redial.lost(now, self.is_good);
         self.is_good = false;
+        self.lookup = None;
         if self.place + 1 == self.servers {
             self.place = 0;
             self.round = self.round.saturating_add(1);
@@ -124,26 +158,106 @@ impl Dialling {
         }
     }
 
-    /// Begins to connect to `host` and `port`, which are to be those of the server at [`Dialling::place`]. Looks the
-    /// name up if the host is not already an address, and connects to the address of this round. Returns when the
-    /// resolver has answered, before the connection exists. `registry` watches it under `token`.
+    /// Begins to connect to `host` and `port`, which are to be those of the server at [`Dialling::place`]. Returns at
+    /// once, before the connection exists. `registry` watches what is opened under `tokens`.
+    ///
+    /// If `host` is a name, it is looked up in `/etc/hosts`, and then by the name servers that `/etc/resolv.conf` names.
+    /// Returns `Ok(None)` until one of them has answered: call it again when a wait names the lookup's token, and at
+    /// least once a second. `steady` is the second of a clock that never goes back. The connection then goes to the
+    /// address of this round, among those to which the machine has a route.
     ///
     /// # Errors
-    /// `Unreadable`, `Unknown` and `Unreached`, as [`DialFault`] describes them. The try has then failed: call
-    /// [`Dialling::lost`] next.
-    pub fn connect<R: Net>(
-        &self,
+    /// `Refused` with `Unreadable`, `Unknown`, `Unanswered` or `Unreached`, as [`DialFault`] describes them. The try has
+    /// then failed: call [`Dialling::lost`] next. `NoMemory` if a file can't be read for want of memory; nothing has
+    /// changed then. A host that is an address needs no memory, asks nobody and never waits.
+    pub fn connect<R: AllocGlobal + Net + Files<File = File> + RandomSource>(
+        &mut self,
         rt: &R,
         registry: &Registry,
-        token: usize,
+        tokens: DialTokens,
         host: &[u8],
         port: u16,
-    ) -> Result<Dialled, DialFault> {
-        let address = address_of(rt, host, port, self.round)?;
-        match TcpSocket::connect(rt, registry, token, address) {
-            Ok(socket) => Ok(Dialled { socket, address }),
-            Err(_) => Err(DialFault::Unreached),
+        steady: u64,
+    ) -> Result<Option<Dialled>, Failure<DialFault>>
+        ensures unchanged { self.new ≡ self.old }
+        ensures address { LeadsTo host.now port result }
+        // Nothing was given or taken on a connection that begins.
+        ensures fresh { IfOk result (λ found. IfSome found (λ dialled. dialled.socket.account.past ≡ nothing_yet)) }
+    {
+        let address = match literal(host, port) {
+            Some(address) => address,
+            None => {
+                let step = Step {
+                    host,
+                    steady,
+                    registry,
+                    token: tokens.lookup,
+                };
+                match self.look_up(rt, step, port)? {
+                    Some(address) => address,
+                    None => return Ok(None),
+                }
+            }
+        };
+        match TcpSocket::connect(rt, registry, tokens.connection, address) {
+            Ok(socket) => Ok(Some(Dialled { socket, address })),
+            Err(_) => Err(Failure::Refused(DialFault::Unreached)),
         }
+    }
+
+    // Begins or goes on with the lookup of a name. Returns the address of this round once its addresses are known.
+    fn look_up<R: AllocGlobal + Net + Files<File = File> + RandomSource>(
+        &mut self,
+        rt: &R,
+        step: Step<'_>,
+        port: u16,
+    ) -> Result<Option<SocketAddr>, Failure<DialFault>>
+        ensures { self.new ≡ self.old }
+    {
+        let found = match &mut self.lookup {
+            Some(lookup) => lookup.go_on(rt, step),
+            None => return self.begin(rt, step, port),
+        };
+        match found {
+            Ok(Some(addresses)) => {
+                self.lookup = None;
+                Ok(self.choice(rt, addresses, port))
+            }
+            Ok(None) => Ok(None),
+            Err(fault) => {
+                self.lookup = None;
+                Err(Failure::Refused(fault))
+            }
+        }
+    }
+
+    // Looks a name up in this machine's own list, or begins to ask the name servers.
+    fn begin<R: AllocGlobal + Net + Files<File = File> + RandomSource>(
+        &mut self,
+        rt: &R,
+        step: Step<'_>,
+        port: u16,
+    ) -> Result<Option<SocketAddr>, Failure<DialFault>>
+        ensures { self.new ≡ self.old }
+    {
+        if !is_host_name(step.host) {
+            return Err(Failure::Refused(DialFault::Unreadable));
+        }
+        let own = own_addresses(rt, step.host)?;
+        if own.as_slice().is_empty() {
+            self.lookup = Some(Lookup::begin(rt, step)?);
+            return Ok(None);
+        }
+        Ok(self.choice(rt, own, port))
+    }
+
+    // The address of this round among those of a name to which a route leads.
+    fn choice<R: Net>(&self, rt: &R, found: Addresses, port: u16) -> Option<SocketAddr>
+        ensures { 0 < length found → IsSome result }
+    {
+        let reached = with_route(rt, found);
+        let address = of_round(reached.as_slice(), self.round)?;
+        Some(SocketAddr::new(address, port))
     }
 }
 

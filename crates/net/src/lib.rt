@@ -1,5 +1,5 @@
 //! Connections that never block, and when they are made again: sockets, their bounded buffers, the wait for them, the
-//! server to try next, and the seconds of this machine's clocks.
+//! server to try next, the seconds of this machine's clocks, and the log.
 //!
 //! - A [`TcpSocket`] is a connection over TCP, and a [`UnixSocket`] one at a path of this machine; each is a
 //!   [`Stream`](streams::Stream). A [`TcpDoor`] and a [`UnixDoor`] accept connections. A [`Watch`] waits until one of
@@ -8,12 +8,14 @@
 //! - A [`Redial`] decides when a lost connection is tried again.
 //! - A [`Dialling`] decides which server of a list is tried next, at which of its addresses, and when.
 //! - A [`Timeline`] reads the clocks, and its readings never go back.
+//! - A [`Log`] queues lines, and writes them while standard output takes them.
 //!
 //! ```text
 //! let mut watch = Watch::new(&rt, 256)?;
 //! let mut dialling = Dialling::new(0, 300, servers.len());    // bot 0, which waits at most 300 seconds
 //! let server = &servers[dialling.place()];
-//! let dialled = dialling.connect(&rt, watch.registry(), 1, server.host, server.port)?;
+//! let tokens = DialTokens { connection: 1, lookup: 2 };
+//! let dialled = dialling.connect(&rt, watch.registry(), tokens, server.host, server.port, steady)?;    // None: call again
 //! let mut server = Connection::new(alloc, dialled.socket, Bounds { heard: 65_536, unsent: 65_536 });
 //! watch.wait(1_000)?;                                         // at most a second
 //! server.wake();                                              // if a token of the wait names it
@@ -54,8 +56,14 @@
 //!
 //! A [`Dialling`] tries each server of its list before it tries one again. If a server's name has several addresses,
 //! each round through the list tries the next of them, of at most [`MAX_ADDRESSES`]. Only [`Dialling::connect`] looks a
-//! name up, so only when a try is due. The resolver may take its time, and the program blocks meanwhile. A host that is
-//! an address already needs no lookup ([`literal`]).
+//! name up, so only when a try is due. A host that is an address already needs no lookup ([`literal`]).
+//!
+//! # Names
+//!
+//! A lookup never blocks. It reads `/etc/hosts` first. If that file does not have the name, the lookup asks the first
+//! three name servers that `/etc/resolv.conf` names, over UDP: for the addresses of IPv4, and then for those of IPv6. If
+//! a server does not answer within about two seconds, the next one is asked, and each at most three times. A name is
+//! looked up as it stands, so the files' other settings, such as `search`, mean nothing here.
 //!
 //! # Time
 //!
@@ -65,6 +73,19 @@
 //! clock has counted since. So readings never go back, and they don't stop. Each of them is a moment: seconds since
 //! 1970-01-01 UTC, below [`MOMENTS_END`](bytetext::MOMENTS_END). At the last such second the readings stay. If the wall
 //! clock is set ahead, the readings follow it.
+//!
+//! # The log
+//!
+//! A process that printed its log would block once nobody reads the pipe that it prints to, and hear nobody any more. So
+//! [`note`](Log::note) only queues a line, and [`flush`](Log::flush) writes while the system says that standard output
+//! takes bytes. At most [`MAX_LOG_WAITING`] bytes wait. A line that doesn't fit is dropped and counted. Before the next
+//! line that fits, the log says how many were dropped:
+//!
+//! ```text
+//! 1700000000 up at version 7
+//! 1700000060 log: standard output was full, so lines were dropped: 12
+//! 1700000060 ended
+//! ```
 #![tactic(auto)]
 
 mod address;
@@ -72,19 +93,23 @@ mod answer;
 mod connection;
 mod dialling;
 mod door;
+mod log_lines;
 mod logging;
+mod lookup;
 mod redial;
 mod socket;
+mod standard_output;
 mod tcp;
 mod timeline;
 mod unix;
 mod watch;
 
-pub use crate::address::{DialFault, MAX_ADDRESSES, literal};
+pub use crate::address::{DialFault, literal};
 pub use crate::connection::{Bounds, Connection};
-pub use crate::dialling::{Dialled, Dialling, law_of_turns};
+pub use crate::dialling::{DialTokens, Dialled, Dialling, law_of_turns};
 pub use crate::door::DoorFault;
-pub use crate::logging::log;
+pub use crate::log_lines::MAX_LOG_LINE;
+pub use crate::logging::{Log, MAX_LOG_WAITING};
 pub use crate::redial::{FIRST_WAIT, Redial};
 pub use crate::socket::Socket;
 pub use crate::tcp::{TcpDoor, TcpSocket};
@@ -92,3 +117,4 @@ pub use crate::timeline::Timeline;
 pub use crate::unix::{UnixDoor, UnixSocket};
 pub use crate::watch::Watch;
 pub use mio::Registry;
+pub use resolver::MAX_ADDRESSES;

@@ -1,13 +1,12 @@
 // A socket as a stream.
 ghost use Rattle.std.specs.Prelude.{◌≡◌, IfOk};
 ghost use Rattle.streams.specs.Accounts.{nothing_yet};
-ghost use Rattle.net.specs.Sockets.{obstacle_of};
 
 use mio::event::Source;
 use mio::{Interest, Registry, Token};
 use std::io;
-use std::io::{ErrorKind, Read, Write};
-use streams::{Account, Given, Stream, Taken, WriteFault};
+use std::io::{Read, Write};
+use streams::{Account, Given, Obstacle, Stream, Taken, WriteFault, obstacle_of};
 
 /// A connection that never blocks, with an account of what it gave and took. It is a [`TcpSocket`](crate::TcpSocket) or
 /// a [`UnixSocket`](crate::UnixSocket). It is closed when it is dropped.
@@ -80,24 +79,17 @@ impl<S: Read + Write> Stream for Socket<S> {
 
     fn take(&mut self, bytes: &[u8]) -> Taken {
         for _turn in 0..u64::MAX {
-            match self.stream.write(bytes) {
-                Ok(0) => {
-                    self.account.note_taken(Taken::Nothing, bytes);
-                    return Taken::Nothing;
-                }
-                Ok(count) => {
-                    self.account.note_taken(Taken::Bytes(count), bytes);
-                    return Taken::Bytes(count);
-                }
+            let answer = match self.stream.write(bytes) {
+                Ok(0) => Taken::Nothing,
+                Ok(count) => Taken::Bytes(count),
                 Err(error) => match obstacle_of(error.kind()) {
-                    Obstacle::Interruption => {}
-                    Obstacle::Wait => {
-                        self.account.note_taken(Taken::Nothing, bytes);
-                        return Taken::Nothing;
-                    }
-                    Obstacle::Fault => break,
+                    Obstacle::Interruption => continue,
+                    Obstacle::Wait => Taken::Nothing,
+                    Obstacle::Fault => Taken::Fault,
                 },
-            }
+            };
+            self.account.note_taken(answer, bytes);
+            return answer;
         }
         self.account.note_taken(Taken::Fault, bytes);
         Taken::Fault
@@ -110,27 +102,5 @@ impl<S: Read + Write> Stream for Socket<S> {
         };
         self.account.note_flush(answer);
         answer
-    }
-}
-
-// What an error of a socket means for the call that returned it.
-#[derive(Clone, Copy, Debug, PartialEq, Eq)]
-enum Obstacle {
-    // The call was interrupted, and is to be made again.
-    Interruption,
-    // The call would block, or the connection is still being made.
-    Wait,
-    // The connection failed, or was refused.
-    Fault,
-}
-
-// Returns what an error of this kind means.
-fn obstacle_of(kind: ErrorKind) -> Obstacle
-    ensures { result ≡ obstacle_of kind }
-{
-    match kind {
-        ErrorKind::Interrupted => Obstacle::Interruption,
-        ErrorKind::WouldBlock | ErrorKind::NotConnected => Obstacle::Wait,
-        _ => Obstacle::Fault,
     }
 }

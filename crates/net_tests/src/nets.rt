@@ -10,8 +10,8 @@ use disks::MemDisk;
 use procs::{Nobodies, ProcStore};
 use std::alloc::Global;
 
-// Creates the bot of this `number`, in a net of `leaves` leaves. Its nick is egg.
-fn new_bot(alloc: Global, number: u16, leaves: u16) -> Result<Bot<MemDisk>, NoMemory>
+/// Creates the bot of this `number`, in a net of `leaves` leaves. Its nick is egg.
+pub fn new_bot(alloc: Global, number: u16, leaves: u16) -> Result<Bot<MemDisk>, NoMemory>
     ensures { IfOk result (λ bot. bot ≡ new_bot bot.config bot.link.device) }
 {
     let config = Config {

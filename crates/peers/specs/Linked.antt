@@ -1,6 +1,10 @@
--- Whether anybody is connected to a bot: a call allocates only then.
-use Rattle.std.specs.Prelude.{◌≡◌, ◌||◌, ◌==◌, Bool, not, ℕ, length, Option, None, Some, IsTrue, is_some, slice_get}
+-- Whether anybody is connected to a bot, or the bot connects: a call allocates only then.
+use Rattle.std.specs.Prelude.{◌≡◌, ◌≤◌, ◌||◌, ◌==◌, Bool, not, ℕ, List, length, Option, None, Some, IsTrue, is_some, slice_get}
 use Rattle.std.specs.List.{list_any}
+use Rattle.std.specs.declared.net.ip_addr.IpAddr.{IpAddr}
+use Rattle.std.specs.Net.Grammar.{IsIpText}
+use Rattle.settings.specs.declared.settings.Address.{Address}
+use Rattle.peers.specs.declared.hub_connection.HubConnection.{HubConnection}
 use Rattle.peers.specs.declared.hub_links.HubLinks.{HubLinks}
 use Rattle.peers.specs.declared.links.Links.{Links}
 use Rattle.peers.specs.declared.links.Links.TheVariants.{Alone, Hub, Leaf}
@@ -47,8 +51,17 @@ Hears Alone = ⊥
 Hears (Hub hub) = IsTrue (has_somebody hub)
 Hears (Leaf leaf) = IsHeard leaf.hub
 
--- a hub
-abbrev pub IsHub : Links → Type 0
-IsHub Alone = ⊥
-IsHub (Hub hub) = Unit {0}
-IsHub (Leaf leaf) = ⊥
+-- a host that spells no address, so that it has to be looked up
+abbrev pub IsName : List ℕ → Type 0
+IsName host = (ip : IpAddr) → IsIpText host ip → ⊥
+
+-- a connection to the hub is due by this second, and the hub's host has to be looked up first
+abbrev pub LooksUp : HubConnection → Option Address → ℕ → Type 0
+LooksUp leaf None now = ⊥
+LooksUp leaf (Some address) now = (leaf.hub ≡ None) × (leaf.dialling.waits.due ≤ now) × IsName address.host
+
+-- a hub, which accepts, or a leaf that looks its hub up
+abbrev pub MayConnect : Links → Option Address → ℕ → Type 0
+MayConnect Alone address now = ⊥
+MayConnect (Hub hub) address now = Unit {0}
+MayConnect (Leaf leaf) address now = LooksUp leaf address now

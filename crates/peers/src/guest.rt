@@ -1,6 +1,6 @@
 // A connection to the hub that has not shown a code.
 ghost use Rattle.std.specs.Prelude.{◌≡◌, List, ℕ, IfOk};
-ghost use Rattle.peers.specs.Joining.{IsShown};
+ghost use Rattle.peers.specs.Joining.{IsInTime, IsShown};
 
 use crate::gone::Gone;
 use crate::handshake_fault::HandshakeFault;
@@ -13,7 +13,7 @@ use bytetext::NoMemory;
 pub(crate) struct Guest {
     pub(crate) wire: LinkWire,
     pub(crate) side: HubSide,
-    // The second at which it arrived.
+    // The second of the monotonic clock at which it arrived.
     pub(crate) began: u64,
     // Which of the hub's tokens names it.
     pub(crate) slot: usize,
@@ -43,16 +43,17 @@ pub(crate) enum Heeded {
 }
 
 impl Guest {
-    // Reads from the guest at second `now`, and answers it.
-    pub(crate) fn heed(&mut self, now: u64) -> Result<Heeded, NoMemory>
+    // Reads from the guest, and answers it, when the monotonic clock shows second `steady`.
+    pub(crate) fn heed(&mut self, steady: u64) -> Result<Heeded, NoMemory>
         // A guest that is a leaf has shown its code on this connection.
         ensures shown { IfOk result (λ heeded. IsShown self.old.side self.old.wire.connection.heard.items heeded
             self.new.wire.connection.heard.items) }
         ensures side { self.new.side ≡ self.old.side }
+        ensures in_time { IfOk result (IsInTime self.old.began steady) }
     {
         let came = self.wire.connection.read(1)?;
         match self.side.hear(self.wire.connection.heard.as_slice()) {
-            HubHears::More => Ok(self.wait(came, now)),
+            HubHears::More => Ok(self.wait(came, steady)),
             HubHears::Welcome { leaf, used, line } => {
                 let _fits = self.wire.connection.tell(line.as_bytes(), b"")?;
                 self.wire.connection.take_front(used);
@@ -78,12 +79,13 @@ impl Guest {
     }
 
     // The guest has not sent a whole line yet.
-    fn wait(&self, came: bool, now: u64) -> Heeded
-        ensures { (before rest : List ℕ) → IsShown self.now.side before result rest }
+    fn wait(&self, came: bool, steady: u64) -> Heeded
+        ensures shown { (before rest : List ℕ) → IsShown self.now.side before result rest }
+        ensures in_time { IsInTime self.now.began steady result }
     {
         match self.wire.gone() {
             Some(gone) => Heeded::Goes(gone),
-            None if is_late(self.began, now) => {
+            None if is_late(self.began, steady) => {
                 Heeded::Goes(Gone::Handshake(HandshakeFault::TooLate))
             }
             None => Heeded::Waits(came),

@@ -1,7 +1,7 @@
 // A leaf's connection to its hub.
-ghost use Rattle.std.specs.Prelude.{◌≡◌, ◌<◌, ◌↔◌, IsTrue, IfErr, OnOk, OnErr};
+ghost use Rattle.std.specs.Prelude.{◌≡◌, ◌<◌, ◌↔◌, Some, IsTrue, IfErr, OnOk, OnErr};
 ghost use Rattle.sharewire.specs.Frames.{CanBeWritten};
-ghost use Rattle.peers.specs.Linked.{IsHeard, IsLinked};
+ghost use Rattle.peers.specs.Linked.{IsHeard, IsLinked, IsName, LooksUp};
 ghost use Rattle.peers.specs.Tells.{TellsHub};
 ghost use Rattle.bytetext.specs.declared.moment.TheConstants.{MOMENTS_END};
 ghost use Rattle.sharelink.specs.Shapes.{HasGoodRecords};
@@ -16,19 +16,24 @@ use crate::meeting::{Hub, Stage};
 use crate::net_number::NetNumber;
 use crate::nonce::Nonce;
 use crate::pumps::Pumps;
-use bytetext::NoMemory;
-use net::{Dialled, Dialling, Registry, log};
+use bytetext::{Failure, NoMemory};
+use net::{DialTokens, Dialled, Dialling, Log, Registry};
 use settings::Address;
 use sharewire::Packet;
 use std::alloc::Global;
+use std::fs::File;
 use std::net::Net;
 use std::random::RandomSource;
+use std::rt::Files;
 
 /// The longest wait before an attempt to connect, in seconds.
 pub const LONGEST_WAIT: u16 = 30;
 
 // The token under which the connection to the hub is watched.
 const TOKEN: usize = 5;
+
+// The token under which the lookup of the hub's name is watched.
+const LOOKUP: usize = 7;
 
 /// A leaf's connection to its hub, if there is one, and what outlasts a connection.
 pub struct HubConnection {
@@ -41,6 +46,8 @@ pub struct HubConnection {
     pub(crate) inbox: Inbox,
     /// When the leaf is to say hello.
     pub pumps: Pumps,
+    // The second of this turn by the monotonic clock.
+    steady: u64,
 }
 
 // Written by hand, so that the drop is proved once, and not in each function that drops one.
@@ -54,6 +61,7 @@ impl Drop for HubConnection {
             hub: _,
             inbox: _,
             pumps: _,
+            steady: _,
         } = self;
     }
 }
@@ -78,48 +86,85 @@ impl HubConnection {
             hub: None,
             inbox: Inbox::new(alloc, 1)?,
             pumps: Pumps::new(),
+            steady: 0,
         })
     }
 
-    /// Notes that the connection may have something to read, if `token` names it.
-    pub fn wake(&mut self, token: usize) {
-        if let (TOKEN, Some(hub)) = (token, &mut self.hub) {
-            hub.wire.connection.wake();
+    /// Begins a turn at second `steady` of the monotonic clock, by which the handshake's time limit is measured. Notes
+    /// that the connection may have something to read if `tokens`, those of a wait, name it.
+    pub fn wake(&mut self, tokens: &[usize], steady: u64)
+        ensures steady { self.new.steady ≡ steady }
+    {
+        self.steady = steady;
+        if let Some(hub) = &mut self.hub {
+            if tokens.contains(&TOKEN) {
+                hub.wire.connection.wake();
+            }
         }
     }
 
-    /// Begins to connect to the hub at `address` if there is no connection and an attempt is due at second `now`.
-    /// `registry` watches the connection. Returns whether one began.
-    pub fn connect<R: AllocGlobal + Net + Print + RandomSource>(
+    /// Begins to connect to the hub at `address` if there is no connection and an attempt is due at second `now`. Returns
+    /// whether a connection began.
+    ///
+    /// While the hub's name is looked up, no connection begins, and the attempt stays due: call this in each turn. `log`
+    /// shows an attempt that begins or cannot begin; after the latter the next one is due after a wait. `registry`
+    /// watches the connection under the token 5 and the lookup under the token 7, which nothing else may use.
+    ///
+    /// # Errors
+    /// `NoMemory` if an allocation fails: never if there is a connection, if no attempt is due, or if the host is an
+    /// address. The attempt stays due.
+    pub fn connect<R: AllocGlobal + Net + Files<File = File> + RandomSource>(
         &mut self,
         rt: &R,
+        log: &mut Log,
         registry: &Registry,
         address: &Address,
         now: u64,
-    ) -> bool
+    ) -> Result<bool, NoMemory>
         requires moment { now < MOMENTS_END }
+        ensures memory { IfErr result (λ _. LooksUp self.old (Some address.now) now) }
+        ensures stays { OnErr result (self.new.dialling ≡ self.old.dialling) }
     {
         if self.hub.is_some() || !self.dialling.is_due(now) {
-            return false;
+            return Ok(false);
         }
+        self.dial(rt, log, registry, address, now)
+    }
+
+    // Connects to the hub, which is due.
+    fn dial<R: AllocGlobal + Net + Files<File = File> + RandomSource>(
+        &mut self,
+        rt: &R,
+        log: &mut Log,
+        registry: &Registry,
+        address: &Address,
+        now: u64,
+    ) -> Result<bool, NoMemory>
+        requires moment { now < MOMENTS_END }
+        ensures name { IfErr result (λ _. IsName address.now.host) }
+        ensures stays { OnErr result (self.new.dialling ≡ self.old.dialling) }
+    {
         let host = address.host.as_bytes();
+        let port = address.port;
+        let tokens = DialTokens {
+            connection: TOKEN,
+            lookup: LOOKUP,
+        };
         match self
             .dialling
-            .connect(rt, registry, TOKEN, host, address.port)
+            .connect(rt, registry, tokens, host, port, self.steady)
         {
-            Ok(dialled) => {
-                log(rt, now, &Entry::Dialled(host, dialled.address));
-                self.begin(rt, dialled, now)
+            Ok(Some(dialled)) => {
+                log.note(now, &Entry::Dialled(host, dialled.address));
+                Ok(self.begin(rt, dialled, now))
             }
-            Err(fault) => {
+            Ok(None) => Ok(false),
+            Err(Failure::Refused(fault)) => {
                 self.dialling.lost(now);
-                log(
-                    rt,
-                    now,
-                    &Entry::NotDialled(host, fault, self.dialling.due()),
-                );
-                false
+                log.note(now, &Entry::NotDialled(host, fault, self.dialling.due()));
+                Ok(false)
             }
+            Err(Failure::NoMemory) => Err(NoMemory),
         }
     }
 
@@ -134,7 +179,7 @@ impl HubConnection {
         let Dialled { socket, address: _ } = dialled;
         let wire = LinkWire::new(rt.alloc(), socket);
         let side = LeafSide::new(self.key, self.leaf, self.net, nonce);
-        self.hub = Some(Hub::new(rt.alloc(), wire, side, now));
+        self.hub = Some(Hub::new(rt.alloc(), wire, side, self.steady));
         true
     }
 
@@ -143,17 +188,23 @@ impl HubConnection {
     /// # Errors
     /// `NoMemory` if an allocation fails: never without a connection, nor while the leaf has still to save the number
     /// of the hub's net.
-    pub fn read<R: AllocGlobal + Print>(&mut self, rt: &R, now: u64) -> Result<bool, NoMemory>
+    pub fn read<R: AllocGlobal>(
+        &mut self,
+        rt: &R,
+        log: &mut Log,
+        now: u64,
+    ) -> Result<bool, NoMemory>
         ensures memory { IfErr result (λ _. IsHeard self.old.hub) }
     {
         let net = self.net;
+        let steady = self.steady;
         let Some(hub) = &mut self.hub else {
             return Ok(false);
         };
         match hub.stage {
             Stage::Meets => {
-                let came = hub.meet(now)?;
-                self.join(rt, net.is_some(), now);
+                let came = hub.meet(steady)?;
+                self.join(log, net.is_some(), now);
                 Ok(came)
             }
             Stage::Knows(_) => Ok(false),
@@ -162,9 +213,9 @@ impl HubConnection {
     }
 
     // Links the hub if it has just shown its code, and the leaf keeps the number of its net already.
-    fn join<R: Print>(&mut self, rt: &R, keeps: bool, now: u64) {
+    fn join(&mut self, log: &mut Log, keeps: bool, now: u64) {
         if keeps && self.found().is_some() {
-            self.link(rt, now);
+            self.link(log, now);
         }
     }
 
@@ -189,19 +240,19 @@ impl HubConnection {
     }
 
     /// Notes that `net`, the number of the hub's net, is saved. The hub is linked at second `now`.
-    pub fn keep<R: Print>(&mut self, rt: &R, net: NetNumber, now: u64) {
+    pub fn keep(&mut self, log: &mut Log, net: NetNumber, now: u64) {
         self.net = Some(net);
-        self.link(rt, now);
+        self.link(log, now);
     }
 
     // Links the hub: the connection was a good one, and a hello is due.
-    fn link<R: Print>(&mut self, rt: &R, now: u64) {
+    fn link(&mut self, log: &mut Log, now: u64) {
         if let Some(hub) = &mut self.hub {
             hub.stage = Stage::Linked;
         }
         self.dialling.good();
         self.pumps.go_on();
-        log(rt, now, &Entry::Linked);
+        log.note(now, &Entry::Linked);
     }
 
     // Reads from the hub, unless packets of it wait. Returns whether there may be more at once.
@@ -267,11 +318,11 @@ impl HubConnection {
     }
 
     /// Disconnects the hub at second `now`, if its connection is over.
-    pub fn let_go<R: Print>(&mut self, rt: &R, now: u64)
+    pub fn let_go(&mut self, log: &mut Log, now: u64)
         requires moment { now < MOMENTS_END }
     {
         if let Some(gone) = self.gone() {
-            self.lose(rt, gone, now);
+            self.lose(log, gone, now);
         }
     }
 
@@ -282,7 +333,7 @@ impl HubConnection {
         }
     }
 
-    fn lose<R: Print>(&mut self, rt: &R, gone: Gone, now: u64)
+    fn lose(&mut self, log: &mut Log, gone: Gone, now: u64)
         requires moment { now < MOMENTS_END }
     {
         self.hub = None;
@@ -290,6 +341,6 @@ impl HubConnection {
             self.inbox.forget(0);
         }
         self.dialling.lost(now);
-        log(rt, now, &Entry::HubGone(gone, self.dialling.due()));
+        log.note(now, &Entry::HubGone(gone, self.dialling.due()));
     }
 }

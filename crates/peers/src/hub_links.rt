@@ -17,7 +17,7 @@ use crate::net_number::NetNumber;
 use crate::nonce::Nonce;
 use crate::seat::Seat;
 use bytetext::NoMemory;
-use net::{DoorFault, Registry, TcpDoor, TcpSocket, log};
+use net::{DoorFault, Log, Registry, TcpDoor, TcpSocket};
 use sharewire::Packet;
 use std::alloc::Global;
 use std::net::{Net, SocketAddr};
@@ -52,6 +52,8 @@ pub struct HubLinks {
     pub(crate) inbox: Inbox,
     // The last second at which a guest was logged.
     pub(crate) told: u64,
+    // The second of this turn by the monotonic clock.
+    pub(crate) steady: u64,
 }
 
 // Written by hand, so that the drop is proved once, and not in each function that drops one.
@@ -67,6 +69,7 @@ impl Drop for HubLinks {
             slots: _,
             inbox: _,
             told: _,
+            steady: _,
         } = self;
     }
 }
@@ -116,13 +119,26 @@ impl HubLinks {
                 slots,
                 inbox,
                 told: 0,
+                steady: 0,
             }),
             Err(fault) => Err(ListenFault::Door(fault)),
         }
     }
 
-    /// Notes that the connection that the token of `slot` names may have something to read.
-    pub fn wake(&mut self, slot: usize) {
+    /// Begins a turn at second `steady` of the monotonic clock, by which the time limit of a handshake is measured. Notes
+    /// that the connections that `tokens`, those of a wait, name may have something to read.
+    pub fn wake(&mut self, tokens: &[usize], steady: u64)
+        ensures steady { self.new.steady ≡ steady }
+    {
+        for token in tokens {
+            if *token >= FIRST_TOKEN {
+                self.wake_slot(*token - FIRST_TOKEN);
+            }
+        }
+        self.steady = steady;
+    }
+
+    fn wake_slot(&mut self, slot: usize) {
         let Some(Some(who)) = self.slots.get(slot) else {
             return;
         };
@@ -149,9 +165,10 @@ impl HubLinks {
     ///
     /// # Errors
     /// `NoMemory` if an allocation fails.
-    pub fn let_in<R: AllocGlobal + Net + Print + RandomSource>(
+    pub fn let_in<R: AllocGlobal + Net + RandomSource>(
         &mut self,
         rt: &R,
+        log: &mut Log,
         registry: &Registry,
         now: u64,
     ) -> Result<(), NoMemory> {
@@ -162,8 +179,8 @@ impl HubLinks {
             let Some(socket) = self.door.let_in(registry, FIRST_TOKEN.saturating_add(slot)) else {
                 return Ok(());
             };
-            self.make_way(rt, now);
-            self.greet(rt, socket, slot, now)?;
+            self.make_way(log, now);
+            self.greet(rt, socket, slot)?;
         }
         Ok(())
     }
@@ -174,7 +191,6 @@ impl HubLinks {
         rt: &R,
         socket: TcpSocket,
         slot: usize,
-        now: u64,
     ) -> Result<(), NoMemory> {
         let Ok(nonce) = Nonce::draw(rt) else {
             return Ok(());
@@ -190,7 +206,7 @@ impl HubLinks {
         self.guests.push(Guest {
             wire,
             side,
-            began: now,
+            began: self.steady,
             slot,
         })?;
         self.name(slot, Some(Who::Guest));
@@ -198,15 +214,15 @@ impl HubLinks {
     }
 
     // Disconnects the oldest guest if there is no room for another.
-    fn make_way<R: Print>(&mut self, rt: &R, now: u64) {
+    fn make_way(&mut self, log: &mut Log, now: u64) {
         if self.guests.len() >= MAX_GUESTS {
-            self.drop_guest(rt, 0, Gone::Crowded, now);
+            self.drop_guest(log, 0, Gone::Crowded, now);
         }
     }
 
     // Disconnects the guest at `place`. At most one a second is logged, so that nobody can fill the log; but each guest
     // that knows the secret and belongs to another net is logged.
-    pub(crate) fn drop_guest<R: Print>(&mut self, rt: &R, place: usize, gone: Gone, now: u64) {
+    pub(crate) fn drop_guest(&mut self, log: &mut Log, place: usize, gone: Gone, now: u64) {
         if place >= self.guests.len() {
             return;
         }
@@ -214,7 +230,7 @@ impl HubLinks {
         self.name(guest.slot, None);
         if self.told != now || gone.is_of_other_net() {
             self.told = now;
-            log(rt, now, &Entry::GuestGone(gone));
+            log.note(now, &Entry::GuestGone(gone));
         }
     }
 

@@ -16,13 +16,13 @@
 //!   round from stream to stream.
 //!
 //! ```text
-//! links.wake(watch.tokens());
-//! links.connect(rt, registry, settings, now)?;
-//! links.read(rt, now)?;
+//! links.wake(watch.tokens(), steady);            // each turn, at the monotonic clock's second steady
+//! links.connect(rt, log, registry, settings, now)?;
+//! links.read(rt, log, now)?;
 //! let packets = links.take_packets(alloc)?;      // for take_turn
 //! links.tell(alloc, &outgoing)?;                 // each of the turn's packets; one whose peer is not linked is lost
 //! links.send();
-//! links.let_go(rt, now);
+//! links.let_go(log, now);
 //! ```
 //!
 //! A lost packet does no harm: after a leaf's next hello the hub sends what it lacks. No contract can state what a
@@ -56,8 +56,8 @@
 //!
 //! The caller passes [`HubSide`] and [`LeafSide`] all bytes that were read and not used. They return what to do: read
 //! more, send a line, or disconnect with a [`HandshakeFault`]. The bytes after a side's last line are its first frames,
-//! which the caller reads. The caller also watches the time: [`is_late`] decides from two readings of a clock whether
-//! to wait any longer. The handshake allocates nothing.
+//! which the caller reads. The caller also watches the time: [`is_late`] decides from two readings of the monotonic
+//! clock whether to wait any longer. The handshake allocates nothing.
 //!
 //! The handshake shows who connects, once. It encrypts nothing, and anyone who can write into the connection can write
 //! frames.

@@ -4,7 +4,7 @@ ghost use Rattle.std.specs.List.{AllByRecursion};
 ghost use Rattle.bytetext.specs.declared.moment.TheConstants.{MOMENTS_END};
 ghost use Rattle.sharewire.specs.Frames.{CanBeWritten};
 ghost use Rattle.peers.specs.Hellos.{asked, noted, pumps_of};
-ghost use Rattle.peers.specs.Linked.{Hears, IsHub, Reaches};
+ghost use Rattle.peers.specs.Linked.{Hears, MayConnect, Reaches};
 ghost use Rattle.peers.specs.Tells.{TakesPackets, TellsOne};
 ghost use Rattle.peers.specs.declared.links.Links.TheVariants.{Alone};
 ghost use Rattle.sharelink.specs.Shapes.{HasGoodRecords};
@@ -13,13 +13,15 @@ use crate::hub_connection::HubConnection;
 use crate::hub_links::HubLinks;
 use crate::net_number::NetNumber;
 use bytetext::NoMemory;
-use net::Registry;
+use net::{Log, Registry};
 use settings::Settings;
 use sharelink::{LinkNote, Outgoing};
 use sharewire::Packet;
 use std::alloc::Global;
+use std::fs::File;
 use std::net::Net;
 use std::random::RandomSource;
+use std::rt::Files;
 
 /// The first token of a hub's connections. A leaf's connection and both doors have lower tokens.
 pub const FIRST_TOKEN: usize = 16;
@@ -46,49 +48,41 @@ impl Drop for Links {
 }
 
 impl Links {
-    /// Notes that the connections that `tokens` name may have something to read.
-    pub fn wake(&mut self, tokens: &[usize]) {
-        for token in tokens {
-            self.wake_one(*token);
-        }
-    }
-
-    fn wake_one(&mut self, token: usize) {
+    /// Begins a turn at second `steady` of the monotonic clock, by which the time limit of a handshake is measured. Notes
+    /// that the connections that `tokens`, those of a wait, name may have something to read.
+    pub fn wake(&mut self, tokens: &[usize], steady: u64) {
         match self {
             Links::Alone => {}
-            Links::Hub(hub) => {
-                if token >= FIRST_TOKEN {
-                    hub.wake(token - FIRST_TOKEN);
-                }
-            }
-            Links::Leaf(leaf) => leaf.wake(token),
+            Links::Hub(hub) => hub.wake(tokens, steady),
+            Links::Leaf(leaf) => leaf.wake(tokens, steady),
         }
     }
 
     /// At a hub, accepts the connections that wait. At a leaf, begins to connect to the hub that `settings` name, if
-    /// the connection is lost and an attempt is due at second `now`. `registry` watches the connections. Returns
-    /// whether a connection to the hub began.
+    /// the connection is lost and an attempt is due at second `now`; while the hub's name is looked up, the attempt
+    /// stays due. `registry` watches the connections. Returns whether a connection to the hub began.
     ///
     /// # Errors
-    /// `NoMemory` if an allocation fails: only at a hub.
-    pub fn connect<R: AllocGlobal + Net + Print + RandomSource>(
+    /// `NoMemory` if an allocation fails: only at a hub, and at a leaf that looks its hub's name up.
+    pub fn connect<R: AllocGlobal + Net + Files<File = File> + RandomSource>(
         &mut self,
         rt: &R,
+        log: &mut Log,
         registry: &Registry,
         settings: &Settings,
         now: u64,
     ) -> Result<bool, NoMemory>
         requires moment { now < MOMENTS_END }
-        ensures memory { IfErr result (λ _. IsHub self.old) }
+        ensures memory { IfErr result (λ _. MayConnect self.old settings.now.hub now) }
     {
         match self {
             Links::Alone => Ok(false),
             Links::Hub(hub) => {
-                hub.let_in(rt, registry, now)?;
+                hub.let_in(rt, log, registry, now)?;
                 Ok(false)
             }
             Links::Leaf(leaf) => match &settings.hub {
-                Some(address) => Ok(leaf.connect(rt, registry, address, now)),
+                Some(address) => leaf.connect(rt, log, registry, address, now),
                 None => Ok(false),
             },
         }
@@ -98,13 +92,18 @@ impl Links {
     ///
     /// # Errors
     /// `NoMemory` if an allocation fails: never for a bot that is alone, nor if nobody is connected.
-    pub fn read<R: AllocGlobal + Print>(&mut self, rt: &R, now: u64) -> Result<bool, NoMemory>
+    pub fn read<R: AllocGlobal>(
+        &mut self,
+        rt: &R,
+        log: &mut Log,
+        now: u64,
+    ) -> Result<bool, NoMemory>
         ensures memory { IfErr result (λ _. Hears self.old) }
     {
         match self {
             Links::Alone => Ok(false),
-            Links::Hub(hub) => hub.read(rt, now),
-            Links::Leaf(leaf) => leaf.read(rt, now),
+            Links::Hub(hub) => hub.read(rt, log, now),
+            Links::Leaf(leaf) => leaf.read(rt, log, now),
         }
     }
 
@@ -191,13 +190,13 @@ impl Links {
     }
 
     /// Closes each connection that is over, at second `now`.
-    pub fn let_go<R: Print>(&mut self, rt: &R, now: u64)
+    pub fn let_go(&mut self, log: &mut Log, now: u64)
         requires moment { now < MOMENTS_END }
     {
         match self {
             Links::Alone => {}
-            Links::Hub(hub) => hub.let_go(rt, now),
-            Links::Leaf(leaf) => leaf.let_go(rt, now),
+            Links::Hub(hub) => hub.let_go(log, now),
+            Links::Leaf(leaf) => leaf.let_go(log, now),
         }
     }
 
@@ -211,10 +210,10 @@ impl Links {
     }
 
     /// Notes that `net`, the number of the hub's net, is saved. The hub is linked at second `now`.
-    pub fn keep<R: Print>(&mut self, rt: &R, net: NetNumber, now: u64) {
+    pub fn keep(&mut self, log: &mut Log, net: NetNumber, now: u64) {
         match self {
             Links::Alone | Links::Hub(_) => {}
-            Links::Leaf(leaf) => leaf.keep(rt, net, now),
+            Links::Leaf(leaf) => leaf.keep(log, net, now),
         }
     }
 }

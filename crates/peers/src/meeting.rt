@@ -34,7 +34,7 @@ pub(crate) struct Hub {
     side: LeafSide,
     reader: FrameReader,
     pub(crate) stage: Stage,
-    // The second at which the connection began.
+    // The second of the monotonic clock at which the connection began.
     began: u64,
 }
 
@@ -52,22 +52,23 @@ impl Drop for Hub {
 }
 
 impl Hub {
-    // A connection that begins at second `now`. Allocates nothing.
-    pub(crate) fn new(alloc: Global, wire: LinkWire, side: LeafSide, now: u64) -> Hub {
+    // A connection that begins when the monotonic clock shows second `steady`. Allocates nothing.
+    pub(crate) fn new(alloc: Global, wire: LinkWire, side: LeafSide, steady: u64) -> Hub {
         Hub {
             wire,
             side,
             reader: FrameReader::new(alloc),
             stage: Stage::Meets,
-            began: now,
+            began: steady,
         }
     }
 
-    // Reads from the hub before its first frame, and answers it. Returns whether a byte arrived.
-    pub(crate) fn meet(&mut self, now: u64) -> Result<bool, NoMemory> {
+    // Reads from the hub before its first frame, and answers it, when the monotonic clock shows second `steady`. Returns
+    // whether a byte arrived.
+    pub(crate) fn meet(&mut self, steady: u64) -> Result<bool, NoMemory> {
         let came = self.wire.connection.read(1)?;
         for _line in 0..2 {
-            if !self.meet_line(now)? {
+            if !self.meet_line(steady)? {
                 break;
             }
         }
@@ -75,10 +76,10 @@ impl Hub {
     }
 
     // Reads a line of the hub's. Returns whether there may be another.
-    fn meet_line(&mut self, now: u64) -> Result<bool, NoMemory> {
+    fn meet_line(&mut self, steady: u64) -> Result<bool, NoMemory> {
         match self.side.hear(self.wire.connection.heard.as_slice()) {
             LeafHears::More => {
-                if is_late(self.began, now) {
+                if is_late(self.began, steady) {
                     self.wire.end(Gone::Handshake(HandshakeFault::TooLate));
                 }
                 Ok(false)

@@ -3,7 +3,7 @@
 //! - [`put_records`] adds a bot's version and records as a transcript has them. A caller that prints other lines beside
 //!   these uses the same functions: [`put`] adds bytes, [`put_number`] a number, and [`put_counted`] a word with a
 //!   number.
-//! - [`pieces_of`] and [`rest_of`] cut a line into words; [`number`] and [`bot_number`] read a number.
+//! - [`pieces_of`], [`first_word`] and [`rest_of`] cut a line into words; [`number`] and [`bot_number`] read a number.
 //! - [`change_of`] reads a change from the words of a line, and [`change_named`] one whose name was read already.
 //!
 //! ```text
@@ -50,7 +50,7 @@ mod shows;
 
 pub use crate::asking::{change_named, change_of};
 pub use crate::numeral::{bot_number, number};
-pub use crate::pieces::pieces_of;
+pub use crate::pieces::{first_word, pieces_of};
 pub use crate::print::{put, put_counted, put_number};
 pub use crate::rest::rest_of;
 pub use crate::shows::put_records;

@@ -17,8 +17,8 @@ pub fn pieces_of(alloc: Global, bytes: &[u8], separator: u8) -> Result<Vec<&[u8]
     Ok(pieces)
 }
 
-// The first word of a line, and the rest of the line after its space, if it has one. Never allocates.
-pub(crate) fn first_word(line: &[u8]) -> (&[u8], Option<&[u8]>)
+/// Returns the first word of `line`, and the rest of the line after its space, if it has one. Never allocates.
+pub fn first_word(line: &[u8]) -> (&[u8], Option<&[u8]>)
     ensures { words_of line.now ≡ result.0.now ∷ words_in (option_copied result.1) }
 {
     match first_space(line) {

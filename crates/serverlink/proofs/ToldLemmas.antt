@@ -1,9 +1,10 @@
--- What a connection was told are lines, whatever its wire does.
-use Rattle.std.proofs.Common.{◌≡◌, ◌++◌, ◌∷◌, ◌∙◌, ℕ, Bool, true, false, List, [], Result, Ok, Err, refl, ap, sym, append-nil, if◌then◌else◌}
+-- What a connection was told are lines, whatever its stream does.
+use Rattle.std.proofs.Common.{◌≡◌, ◌++◌, ◌∷◌, ◌∙◌, ℕ, Bool, true, false, List, [], Result, Ok, Err, IfOk, OnErr, ap, sym, append-nil, append_assoc, if◌then◌else◌}
 use Rattle.std.proofs.lemmas.List.Concat.{flat_map-append}
 use Rattle.std.specs.List.{AllByRecursion, flat_map}
-use Rattle.streams.specs.State.{Source, Sink}
-use Rattle.net.specs.Connections.{Ledger, Holds, Talk, begun, more_handed, more_told, told_bytes, with_bytes}
+use Rattle.streams.specs.State.{Sink}
+use Rattle.streams.specs.declared.stream.Given.{Given}
+use Rattle.net.specs.Connections.{HearsAll, Reads, ReadsFewer, Talk, told_bytes, with_bytes}
 use Rattle.serverlink.specs.Told.{TellsLines, IsLine, ended}
 use Rattle.serverlink.specs.Talks.{told as told_talk}
 use Rattle.serverlink.specs.declared.server_wire.TheConstants.{MOST}
@@ -19,71 +20,51 @@ told_more lines line = flat_map-append ended lines (line ∷ []) ∙ ap (λ last
 
 -- ---- a connection that begins, and what it does then
 
-pub tells_begun : (source new_source : Source) (sink new_sink : Sink) (heard unsent : List ℕ)
-    → Holds (begun source sink) new_source new_sink heard unsent → TellsLines new_source new_sink heard unsent
-tells_begun source new_source sink new_sink heard unsent holds = record {
-  ledger = begun source sink;
-  lines = [];
-  each = tt;
-  told = refl;
-  holds = holds;
-}
+-- over a stream that has taken nothing
+pub tells_begun : (sink : Sink) → sink.past.taken ≡ [] → TellsLines sink []
+tells_begun sink fresh = record { lines = []; each = tt; told = append-nil sink.past.taken ∙ fresh }
 
--- it neither hands on nor is told
-pub tells_on : (source new_source : Source) (sink new_sink : Sink) (heard new_heard unsent new_unsent : List ℕ)
-    → TellsLines source sink heard unsent
-    → ((ledger : Ledger) → Holds ledger source sink heard unsent → Holds ledger new_source new_sink new_heard new_unsent)
-    → TellsLines new_source new_sink new_heard new_unsent
-tells_on source new_source sink new_sink heard new_heard unsent new_unsent tells keeps = record {
-  ledger = tells.ledger;
-  lines = tells.lines;
-  each = tells.each;
-  told = tells.told;
-  holds = keeps tells.ledger tells.holds;
-}
+-- the same bytes were taken or are unsent
+tells_same : (sink new_sink : Sink) (unsent new_unsent : List ℕ) → TellsLines sink unsent
+    → new_sink.past.taken ++ new_unsent ≡ sink.past.taken ++ unsent → TellsLines new_sink new_unsent
+tells_same sink new_sink unsent new_unsent tells same = record { lines = tells.lines; each = tells.each; told = same ∙ tells.told }
 
--- it hands bytes on
-pub tells_handed : (source new_source : Source) (sink new_sink : Sink) (heard new_heard unsent new_unsent bytes : List ℕ)
-    → TellsLines source sink heard unsent
-    → ((ledger : Ledger) → Holds ledger source sink heard unsent → Holds (more_handed ledger bytes) new_source new_sink new_heard new_unsent)
-    → TellsLines new_source new_sink new_heard new_unsent
-tells_handed source new_source sink new_sink heard new_heard unsent new_unsent bytes tells keeps = record {
-  ledger = more_handed tells.ledger bytes;
-  lines = tells.lines;
-  each = tells.each;
-  told = tells.told;
-  holds = keeps tells.ledger tells.holds;
-}
+-- reads of a stream leave alone what it takes, and what is unsent
+heard_keeps : (most : ℕ) (answers : List Given) (old new : Talk) → HearsAll most answers old new → (new.sink ≡ old.sink) × (new.unsent ≡ old.unsent)
+heard_keeps most [] old new is = (ap (λ talk. talk.sink) is, ap (λ talk. talk.unsent) is)
+heard_keeps most (answer ∷ answers) old new heard =
+    let rest : (new.sink ≡ heard.1.0.sink) × (new.unsent ≡ heard.1.0.unsent) = heard_keeps most answers heard.1.0 new heard.1.1.1 in
+    (rest.0 ∙ heard.1.1.0.sink, rest.1 ∙ heard.1.1.0.unsent)
+
+tells_heard : (most : ℕ) (answers : List Given) (old new : Talk) → HearsAll most answers old new
+    → TellsLines old.sink old.unsent → TellsLines new.sink new.unsent
+tells_heard most answers old new heard tells =
+    let kept : (new.sink ≡ old.sink) × (new.unsent ≡ old.unsent) = heard_keeps most answers old new heard in
+    tells_same old.sink new.sink old.unsent new.unsent tells
+    (ap (λ sink. sink.past.taken ++ new.unsent) kept.0 ∙ ap (λ unsent. old.sink.past.taken ++ unsent) kept.1)
+
+pub tells_read : {E : Type 0} (pieces most : ℕ) (old new : Talk) (result : Result Bool E)
+    → IfOk result (λ came. Reads pieces most old came new) → OnErr result (ReadsFewer pieces most old new)
+    → TellsLines old.sink old.unsent → TellsLines new.sink new.unsent
+tells_read pieces most old new (Ok came) reads fewer tells = tells_heard most reads.answers old new reads.heard tells
+tells_read pieces most old new (Err error) reads fewer tells = tells_heard most fewer.answers old new fewer.heard tells
 
 -- it is told a line, or has no room for it
-pub tells_told : {E : Type 0} (source new_source : Source) (sink new_sink : Sink) (heard new_heard unsent new_unsent line bytes : List ℕ)
-    (result : Result Bool E) → bytes ≡ ended line → IsLine line
-    → TellsLines source sink heard unsent
-    → ((ledger : Ledger) → Holds ledger source sink heard unsent
-    → Holds (more_told ledger (told_bytes result bytes)) new_source new_sink new_heard new_unsent)
-    → TellsLines new_source new_sink new_heard new_unsent
-tells_told source new_source sink new_sink heard new_heard unsent new_unsent line bytes (Ok true) is_ended is tells keeps = record {
-  ledger = more_told tells.ledger bytes;
+pub tells_told : {E : Type 0} (sink new_sink : Sink) (unsent new_unsent line : List ℕ) (result : Result Bool E) → IsLine line
+    → TellsLines sink unsent → new_sink ≡ sink → new_unsent ≡ unsent ++ told_bytes result (ended line) → TellsLines new_sink new_unsent
+tells_told sink new_sink unsent new_unsent line (Ok true) is tells same more = record {
   lines = tells.lines ++ line ∷ [];
   each = each_more tells.lines line tells.each is;
-  told = ap (λ before. before ++ bytes) tells.told ∙ ap (λ last. flat_map ended tells.lines ++ last) is_ended
+  told = ap (λ sink. sink.past.taken ++ new_unsent) same ∙ ap (λ unsent. sink.past.taken ++ unsent) more
+      ∙ sym (append_assoc sink.past.taken unsent (ended line)) ∙ ap (λ before. before ++ ended line) tells.told
       ∙ sym (told_more tells.lines line);
-  holds = keeps tells.ledger tells.holds;
 }
-tells_told source new_source sink new_sink heard new_heard unsent new_unsent line bytes (Ok false) is_ended is tells keeps = record {
-  ledger = more_told tells.ledger [];
-  lines = tells.lines;
-  each = tells.each;
-  told = append-nil tells.ledger.told ∙ tells.told;
-  holds = keeps tells.ledger tells.holds;
-}
-tells_told source new_source sink new_sink heard new_heard unsent new_unsent line bytes (Err error) is_ended is tells keeps = record {
-  ledger = more_told tells.ledger [];
-  lines = tells.lines;
-  each = tells.each;
-  told = append-nil tells.ledger.told ∙ tells.told;
-  holds = keeps tells.ledger tells.holds;
-}
+tells_told sink new_sink unsent new_unsent line (Ok false) is tells same more =
+    tells_same sink new_sink unsent new_unsent tells
+    (ap (λ sink. sink.past.taken ++ new_unsent) same ∙ ap (λ unsent. sink.past.taken ++ unsent) (more ∙ append-nil unsent))
+tells_told sink new_sink unsent new_unsent line (Err error) is tells same more =
+    tells_same sink new_sink unsent new_unsent tells
+    (ap (λ sink. sink.past.taken ++ new_unsent) same ∙ ap (λ unsent. sink.past.taken ++ unsent) (more ∙ append-nil unsent))
 
 -- ---- what a call did
 

@@ -1,6 +1,7 @@
 -- What a message means for a bot's registration and its channels.
 use Rattle.std.specs.Prelude.{ℕ, ◌==◌, ◌&&◌, ◌||◌, Bool, false, List, [], length, slice_get, slice_index, unwrap_or, if◌then◌else◌, codes, Option, None, Some}
 use Rattle.rfccase.specs.Casemapping.{is_same}
+use Rattle.rfccase.specs.Channels.{is_channel_name}
 use Rattle.ircline.specs.declared.line.Line.{Line}
 use Rattle.ircline.specs.declared.line.Line.TheVariants.{Message as a_message, Bad as a_bad_line}
 use Rattle.ircline.specs.declared.message.Message.{Message}
@@ -34,22 +35,26 @@ is_numeric_fault command = length command == 3 && (slice_index command 0 == 52 |
 abbrev pub other_cue : List ℕ → Cue
 other_cue command =
     if is_command (codes "005") command then Supports
-    else if is_command (codes "471") command || is_command (codes "473") command || is_command (codes "474") command
-    || is_command (codes "475") command then Barred
+    else if is_command (codes "405") command || is_command (codes "471") command || is_command (codes "473") command
+    || is_command (codes "474") command || is_command (codes "475") command || is_command (codes "477") command then Barred
     else if is_numeric_fault command then Refused
     else Nothing
 
--- a bot whose nick somebody else has asks for another one by itself (433)
-abbrev pub cue_by : Numeric → List ℕ → Cue
-cue_by Welcome command = Welcomed
-cue_by ErroneousNickname command = NickRefused
-cue_by NicknameInUse command = Refused
-cue_by NickCollision command = NickRefused
-cue_by UnavailableResource command = NickRefused
-cue_by Other command = other_cue command
+-- what cannot be had for a while: a channel, or a nick, since no nick is the name of a channel
+abbrev pub unavailable : List ℕ → Cue
+unavailable name = if is_channel_name name then Barred else NickRefused
 
-abbrev pub numeric_cue : List ℕ → Cue
-numeric_cue command = cue_by (numeric_of command) command
+-- a bot whose nick somebody else has asks for another one by itself (433)
+abbrev pub cue_by : Numeric → Message → Cue
+cue_by Welcome message = Welcomed
+cue_by ErroneousNickname message = NickRefused
+cue_by NicknameInUse message = Refused
+cue_by NickCollision message = NickRefused
+cue_by UnavailableResource message = unavailable (param message 1)
+cue_by Other message = other_cue message.command
+
+abbrev pub numeric_cue : Message → Cue
+numeric_cue message = cue_by (numeric_of message.command) message
 
 -- a welcome and a change of the bot's own nick give it the nick that is the first parameter
 abbrev pub nick_by : Cue → Message → Option (List ℕ)
@@ -71,7 +76,7 @@ cue_of message own =
     else if is_command (codes "NICK") message.command && is_by message own then Renamed
     else if is_command (codes "KICK") message.command && is_to message own then Kicked
     else if is_command (codes "ERROR") message.command then Refused
-    else numeric_cue message.command
+    else numeric_cue message
 
 -- the nick that the bot has after a line, if the line gives it one
 abbrev pub new_nick : Line → List ℕ → Option (List ℕ)

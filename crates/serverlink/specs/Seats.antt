@@ -1,42 +1,65 @@
--- A channel of the bot's configuration, and when the bot rejoins it.
-use Rattle.std.specs.Prelude.{ℕ, ◌-◌, ◌&&◌, nat_le, Bool, true, false, List}
+-- A channel of the bot's configuration, and when the process asks to join it.
+use Rattle.std.specs.Prelude.{ℕ, ◌+◌, ◌-◌, ◌^◌, ◌&&◌, not, min, nat_le, Bool, true, false, List, Option, None, Some, if◌then◌else◌}
 use Rattle.net.specs.declared.redial.TheConstants.{FIRST_WAIT}
-use Rattle.net.specs.Waits.{Waits, lost}
-use Rattle.serverlink.specs.declared.seat.TheConstants.{LONGEST_WAIT}
+use Rattle.net.specs.Waits.{Waits, lost as lost_wait}
+use Rattle.serverlink.specs.declared.seat.TheConstants.{ASK_AGAIN, LONGEST_WAIT}
 use Rattle.serverlink.specs.declared.vigil.TheConstants.{GOOD}
 
--- its name; whether the bot is on it; whether it was kicked or barred and has not tried again; when it last joined
+-- its name; whether the bot is on it, and when it last joined; when the process asks to join, if a server has welcomed
+-- the bot; the wait after a KICK, or after the server did not let the bot in
 pub record Seated : Type 0 where
   pub channel : List ℕ
   pub on : Bool
-  pub barred : Bool
   pub since : ℕ
+  pub asks : Option ℕ
   pub waits : Waits
 
 abbrev pub begun : List ℕ → ℕ → Seated
 begun channel number = record {
   channel = channel;
   on = false;
-  barred = false;
   since = 0;
+  asks = None;
   waits = record { number = number; most = LONGEST_WAIT; due = 0; wait = FIRST_WAIT };
 }
 
-abbrev pub joined : Seated → ℕ → Seated
-joined seat now = record seat { on = true; barred = false; since = now }
+-- a minute from now
+abbrev pub later : ℕ → Option ℕ
+later now = Some (min (now + ASK_AGAIN) (2 ^ 64 - 1))
 
-abbrev pub parted : Seated → Seated
-parted seat = record seat { on = false; barred = false }
+-- the bot itself asks when it is welcomed; the process asks a minute later
+abbrev pub welcomed : Seated → ℕ → Seated
+welcomed seat now = record seat { asks = later now }
+
+abbrev pub joined : Seated → ℕ → Seated
+joined seat now = record seat { on = true; since = now }
+
+abbrev pub parted : Seated → ℕ → Seated
+parted seat now = record seat { on = false; asks = later now }
+
+-- the server was lost: nothing is asked before the next one welcomes the bot
+abbrev pub lost : Seated → Seated
+lost seat = record seat { on = false; asks = None }
+
+-- the process asks after this wait
+abbrev pub waiting : Seated → Waits → Seated
+waiting seat waits = record seat { on = false; asks = Some waits.due; waits = waits }
 
 -- a bot that has stayed for long waits as after a good connection
 abbrev pub kicked : Seated → ℕ → Seated
-kicked seat now = record seat { on = false; barred = true; waits = lost seat.waits now (nat_le GOOD (now - seat.since)) }
+kicked seat now = waiting seat (lost_wait seat.waits now (nat_le GOOD (now - seat.since)))
 
+-- a bot that is on the channel was let in
 abbrev pub not_let_in : Seated → ℕ → Seated
-not_let_in seat now = record seat { on = false; barred = true; waits = lost seat.waits now false }
+not_let_in seat now = if seat.on then seat else waiting seat (lost_wait seat.waits now false)
+
+abbrev pub is_past : Option ℕ → ℕ → Bool
+is_past None now = false
+is_past (Some second) now = nat_le second now
 
 abbrev pub is_due : Seated → ℕ → Bool
-is_due seat now = seat.barred && nat_le seat.waits.due now
+is_due seat now = not seat.on && is_past seat.asks now
 
-abbrev pub retried : Seated → Seated
-retried seat = record seat { barred = false }
+-- the process has asked; if the server does not answer, it asks again a minute later
+abbrev pub retried : Seated → ℕ → Seated
+retried seat now = record seat { asks = later now }

@@ -3,6 +3,7 @@ use Rattle.std.specs.Prelude.{◌≡◌, ◌&&◌, not, if◌then◌else◌, ℕ
 use Rattle.net.specs.Connections.{Talk, Reads, ReadsFewer, SendsOn, named, with_bytes}
 use Rattle.serverlink.specs.Lines.{is_line}
 use Rattle.serverlink.specs.Told.{ended}
+use Rattle.serverlink.specs.Vigils.{care_of, heard as heard_at, is_kept}
 use Rattle.serverlink.specs.declared.server_wire.TheConstants.{MOST}
 use Rattle.serverlink.specs.declared.irc_connection.TheConstants.{PIECES}
 use Rattle.serverlink.specs.declared.session.Session.{Session}
@@ -37,6 +38,13 @@ MayReadAll None new = new ≡ None
 MayReadAll (Some old) None = ⊥
 MayReadAll (Some old) (Some new) = (came : Bool) × Reads PIECES MOST old came new
 
+-- by the monotonic clock, bytes that came end the server's silence, and nothing else does
+abbrev pub EndsSilence : ℕ → Option Session → Option Session → Type 0
+EndsSilence steady None new = new ≡ None
+EndsSilence steady (Some old) None = ⊥
+EndsSilence steady (Some old) (Some new) =
+    (came : Bool) × Reads PIECES MOST old.wire came new.wire × (new.vigil ≡ (if came then heard_at old.vigil steady else old.vigil))
+
 -- memory ran out before the last of the reads of a connection
 abbrev pub ReadsSome : Option Talk → Option Talk → Type 0
 ReadsSome None new = ⊥
@@ -52,3 +60,8 @@ abbrev pub MaySend : Option Talk → Bool → Option Talk → Type 0
 MaySend None more new = (more ≡ false) × (new ≡ None)
 MaySend (Some old) more None = ⊥
 MaySend (Some old) more (Some new) = SendsOn old more new
+
+-- whether there is a connection, and it is kept at this second of the monotonic clock, whatever the wall clock says
+abbrev pub stays : ℕ → Option Session → Bool
+stays steady None = false
+stays steady (Some session) = is_kept (care_of session.vigil steady session.is_welcomed)

@@ -24,5 +24,11 @@ care_of vigil now is_welcomed =
     else if nat_le QUIET (now - vigil.heard) && not vigil.asked then Ask
     else Wait
 
+-- whether the connection is kept
+abbrev pub is_kept : Care → Bool
+is_kept Wait = true
+is_kept Ask = true
+is_kept (LetGo loss) = false
+
 abbrev pub is_good : Vigil → ℕ → Bool
 is_good vigil now = nat_le GOOD (now - vigil.began)

@@ -55,6 +55,20 @@ impl ConfiguredChannels {
         self.seats.get(place)
     }
 
+    // Whether the bot is on a channel of this name.
+    pub(crate) fn is_on(&self, name: &[u8]) -> bool {
+        self.seats
+            .iter()
+            .any(|seat| seat.is_on() && same(seat.channel(), name))
+    }
+
+    // Notes that a server welcomed the bot at second `now`.
+    pub(crate) fn welcome_all(&mut self, now: u64) {
+        for seat in self.seats.iter_mut() {
+            seat.welcome(now);
+        }
+    }
+
     // Notes that the bot has joined a channel at second `now`.
     pub(crate) fn join(&mut self, name: &[u8], now: u64) {
         if let Some(seat) = self.seat_of(name) {
@@ -62,10 +76,10 @@ impl ConfiguredChannels {
         }
     }
 
-    // Notes that the bot has left a channel by itself.
-    pub(crate) fn part(&mut self, name: &[u8]) {
+    // Notes that the bot has left a channel at second `now`.
+    pub(crate) fn part(&mut self, name: &[u8], now: u64) {
         if let Some(seat) = self.seat_of(name) {
-            seat.part();
+            seat.part(now);
         }
     }
 
@@ -88,21 +102,34 @@ impl ConfiguredChannels {
     }
 
     // Notes that the bot has lost its server.
-    pub(crate) fn leave_all(&mut self) {
+    pub(crate) fn lose_all(&mut self) {
         for seat in self.seats.iter_mut() {
-            seat.part();
+            seat.lose();
         }
     }
 
-    // Returns the channel at `place` if the bot is due to rejoin it at second `now`. It is not due again until the
-    // server answers.
-    pub(crate) fn retry(&mut self, place: usize, now: u64) -> Option<&[u8]> {
+    // Returns the channel that the process is to ask to join at second `now`, if one is due, and notes that it asks.
+    // Of several it is the one that has been due the longest, so that each has its turn.
+    pub(crate) fn retry_next(&mut self, now: u64) -> Option<&[u8]> {
+        let place = self.longest_due(now)?;
         let seat = self.seats.get_mut(place)?;
-        if !seat.is_due(now) {
-            return None;
-        }
-        seat.retry();
+        seat.retry(now);
         Some(seat.channel())
+    }
+
+    // Returns the place of the channel that has been due the longest.
+    fn longest_due(&self, now: u64) -> Option<usize> {
+        let mut found = None;
+        let mut since = now;
+        for (place, seat) in self.seats.iter().enumerate() {
+            if let Some(second) = seat.asks() {
+                if seat.is_due(now) && (found.is_none() || second < since) {
+                    found = Some(place);
+                    since = second;
+                }
+            }
+        }
+        found
     }
 
     fn seat_of(&mut self, name: &[u8]) -> Option<&mut Seat> {

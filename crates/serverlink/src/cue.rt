@@ -1,9 +1,9 @@
 // What a message means for a bot's registration and its channels.
 ghost use Rattle.std.specs.Prelude.{◌≡◌};
-ghost use Rattle.serverlink.specs.Cues.{cue_of, is_by, is_numeric_fault, is_to, numeric_cue, other_cue, param};
+ghost use Rattle.serverlink.specs.Cues.{cue_of, is_by, is_numeric_fault, is_to, numeric_cue, other_cue, param, unavailable};
 
 use ircline::{Message, Numeric, Source, numeric_of, source};
-use rfccase::same;
+use rfccase::{is_channel_name, same};
 
 /// What a message means for a bot with a given nick.
 #[derive(Clone, Copy, Debug, PartialEq, Eq)]
@@ -18,9 +18,10 @@ pub enum Cue {
     Parted,
     /// The bot was kicked off the channel that is the first parameter.
     Kicked,
-    /// The server does not let the bot join the channel that is the second parameter (471, 473, 474, 475).
+    /// The server does not let the bot join the channel that is the second parameter (405, 471, 473, 474, 475, 477, and
+    /// 437 if that parameter is the name of a channel).
     Barred,
-    /// The server rejects a nick (432, 436, 437).
+    /// The server rejects a nick (432, 436, and 437 if its second parameter is not the name of a channel).
     NickRefused,
     /// The server rejects something else, or ends the connection (another number from 400 to 599, ERROR).
     Refused,
@@ -46,21 +47,33 @@ pub fn cue_of(message: &Message, own: &[u8]) -> Cue
     } else if command == b"ERROR".as_slice() {
         Cue::Refused
     } else {
-        numeric_cue(command)
+        numeric_cue(message)
     }
 }
 
-// What a numeric command means.
-fn numeric_cue(command: &[u8]) -> Cue
-    ensures { result ≡ numeric_cue command.now }
+// What a message with a numeric command means.
+fn numeric_cue(message: &Message) -> Cue
+    ensures { result ≡ numeric_cue message.now }
 {
+    let command = message.command.as_bytes();
     match numeric_of(command) {
         Numeric::Welcome => Cue::Welcomed,
-        Numeric::ErroneousNickname | Numeric::NickCollision | Numeric::UnavailableResource => {
-            Cue::NickRefused
-        }
+        Numeric::ErroneousNickname | Numeric::NickCollision => Cue::NickRefused,
+        Numeric::UnavailableResource => unavailable(param(message, 1)),
         Numeric::NicknameInUse => Cue::Refused,
         Numeric::Other => other_cue(command),
+    }
+}
+
+// What it means that `name` cannot be had for a while. No nick is the name of a channel (RFC 2812 section 2.3.1), so
+// the name alone decides.
+fn unavailable(name: &[u8]) -> Cue
+    ensures { result ≡ unavailable name.now }
+{
+    if is_channel_name(name) {
+        Cue::Barred
+    } else {
+        Cue::NickRefused
     }
 }
 
@@ -70,7 +83,7 @@ fn other_cue(command: &[u8]) -> Cue
 {
     match command {
         b"005" => Cue::Supports,
-        b"471" | b"473" | b"474" | b"475" => Cue::Barred,
+        b"405" | b"471" | b"473" | b"474" | b"475" | b"477" => Cue::Barred,
         _ => {
             if is_numeric_fault(command) {
                 Cue::Refused

@@ -9,8 +9,9 @@ use crate::irc_connection::{IrcConnection, joined};
 use crate::nicks::other_nick;
 use bytetext::{NoMemory, TryCopy};
 use ircline::{Line, Message};
-use net::log;
+use net::Log;
 use settings::Settings;
+use std::alloc::Global;
 
 impl IrcConnection {
     /// Processes `line`, which the server sent by second `now` and whose step the bot has made, for the registration
@@ -18,13 +19,15 @@ impl IrcConnection {
     /// one. Asks for another nick if the server rejects it. Puts the lines `perform` of `settings` once after a welcome,
     /// and queues those that may go. Call this for each line once, in order, before the bot's lines for it are queued.
     ///
-    /// If `settings` have lines logged, the line is logged, but only if `logged`: the bot's step of the line says so.
+    /// `log` shows what the server said of the nick and the channels. If `settings` have lines logged, it shows the line
+    /// too, but only if `logged`: the bot's step of the line says so.
     ///
     /// # Errors
     /// `NoMemory` if an allocation fails: never without a connection.
-    pub fn look<'a, R: AllocGlobal + Print>(
+    pub fn look<'a, R: AllocGlobal>(
         &mut self,
         rt: &R,
+        log: &mut Log,
         settings: &Settings,
         line: &'a Line,
         logged: bool,
@@ -40,11 +43,11 @@ impl IrcConnection {
             return Ok(None);
         };
         if settings.log_lines && logged {
-            log_message(rt, message, now);
+            log_message(log, message, now);
         }
         let cue = cue_of(message, own);
         if cue != Cue::Nothing && self.session.is_some() {
-            self.note(rt, settings, cue, message, now)?;
+            self.note(rt.alloc(), log, settings, cue, message, now)?;
         }
         match cue {
             Cue::Welcomed | Cue::Renamed => Ok(Some(param(message, 0))),
@@ -60,9 +63,10 @@ impl IrcConnection {
     }
 
     // Does what a message means for the registration and the channels, and logs it.
-    fn note<R: AllocGlobal + Print>(
+    fn note(
         &mut self,
-        rt: &R,
+        alloc: Global,
+        log: &mut Log,
         settings: &Settings,
         cue: Cue,
         message: &Message,
@@ -73,45 +77,47 @@ impl IrcConnection {
         let first = param(message, 0);
         let second = param(message, 1);
         match cue {
-            Cue::Welcomed => self.welcome(rt, settings, first, now)?,
-            Cue::NickRefused => self.ask_nick(rt, settings, now)?,
-            Cue::Renamed => log(rt, now, &Entry::Plain(Fact::Renamed, first)),
+            Cue::Welcomed => self.welcome(alloc, log, settings, first, now)?,
+            Cue::NickRefused => self.ask_nick(alloc, log, settings, now)?,
+            Cue::Renamed => log.note(now, &Entry::Plain(Fact::Renamed, first)),
             Cue::Joined => {
                 self.channels.join(first, now);
-                log(rt, now, &Entry::Plain(Fact::Joined, first));
+                log.note(now, &Entry::Plain(Fact::Joined, first));
             }
             Cue::Parted => {
-                self.channels.part(first);
-                log(rt, now, &Entry::Plain(Fact::Parted, first));
+                self.channels.part(first, now);
+                log.note(now, &Entry::Plain(Fact::Parted, first));
             }
             Cue::Kicked => {
                 self.channels.kick(first, now);
-                log(rt, now, &Entry::Plain(Fact::Kicked, first));
+                log.note(now, &Entry::Plain(Fact::Kicked, first));
             }
             Cue::Barred => {
-                self.channels.bar(second, now);
-                log(rt, now, &Entry::Plain(Fact::Barred, second));
+                // On a channel that the bot is on, the server rejects something else.
+                if self.channels.is_on(second) {
+                    log_refusal(log, message, now);
+                } else {
+                    self.channels.bar(second, now);
+                    log.note(now, &Entry::Plain(Fact::Barred, second));
+                }
             }
-            Cue::Refused => log(
-                rt,
-                now,
-                &Entry::Refused(message.command.as_bytes(), message.rest.as_bytes()),
-            ),
-            Cue::Supports => note_case(rt, message, now),
+            Cue::Refused => log_refusal(log, message, now),
+            Cue::Supports => note_case(log, message, now),
             Cue::Nothing => {}
         }
         Ok(())
     }
 
     // The server has welcomed the bot: the lines `perform` are due, once.
-    fn welcome<R: AllocGlobal + Print>(
+    fn welcome(
         &mut self,
-        rt: &R,
+        alloc: Global,
+        log: &mut Log,
         settings: &Settings,
         nick: &[u8],
         now: u64,
     ) -> Result<(), NoMemory> {
-        log(rt, now, &Entry::Plain(Fact::Welcomed, nick));
+        log.note(now, &Entry::Plain(Fact::Welcomed, nick));
         let Some(session) = &mut self.session else {
             return Ok(());
         };
@@ -119,20 +125,21 @@ impl IrcConnection {
             return Ok(());
         }
         session.is_welcomed = true;
+        self.channels.welcome_all(now);
         for line in settings.performs.as_slice() {
-            self.own.put(line.copy(rt.alloc())?)?;
+            self.own.put(line.copy(alloc)?)?;
         }
-        self.tell_own(rt, settings, now)
+        self.tell_own(log, settings, now)
     }
 
     // The server rejects a nick. Until it has welcomed the bot, the bot asks for another one.
-    fn ask_nick<R: AllocGlobal + Print>(
+    fn ask_nick(
         &mut self,
-        rt: &R,
+        alloc: Global,
+        log: &mut Log,
         settings: &Settings,
         now: u64,
     ) -> Result<(), NoMemory> {
-        let alloc = rt.alloc();
         let Some(session) = &mut self.session else {
             return Ok(());
         };
@@ -142,12 +149,12 @@ impl IrcConnection {
         match other_nick(alloc, settings.nick.as_bytes(), session.tried)? {
             Some(nick) => {
                 session.tried = session.tried.saturating_add(1);
-                log(rt, now, &Entry::Plain(Fact::OtherNick, nick.as_bytes()));
+                log.note(now, &Entry::Plain(Fact::OtherNick, nick.as_bytes()));
                 let line = joined(alloc, b"NICK ", nick.as_bytes())?;
                 session.wire.tell(line.as_slice(), now)
             }
             None => {
-                log(rt, now, &Entry::NoNick);
+                log.note(now, &Entry::NoNick);
                 Ok(())
             }
         }
@@ -155,21 +162,28 @@ impl IrcConnection {
 }
 
 // Logs a case mapping of the server that differs from the bot's (CASEMAPPING of a 005).
-fn note_case<R: Print>(rt: &R, message: &Message, now: u64) {
+fn note_case(log: &mut Log, message: &Message, now: u64) {
     for word in message.params.as_slice() {
         if let Some(name) = word.as_bytes().strip_prefix(b"CASEMAPPING=") {
             if name != b"rfc1459".as_slice() {
-                log(rt, now, &Entry::OtherCase(name));
+                log.note(now, &Entry::OtherCase(name));
             }
         }
     }
 }
 
+// Logs that the server rejects something, or ends the connection.
+fn log_refusal(log: &mut Log, message: &Message, now: u64) {
+    log.note(
+        now,
+        &Entry::Refused(message.command.as_bytes(), message.rest.as_bytes()),
+    );
+}
+
 // Logs a whole message.
-fn log_message<R: Print>(rt: &R, message: &Message, now: u64) {
+fn log_message(log: &mut Log, message: &Message, now: u64) {
     let source = message.prefix.as_bytes();
-    log(
-        rt,
+    log.note(
         now,
         &Entry::Heard(source, message.command.as_bytes(), message.rest.as_bytes()),
     );

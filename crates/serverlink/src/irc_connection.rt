@@ -1,23 +1,30 @@
 // The bot's connection to its servers.
 ghost use Rattle.std.specs.Prelude.{◌≡◌, ◌≢◌, ◌<◌, length, None, IfErr, OnErr};
 ghost use Rattle.bytetext.specs.declared.moment.TheConstants.{MOMENTS_END};
+ghost use Rattle.streams.specs.Accounts.{nothing_yet};
 
 use crate::configured_channels::ConfiguredChannels;
 use crate::entry::{Entry, Fact};
 use crate::own_lines::OwnLines;
 use crate::session::Session;
 use crate::why::Why;
-use bytetext::{NoMemory, TryCopy};
-use net::{Dialled, Dialling, Registry, log};
+use bytetext::{Failure, NoMemory, TryCopy};
+use net::{DialTokens, Dialled, Dialling, Log, Registry};
 use settings::{Server, Settings};
 use std::alloc::Global;
+use std::fs::File;
 use std::net::Net;
+use std::random::RandomSource;
+use std::rt::Files;
 
 // The most pieces that one turn reads.
 const PIECES: usize = 16;
 
 // The token under which the connection to a server is watched.
 const TOKEN: usize = 1;
+
+// The token under which the lookup of a server's name is watched.
+const LOOKUP: usize = 6;
 
 // The longest wait before an attempt to connect, in seconds.
 const LONGEST_WAIT: u16 = 300;
@@ -26,6 +33,8 @@ const LONGEST_WAIT: u16 = 300;
 pub struct IrcConnection {
     pub(crate) session: Option<Session>,
     pub(crate) dialling: Dialling,
+    // The second of this turn by the monotonic clock.
+    pub(crate) steady: u64,
     /// The channels of the configuration.
     pub channels: ConfiguredChannels,
     /// The queued lines of the process's own. They are dropped when the server is lost.
@@ -38,6 +47,7 @@ impl Drop for IrcConnection {
         let IrcConnection {
             session: _,
             dialling: _,
+            steady: _,
             channels: _,
             own: _,
         } = self;
@@ -45,11 +55,11 @@ impl Drop for IrcConnection {
 }
 
 impl IrcConnection {
-    ghost use Rattle.std.specs.Prelude.{◌≡◌, ◌==◌, true, Some, [], option_map, IfOk, OnOk, MatchOption};
+    ghost use Rattle.std.specs.Prelude.{◌≡◌, ◌==◌, true, Some, [], is_some, option_map, IfOk, OnOk, MatchOption};
     ghost use Rattle.std.specs.List.{list_any};
     ghost use Rattle.net.specs.Dials.{lost};
     ghost use Rattle.net.specs.Connections.{handed};
-    ghost use Rattle.serverlink.specs.Talks.{MayReadAll, MaySend, ReadsSome, heard_in, may_give_in, held, told, woken, talk_in};
+    ghost use Rattle.serverlink.specs.Talks.{EndsSilence, MayReadAll, MaySend, ReadsSome, heard_in, may_give_in, held, told, woken, talk_in};
 
     /// Creates an uplink from `settings` without a connection; an attempt to connect is due at once.
     ///
@@ -63,6 +73,7 @@ impl IrcConnection {
         Ok(IrcConnection {
             session: None,
             dialling: Dialling::new(number, LONGEST_WAIT, settings.servers.len()),
+            steady: 0,
             channels: ConfiguredChannels::new(alloc, settings.channels.as_slice(), number)?,
             own: OwnLines::new(alloc),
         })
@@ -90,57 +101,68 @@ impl IrcConnection {
     }
 
     /// Begins to connect to the next server of `settings` if there is no connection and an attempt is due at second
-    /// `now`. Returns whether a connection began; if it did, the server's PASS is queued, if it has one. Looks up the
-    /// server's name first, and waits for the resolver. An attempt that cannot begin is logged, and the next server is
-    /// due after a wait. `registry` watches the connection under the token 1, which nothing else may use.
+    /// `now`. Returns whether a connection began; if it did, the server's PASS is queued, if it has one.
+    ///
+    /// While the server's name is looked up, no connection begins, and the attempt stays due: call this in each turn,
+    /// after [`wake`](IrcConnection::wake). `log` shows an attempt that begins or cannot begin; if it cannot, the next
+    /// server is due after a wait.
+    /// `registry` watches the connection under the token 1 and the lookup under the token 6, which nothing else may use.
     ///
     /// # Errors
-    /// `NoMemory` if an allocation fails: never if there is a connection. The uplink has none then.
-    pub fn connect<R: AllocGlobal + Net + Print>(
+    /// `NoMemory` if an allocation fails: never if there is a connection. The uplink has none then, and the attempt
+    /// stays due.
+    pub fn connect<R: AllocGlobal + Net + Files<File = File> + RandomSource>(
         &mut self,
         rt: &R,
+        log: &mut Log,
         registry: &Registry,
         settings: &Settings,
         now: u64,
     ) -> Result<bool, NoMemory>
         requires moment { now < MOMENTS_END }
         ensures memory { IfErr result (λ _. self.old.session ≡ None) }
+        ensures due { OnErr result (self.new.dialling ≡ self.old.dialling) }
     {
         if self.session.is_some() || !self.dialling.is_due(now) {
             return Ok(false);
         }
         match settings.servers.as_slice().get(self.dialling.place()) {
-            Some(server) => self.dial(rt, registry, server, now),
+            Some(server) => self.dial(rt, log, registry, server, now),
             None => Ok(false),
         }
     }
 
-    fn dial<R: AllocGlobal + Net + Print>(
+    fn dial<R: AllocGlobal + Net + Files<File = File> + RandomSource>(
         &mut self,
         rt: &R,
+        log: &mut Log,
         registry: &Registry,
         server: &Server,
         now: u64,
     ) -> Result<bool, NoMemory>
         requires moment { now < MOMENTS_END }
+        ensures { OnErr result (self.new.dialling ≡ self.old.dialling) }
     {
         let host = server.address.host.as_bytes();
+        let port = server.address.port;
+        let tokens = DialTokens {
+            connection: TOKEN,
+            lookup: LOOKUP,
+        };
         match self
             .dialling
-            .connect(rt, registry, TOKEN, host, server.address.port)
+            .connect(rt, registry, tokens, host, port, self.steady)
         {
-            Ok(dialled) => {
-                log(rt, now, &Entry::Dialled(host, dialled.address));
+            Ok(Some(dialled)) => {
+                log.note(now, &Entry::Dialled(host, dialled.address));
                 self.begin(rt.alloc(), server, dialled, now)?;
                 Ok(true)
             }
-            Err(fault) => {
+            Ok(None) => Ok(false),
+            Err(Failure::NoMemory) => Err(NoMemory),
+            Err(Failure::Refused(fault)) => {
                 self.dialling.lost(now);
-                log(
-                    rt,
-                    now,
-                    &Entry::NotDialled(host, fault, self.dialling.due()),
-                );
+                log.note(now, &Entry::NotDialled(host, fault, self.dialling.due()));
                 Ok(false)
             }
         }
@@ -153,8 +175,11 @@ impl IrcConnection {
         server: &Server,
         dialled: Dialled,
         now: u64,
-    ) -> Result<(), NoMemory> {
-        let mut session = Session::new(alloc, dialled.socket, now);
+    ) -> Result<(), NoMemory>
+        requires fresh { dialled.socket.account.past ≡ nothing_yet }
+        ensures { self.new.dialling ≡ self.old.dialling }
+    {
+        let mut session = Session::new(alloc, dialled.socket, now, self.steady);
         if let Some(pass) = &server.pass {
             let line = joined(alloc, b"PASS :", pass.as_bytes())?;
             session.wire.tell(line.as_slice(), now)?;
@@ -163,11 +188,15 @@ impl IrcConnection {
         Ok(())
     }
 
-    /// Notes that the connection may have something to read if `tokens`, those of a wait, name it. A token may be that
-    /// of an earlier connection: then the next read would block.
-    pub fn wake(&mut self, tokens: &[usize])
-        ensures { talk_in self.new.session ≡ woken (list_any (λ token. token == TOKEN) tokens.now) (talk_in self.old.session) }
+    /// Begins a turn at second `steady` of the monotonic clock, by which silence is measured. Notes that the connection
+    /// may have something to read if `tokens`, those of a wait, name it. A token may be that of an earlier connection:
+    /// then the next read would block.
+    pub fn wake(&mut self, tokens: &[usize], steady: u64)
+        ensures woken { talk_in self.new.session
+            ≡ woken (list_any (λ token. token == TOKEN) tokens.now) (talk_in self.old.session) }
+        ensures steady { self.new.steady ≡ steady }
     {
+        self.steady = steady;
         if let Some(session) = &mut self.session {
             if tokens.contains(&TOKEN) {
                 session.wire.connection.is_ready = true;
@@ -175,24 +204,25 @@ impl IrcConnection {
         }
     }
 
-    /// Reads what has arrived by second `now`, up to 16 pieces. Returns whether there may be more at once: false after
-    /// a read that would block.
+    /// Reads what has arrived, up to 16 pieces. A byte ends the server's silence. Returns whether there may be more at
+    /// once: false after a read that would block.
     ///
     /// # Errors
     /// `NoMemory` if an allocation fails: never without a connection. What was read before stays.
-    pub fn read(&mut self, now: u64) -> Result<bool, NoMemory>
+    pub fn read(&mut self) -> Result<bool, NoMemory>
         ensures reads { OnOk result (MayReadAll (talk_in self.old.session) (talk_in self.new.session)) }
         ensures more { IfOk result (λ more. more ≡ may_give_in (talk_in self.new.session)) }
         ensures fewer { OnErr result (ReadsSome (talk_in self.old.session) (talk_in self.new.session)) }
+        ensures silence { OnOk result (EndsSilence self.old.steady self.old.session self.new.session) }
         ensures memory { IfErr result (λ _. self.old.session ≢ None) }
     {
-        let Some(session) = &mut self.session else {
+        let Some(Session { wire, vigil, .. }) = &mut self.session else {
             return Ok(false);
         };
-        if session.wire.connection.read(PIECES)? {
-            session.vigil.hear(now);
+        if wire.read(PIECES)? {
+            vigil.hear(self.steady);
         }
-        Ok(session.wire.connection.may_give())
+        Ok(wire.may_give())
     }
 
     /// Takes the bytes that were read and not taken yet. Allocates nothing.
@@ -207,20 +237,21 @@ impl IrcConnection {
     }
 
     /// Queues `line` for the server, if one is connected, and counts it as sent at second `now`. Ignores bytes that
-    /// are not a line. If more than 65,536 bytes would wait, the connection is over. `settings` say whether to log the
-    /// line.
+    /// are not a line. If more than 65,536 bytes would wait, the connection is over. `settings` say whether `log` shows
+    /// the line.
     ///
     /// # Errors
     /// `NoMemory` if an allocation fails: never without a connection. Nothing is queued then.
-    pub fn tell<R: AllocGlobal + Print>(
+    pub fn tell(
         &mut self,
-        rt: &R,
+        log: &mut Log,
         settings: &Settings,
         line: &[u8],
         now: u64,
     ) -> Result<(), NoMemory>
         ensures told { OnOk result (talk_in self.new.session ≡ option_map (told line.now) (talk_in self.old.session)) }
         ensures err { OnErr result (talk_in self.new.session ≡ talk_in self.old.session) }
+        ensures same { is_some self.new.session ≡ is_some self.old.session }
         ensures memory { OnErr result (self.old.session ≢ None) }
     {
         let Some(Session { wire, .. }) = &mut self.session else {
@@ -228,7 +259,7 @@ impl IrcConnection {
         };
         wire.tell(line, now)?;
         if settings.log_lines {
-            log(rt, now, &Entry::Plain(Fact::Told, line));
+            log.note(now, &Entry::Plain(Fact::Told, line));
         }
         Ok(())
     }
@@ -247,20 +278,20 @@ impl IrcConnection {
     }
 
     /// Disconnects the server at second `now`, if the connection is over.
-    pub fn let_go<R: Print>(&mut self, rt: &R, now: u64)
+    pub fn let_go(&mut self, log: &mut Log, now: u64)
         requires moment { now < MOMENTS_END }
         ensures { self.new.session ≡ held self.old.session }
     {
         if let Some(session) = &self.session {
             if session.wire.connection.is_over {
-                self.lose(rt, Why::Over, now);
+                self.lose(log, Why::Over, now);
             }
         }
     }
 
     /// Disconnects the server at second `now` because of `why`, and drops what waits for it. The next server is due
     /// after a wait.
-    pub fn lose<R: Print>(&mut self, rt: &R, why: Why, now: u64)
+    pub fn lose(&mut self, log: &mut Log, why: Why, now: u64)
         requires moment { now < MOMENTS_END }
         ensures gone { self.new.session ≡ None }
         ensures own { self.new.own ≡ [] }
@@ -268,9 +299,9 @@ impl IrcConnection {
     {
         self.session = None;
         self.dialling.lost(now);
-        self.channels.leave_all();
+        self.channels.lose_all();
         self.own.clear();
-        log(rt, now, &Entry::Lost(why, self.dialling.due()));
+        log.note(now, &Entry::Lost(why, self.dialling.due()));
     }
 }
 

@@ -1,117 +1,131 @@
 // What is due on a connection even if its server says nothing.
-ghost use Rattle.std.specs.Prelude.{◌≢◌, ◌<◌, None, OnErr};
-ghost use Rattle.bytetext.specs.declared.moment.TheConstants.{MOMENTS_END};
 
 use crate::entry::Entry;
 use crate::irc_connection::{IrcConnection, joined};
+use crate::session::Session;
 use crate::vigil::Care;
 use crate::why::Why;
 use bytetext::NoMemory;
-use net::log;
+use net::Log;
 use settings::Settings;
+use std::alloc::Global;
 
 impl IrcConnection {
+    ghost use Rattle.std.specs.Prelude.{◌≡◌, ◌≢◌, ◌<◌, None, OnErr, is_some};
+    ghost use Rattle.bytetext.specs.declared.moment.TheConstants.{MOMENTS_END};
+    ghost use Rattle.serverlink.specs.Talks.{stays};
+
     /// Does what is due at second `now` even if the server says nothing. Pings a silent server, or disconnects it.
-    /// Rejoins channels, and queues lines of the process's own. `settings` say whether to log the lines. Call this at
-    /// least once a second.
+    /// Queues lines of the process's own, and then asks to join channels that the bot is not on, both as its pace
+    /// allows. `settings` say whether `log` shows the lines. Call this at least once a second, after
+    /// [`wake`](IrcConnection::wake): silence is measured by the monotonic second of the turn, and the rest by `now`.
     ///
     /// # Errors
     /// `NoMemory` if an allocation fails: never without a connection. Lines that were queued before it stay queued.
-    pub fn keep<R: AllocGlobal + Print>(
+    pub fn keep<R: AllocGlobal>(
         &mut self,
         rt: &R,
+        log: &mut Log,
         settings: &Settings,
         now: u64,
     ) -> Result<(), NoMemory>
         requires moment { now < MOMENTS_END }
         ensures memory { OnErr result (self.old.session ≢ None) }
+        ensures stays { is_some self.new.session ≡ stays self.old.steady self.old.session }
     {
         let care = match &mut self.session {
-            Some(session) => session.care(now),
+            Some(session) => session.care(self.steady),
             None => return Ok(()),
         };
         match care {
             Care::Wait => {}
-            Care::Ask => self.tell(rt, settings, b"PING eggnet", now)?,
+            Care::Ask => self.tell(log, settings, b"PING eggnet", now)?,
             Care::LetGo(loss) => {
-                self.lose(rt, Why::Care(loss), now);
+                self.lose(log, Why::Care(loss), now);
                 return Ok(());
             }
         }
-        self.hold(now);
-        self.join_again(rt, settings, now)?;
-        self.tell_own(rt, settings, now)
+        self.hold();
+        // These first: they come to an end, and the server may never let the bot onto a channel.
+        self.tell_own(log, settings, now)?;
+        self.join_again(rt.alloc(), log, settings, now)
     }
 
     // A connection that has held for long was a good one.
-    fn hold(&mut self, now: u64) {
+    fn hold(&mut self)
+        ensures { self.new.session ≡ self.old.session }
+    {
         if let Some(session) = &self.session {
-            if session.is_good(now) {
+            if session.is_good(self.steady) {
                 self.dialling.good();
             }
         }
     }
 
-    // Rejoins the channels that are due.
-    fn join_again<R: AllocGlobal + Print>(
+    // Asks to join the channels that are due, as many as may go.
+    fn join_again(
         &mut self,
-        rt: &R,
+        alloc: Global,
+        log: &mut Log,
         settings: &Settings,
         now: u64,
-    ) -> Result<(), NoMemory> {
-        for place in 0..self.channels.len() {
-            if !self.may_tell(now) {
+    ) -> Result<(), NoMemory>
+        ensures { is_some self.new.session ≡ is_some self.old.session }
+    {
+        for _channel in 0..self.channels.len() {
+            if !self.may_tell(now) || !self.join_next(alloc, log, settings, now)? {
                 return Ok(());
             }
-            self.join_one(rt, settings, place, now)?;
         }
         Ok(())
     }
 
-    // Rejoins the channel at `place`, if it is due.
-    fn join_one<R: AllocGlobal + Print>(
+    // Asks to join the channel that has been due the longest. Returns whether one is due.
+    fn join_next(
         &mut self,
-        rt: &R,
+        alloc: Global,
+        log: &mut Log,
         settings: &Settings,
-        place: usize,
         now: u64,
-    ) -> Result<(), NoMemory> {
-        let line = match self.channels.retry(place, now) {
-            Some(channel) => joined(rt.alloc(), b"JOIN ", channel)?,
-            None => return Ok(()),
+    ) -> Result<bool, NoMemory>
+        ensures { is_some self.new.session ≡ is_some self.old.session }
+    {
+        let line = match self.channels.retry_next(now) {
+            Some(channel) => joined(alloc, b"JOIN ", channel)?,
+            None => return Ok(false),
         };
-        self.tell(rt, settings, line.as_slice(), now)
+        self.tell(log, settings, line.as_slice(), now)?;
+        Ok(true)
     }
 
     // Queues lines of the process's own, as many as may go.
-    pub(crate) fn tell_own<R: AllocGlobal + Print>(
+    pub(crate) fn tell_own(
         &mut self,
-        rt: &R,
+        log: &mut Log,
         settings: &Settings,
         now: u64,
-    ) -> Result<(), NoMemory> {
+    ) -> Result<(), NoMemory>
+        ensures { is_some self.new.session ≡ is_some self.old.session }
+    {
         for _line in 0..self.own.len() {
             if !self.may_tell(now) {
                 return Ok(());
             }
-            self.tell_next(rt, settings, now)?;
+            self.tell_next(log, settings, now)?;
         }
         Ok(())
     }
 
     // Queues the oldest line of the process's own.
-    fn tell_next<R: AllocGlobal + Print>(
-        &mut self,
-        rt: &R,
-        settings: &Settings,
-        now: u64,
-    ) -> Result<(), NoMemory> {
-        let (Some(session), Some(line)) = (&mut self.session, self.own.next()) else {
+    fn tell_next(&mut self, log: &mut Log, settings: &Settings, now: u64) -> Result<(), NoMemory>
+        ensures { is_some self.new.session ≡ is_some self.old.session }
+    {
+        let (Some(Session { wire, .. }), Some(line)) = (&mut self.session, self.own.next()) else {
             return Ok(());
         };
-        session.wire.tell(line.as_bytes(), now)?;
+        wire.tell(line.as_bytes(), now)?;
         if settings.log_lines {
-            log(rt, now, &Entry::ToldOwn);
+            log.note(now, &Entry::ToldOwn);
         }
         Ok(())
     }

@@ -7,16 +7,16 @@
 //!
 //! ```text
 //! let mut irc = IrcConnection::new(alloc, settings)?;
-//! // each turn, at the second now
-//! irc.wake(watch.tokens());
-//! let connected = irc.connect(rt, watch.registry(), settings, now)?;
-//! irc.read(now)?;
+//! // each turn, at the second now of the bot's clock and the second steady of the monotonic clock
+//! irc.wake(watch.tokens(), steady);
+//! let connected = irc.connect(rt, log, watch.registry(), settings, now)?;
+//! irc.read()?;
 //! let bytes = irc.take_heard(alloc);
-//! irc.look(rt, settings, &line, logged, nick, now)?;    // each line of them, after the bot's step; a new nick or None
-//! irc.tell(rt, settings, b"PRIVMSG #chan :hi", now)?;   // each line of the bot's
-//! irc.keep(rt, settings, now)?;
+//! irc.look(rt, log, settings, &line, logged, nick, now)?;   // each line of them, after the bot's step; a new nick or None
+//! irc.tell(log, settings, b"PRIVMSG #chan :hi", now)?;      // each line of the bot's
+//! irc.keep(rt, log, settings, now)?;
 //! irc.send();
-//! irc.let_go(rt, now);
+//! irc.let_go(log, now);
 //! ```
 //!
 //! Besides the bot's lines, a connection sends:
@@ -25,18 +25,19 @@
 //! - a PING after 90 seconds of silence;
 //! - another nick, if the server rejects the bot's;
 //! - the lines `perform`, once after each welcome;
-//! - a JOIN after a KICK, or after the server did not let the bot in ([`ConfiguredChannels`]);
+//! - a JOIN each minute for each channel that the bot is not on; after a KICK, or if the server does not let the bot in,
+//!   the JOIN comes after a growing wait instead ([`Seat`]);
 //! - lines that an operator has it send, and answers to a person ([`OwnLines`]).
 //!
-//! Each line to a server has 1 to 510 bytes: a [`ServerWire`] sends nothing else.
+//! All that a server gets are lines of 1 to 510 bytes: a [`ServerWire`] sends nothing else.
 //!
 //! These decide what is due, and touch no socket and no clock:
 //!
-//! - [`Vigil`]: when to ping a silent server, and when to disconnect it.
+//! - [`Vigil`]: when to ping a silent server, and when to disconnect it. It goes by the monotonic clock.
 //! - [`Pace`]: how many lines the process may add to the bot's. It counts all lines sent to a server as the server
 //!   does.
 //! - [`cue_of`]: what a message means for the bot's registration and its channels.
-//! - [`Seat`]: a channel of the bot's configuration, and when the bot rejoins it.
+//! - [`Seat`]: a channel of the bot's configuration, and when the process asks to join it.
 //! - [`other_nick`]: the nick to try next when a server rejects the bot's own.
 //! - [`is_base_due`]: when to rewrite a journal.
 //!
@@ -48,8 +49,7 @@
 //! other_nick(alloc, b"longeggbot", 0)?      // Some(longeggbo): nine bytes
 //! ```
 //!
-//! The log goes to standard output, one line for each event: seconds since 1970-01-01 UTC, and what happened. A log
-//! that cannot be written does not stop the bot. Seconds are read from the bot's clock.
+//! A [`Log`](net::Log) gets one line for each event: the second of the bot's clock, and what happened.
 #![tactic(auto)]
 
 mod configured_channels;
@@ -76,7 +76,7 @@ pub use crate::line::{A_BASE, MAX_LINE, is_base_due};
 pub use crate::nicks::{SHORT_NICK, other_nick};
 pub use crate::own_lines::OwnLines;
 pub use crate::pace::{AHEAD, COST, Pace};
-pub use crate::seat::{LONGEST_WAIT, Seat};
+pub use crate::seat::{ASK_AGAIN, LONGEST_WAIT, Seat};
 pub use crate::server_wire::ServerWire;
 pub use crate::session::Session;
 pub use crate::shown::{Shown, put};

@@ -1,24 +1,35 @@
 // A channel of the bot's configuration.
-ghost use Rattle.serverlink.specs.Seats.{begun, is_due, joined, kicked, not_let_in, parted, retried};
+ghost use Rattle.std.specs.Prelude.{◌≡◌};
+ghost use Rattle.net.specs.Waits.{lost as lost_wait};
+ghost use Rattle.serverlink.specs.Seats.{begun, is_due, joined, kicked, later, lost, not_let_in, parted, retried, waiting, welcomed};
 
 use crate::vigil::GOOD;
 use bytetext::Text;
 use net::Redial;
 use std::marker::Model;
 
-/// The longest wait before the bot rejoins a channel, in seconds.
+/// The longest wait after a KICK, or after the server did not let the bot in, in seconds.
 pub const LONGEST_WAIT: u16 = 300;
 
-/// A channel of the bot's configuration: whether the bot is on it, and when it rejoins after a KICK or after the
-/// server did not let it in. The wait grows from 2 to 300 seconds, until the bot has stayed for two minutes.
+/// How many seconds after the server's welcome, after the bot left a channel, and after the process last asked, the
+/// process asks to join the channel.
+pub const ASK_AGAIN: u64 = 60;
+
+/// A channel of the bot's configuration: whether the bot is on it, and when the process asks to join it.
+///
+/// While the bot is not on the channel, the process asks each minute, the first time a minute after the server has
+/// welcomed the bot or the bot has left. After a KICK, and each time that the server does not let the bot in, it asks
+/// after a wait instead. That wait grows from 2 to 300 seconds, until the bot has stayed for two minutes. The process
+/// asks nothing before the server has welcomed the bot.
 #[derive(Drop)]
 pub struct Seat {
     channel: Text,
     is_on: bool,
-    // Whether the bot was kicked or barred, and has not tried again since.
-    is_barred: bool,
     // The second at which the bot last joined.
     since: u64,
+    // The second at which the process asks to join, unless the bot is on the channel. `None` until a server welcomes
+    // the bot.
+    asks: Option<u64>,
     redial: Redial,
 }
 
@@ -30,8 +41,8 @@ impl Model for Seat {
     ghost view = { λ s. record {
       channel = s.channel;
       on = s.is_on;
-      barred = s.is_barred;
       since = s.since;
+      asks = s.asks;
       waits = s.redial;
     } };
 }
@@ -40,16 +51,15 @@ impl Seat {
     ghost use Rattle.std.specs.Prelude.{◌≡◌, ◌<◌};
     ghost use Rattle.bytetext.specs.declared.moment.TheConstants.{MOMENTS_END};
 
-    /// Creates the seat of `channel` for the bot numbered `number`. The bot is not on it yet, and joins by itself when
-    /// it is welcomed.
+    /// Creates the seat of `channel` for the bot numbered `number`, which is not on it and not welcomed yet.
     pub fn new(channel: Text, number: u16) -> Seat
         ensures { result ≡ begun channel number }
     {
         Seat {
             channel,
             is_on: false,
-            is_barred: false,
             since: 0,
+            asks: None,
             redial: Redial::new(number, LONGEST_WAIT),
         }
     }
@@ -68,21 +78,43 @@ impl Seat {
         self.is_on
     }
 
+    /// Returns the second at which the process asks to join the channel, unless the bot is on it by then. Returns
+    /// `None` if no server has welcomed the bot.
+    pub fn asks(&self) -> Option<u64>
+        ensures { result ≡ self.now.asks }
+    {
+        self.asks
+    }
+
+    /// Notes that a server welcomed the bot at second `now`. The bot itself then asks to join the channel.
+    pub fn welcome(&mut self, now: u64)
+        ensures { self.new ≡ welcomed self.old now }
+    {
+        self.asks = later(now);
+    }
+
     /// Notes that the bot joined the channel at second `now`.
     pub fn join(&mut self, now: u64)
         ensures { self.new ≡ joined self.old now }
     {
         self.is_on = true;
-        self.is_barred = false;
         self.since = now;
     }
 
-    /// Notes that the bot left the channel or lost its server. This alone makes no rejoin due.
-    pub fn part(&mut self)
-        ensures { self.new ≡ parted self.old }
+    /// Notes that the bot left the channel at second `now`, by its own PART or because the server had it leave.
+    pub fn part(&mut self, now: u64)
+        ensures { self.new ≡ parted self.old now }
     {
         self.is_on = false;
-        self.is_barred = false;
+        self.asks = later(now);
+    }
+
+    /// Notes that the bot lost its server. The process asks nothing until another welcomes the bot.
+    pub fn lose(&mut self)
+        ensures { self.new ≡ lost self.old }
+    {
+        self.is_on = false;
+        self.asks = None;
     }
 
     /// Notes that the bot was kicked off the channel at second `now`.
@@ -90,33 +122,53 @@ impl Seat {
         requires { now < MOMENTS_END }
         ensures { self.new ≡ kicked self.old now }
     {
-        self.redial
-            .lost(now, now.saturating_sub(self.since) >= GOOD);
-        self.is_on = false;
-        self.is_barred = true;
+        let was_good = now.saturating_sub(self.since) >= GOOD;
+        self.wait(now, was_good);
     }
 
-    /// Notes that the server did not let the bot in at second `now`.
+    /// Notes that the server did not let the bot in at second `now`. Changes nothing if the bot is on the channel: then
+    /// the server rejects something else there.
     pub fn bar(&mut self, now: u64)
         requires { now < MOMENTS_END }
         ensures { self.new ≡ not_let_in self.old now }
     {
-        self.redial.lost(now, false);
-        self.is_on = false;
-        self.is_barred = true;
+        if !self.is_on {
+            self.wait(now, false);
+        }
     }
 
-    /// Whether the bot is due to rejoin the channel at second `now`.
+    // The bot is not on the channel, and asks to join after the next wait.
+    fn wait(&mut self, now: u64, was_good: bool)
+        requires { now < MOMENTS_END }
+        ensures { self.new ≡ waiting self.old (lost_wait self.old.waits now was_good) }
+    {
+        self.redial.lost(now, was_good);
+        self.is_on = false;
+        self.asks = Some(self.redial.due());
+    }
+
+    /// Whether the process is due to ask to join the channel at second `now`.
     pub fn is_due(&self, now: u64) -> bool
         ensures { result ≡ is_due self.now now }
     {
-        self.is_barred && self.redial.is_due(now)
+        match self.asks {
+            Some(second) => !self.is_on && second <= now,
+            None => false,
+        }
     }
 
-    /// Notes that the bot tries to rejoin the channel. No rejoin is due until the server answers.
-    pub fn retry(&mut self)
-        ensures { self.new ≡ retried self.old }
+    /// Notes that the process asks to join the channel at second `now`. If the server does not answer, the process asks
+    /// again a minute later.
+    pub fn retry(&mut self, now: u64)
+        ensures { self.new ≡ retried self.old now }
     {
-        self.is_barred = false;
+        self.asks = later(now);
     }
+}
+
+// A minute after second `now`.
+fn later(now: u64) -> Option<u64>
+    ensures { result ≡ later now }
+{
+    Some(now.saturating_add(ASK_AGAIN))
 }

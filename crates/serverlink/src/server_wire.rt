@@ -1,6 +1,6 @@
 // A connection over which only lines are sent.
-ghost use Rattle.std.specs.Prelude.{◌≡◌, true, OnOk, OnErr};
-ghost use Rattle.net.specs.Connections.{new_talk};
+ghost use Rattle.std.specs.Prelude.{◌≡◌, ◌&&◌, not, true, [], IfOk, OnOk, OnErr};
+ghost use Rattle.net.specs.Connections.{Reads, ReadsFewer, new_talk};
 ghost use Rattle.serverlink.specs.Lines.{is_line};
 ghost use Rattle.serverlink.specs.Talks.{told};
 
@@ -20,9 +20,11 @@ const BOUNDS: Bounds = Bounds {
     unsent: MOST,
 };
 
-/// A connection to a server. It sends only lines of 1 to 510 bytes without NUL, CR and LF, each followed by CR and LF;
-/// what the stream has taken is a prefix of them. At most 65,536 bytes wait on either side. It counts its lines as the
-/// server does. Contracts see it as a `Rattle.net.specs.Connections.Talk`.
+/// A connection to a server. It begins over a stream that has taken nothing. From then on all that the stream has
+/// taken, followed by the unsent bytes, is exactly a sequence of lines of 1 to 510 bytes without NUL, CR and LF, each
+/// followed by CR and LF: the type says so of each of its values. So the server gets these lines, and the last one may
+/// not have arrived whole. At most 65,536 bytes wait on either side. It counts its lines as the server does. Contracts
+/// see it as a `Rattle.net.specs.Connections.Talk`.
 pub struct ServerWire<S: Stream + Drop> {
     // Only `tell` tells it anything.
     pub(crate) connection: Connection<S>,
@@ -50,22 +52,38 @@ impl<S: Stream + Drop> Model for ServerWire<S> {
 
     ghost view = { λ server. talk_of server.connection };
 
-    // All that was queued since it began are lines.
-    ghost invariant = { λ server. TellsLines (S.source server.connection.stream) (S.sink server.connection.stream)
-        server.connection.heard.items server.connection.unsent.items
+    // All that the stream has taken, and the unsent bytes after it, are lines.
+    ghost invariant = { λ server. TellsLines (S.sink server.connection.stream) server.connection.unsent.items
         × (server.connection.bounds ≡ record { heard = MOST; unsent = MOST }) };
 }
 
 impl<S: Stream + Drop> ServerWire<S> {
-    /// Creates a connection over `stream` on which nothing was read or sent yet. Allocates nothing.
+    // A connection over a stream that has taken nothing. Allocates nothing.
     #[tactic(auto, using(crate::proofs::ToldLemmas::tells_begun))]
-    pub fn new(alloc: Global, stream: S) -> ServerWire<S>
+    pub(crate) fn new(alloc: Global, stream: S) -> ServerWire<S>
+        requires fresh { (S.sink stream).past.taken ≡ [] }
         ensures { result ≡ new_talk (S.source stream) (S.sink stream) }
     {
         ServerWire {
             connection: Connection::new(alloc, stream, BOUNDS),
             pace: Pace::new(),
         }
+    }
+
+    // Reads what has arrived, up to `pieces` pieces. Returns whether a byte arrived. Out of memory, what was read before
+    // stays.
+    pub(crate) fn read(&mut self, pieces: usize) -> Result<bool, NoMemory>
+        ensures reads { IfOk result (λ came. Reads pieces MOST self.old came self.new) }
+        ensures fewer { OnErr result (ReadsFewer pieces MOST self.old self.new) }
+    {
+        self.connection.read(pieces)
+    }
+
+    // Whether the stream may have something to read.
+    pub(crate) fn may_give(&self) -> bool
+        ensures { result ≡ (self.now.gives && not self.now.over) }
+    {
+        self.connection.may_give()
     }
 
     /// Queues `line` for the server, after the lines before it, and counts it as sent at second `now`. Ignores bytes

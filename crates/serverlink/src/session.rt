@@ -1,5 +1,7 @@
 // One connection to a server.
 ghost use Rattle.std.specs.Prelude.{◌≡◌, length};
+ghost use Rattle.streams.specs.Accounts.{nothing_yet};
+ghost use Rattle.serverlink.specs.Vigils.{begun, care_of};
 
 use crate::server_wire::ServerWire;
 use crate::vigil::{Care, Vigil};
@@ -9,7 +11,10 @@ use std::alloc::Global;
 /// A connection to a server, and what is known about it.
 pub struct Session {
     pub(crate) wire: ServerWire<TcpSocket>,
+    // By the monotonic clock, which nobody sets: a step of the wall clock is no silence.
     pub(crate) vigil: Vigil,
+    // The second of the bot's clock at which the connection began.
+    pub(crate) began: u64,
     /// Whether the server has welcomed the bot (001).
     pub is_welcomed: bool,
     // How many other nicks the bot has asked for.
@@ -22,6 +27,7 @@ impl Drop for Session {
         let Session {
             wire: _,
             vigil: _,
+            began: _,
             is_welcomed: _,
             tried: _,
         } = self;
@@ -29,11 +35,17 @@ impl Drop for Session {
 }
 
 impl Session {
-    // A connection that begins at second `now`. Allocates nothing.
-    pub(crate) fn new(alloc: Global, socket: TcpSocket, now: u64) -> Session {
+    // A connection over a new socket, which begins at second `now`, and at second `steady` of the monotonic clock.
+    // Allocates nothing.
+    pub(crate) fn new(alloc: Global, socket: TcpSocket, now: u64, steady: u64) -> Session
+        requires fresh { socket.account.past ≡ nothing_yet }
+        ensures began { result.began ≡ now }
+        ensures vigil { result.vigil ≡ begun steady }
+    {
         Session {
             wire: ServerWire::new(alloc, socket),
-            vigil: Vigil::new(now),
+            vigil: Vigil::new(steady),
+            began: now,
             is_welcomed: false,
             tried: 0,
         }
@@ -44,9 +56,12 @@ impl Session {
         self.is_welcomed && self.wire.pace.may(now)
     }
 
-    // Returns what to do about the connection at second `now`. Returns `Ask` once for each silence.
-    pub(crate) fn care(&mut self, now: u64) -> Care {
-        let care = self.vigil.care(now, self.is_welcomed);
+    // Returns what to do about the connection at second `steady` of the monotonic clock. Returns `Ask` once for each
+    // silence.
+    pub(crate) fn care(&mut self, steady: u64) -> Care
+        ensures { result ≡ care_of self.old.vigil steady self.old.is_welcomed }
+    {
+        let care = self.vigil.care(steady, self.is_welcomed);
         if care == Care::Ask {
             self.vigil.ask();
         }
@@ -55,14 +70,14 @@ impl Session {
 
     /// Returns the second at which the connection began, counted from 1970-01-01 UTC.
     pub fn began(&self) -> u64
-        ensures { result ≡ self.now.vigil.began }
+        ensures { result ≡ self.now.began }
     {
-        self.vigil.began
+        self.began
     }
 
-    // Whether the connection has held for long.
-    pub(crate) fn is_good(&self, now: u64) -> bool {
-        self.is_welcomed && self.vigil.is_good(now)
+    // Whether the connection has held for long at second `steady` of the monotonic clock.
+    pub(crate) fn is_good(&self, steady: u64) -> bool {
+        self.is_welcomed && self.vigil.is_good(steady)
     }
 
     /// Returns the number of unsent bytes.

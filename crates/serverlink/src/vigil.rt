@@ -34,7 +34,8 @@ pub enum Loss {
     Unwelcomed,
 }
 
-/// When a connection began, when its server last sent a byte, and whether the process has pinged it since.
+/// When a connection began, when its server last sent a byte, and whether the process has pinged it since. The seconds
+/// are those of a monotonic clock, which nobody sets, so that a step of the wall clock is no silence.
 #[derive(Clone, Copy, Debug, PartialEq, Eq)]
 pub struct Vigil {
     /// The second at which the connection began.

@@ -1,5 +1,6 @@
 pub mod Accounts
 pub mod Answers
 pub mod Calls
+pub mod Obstacles
 pub mod State
 pub mod Transfers

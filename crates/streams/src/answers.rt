@@ -4,9 +4,10 @@ ghost use Rattle.std.specs.Io.KnownBytes.{Appends, Consumes, Keeps};
 ghost use Rattle.streams.specs.Answers.{given_by, taken_by};
 ghost use Rattle.streams.specs.Calls.{FitsIn, IsFrontOf, IsTrueEnd, bytes_given, bytes_taken};
 
+use crate::obstacle::{Obstacle, obstacle_of};
 use crate::stream::{Given, Taken};
 use std::io;
-use std::io::{ErrorKind, Read, Write};
+use std::io::{Read, Write};
 
 /// Asks `reader` for bytes, again after each interruption, and puts them at the front of `buffer`. Returns `Stall` if
 /// the call would block, or if `reader` is a socket that is still connecting, and `Fault` after any other error or
@@ -32,10 +33,10 @@ fn given_by(answer: io::Result<usize>) -> Option<Given>
     match answer {
         Ok(0) => Some(Given::End),
         Ok(count) => Some(Given::Bytes(count)),
-        Err(error) => match error.kind() {
-            ErrorKind::Interrupted => None,
-            ErrorKind::WouldBlock | ErrorKind::NotConnected => Some(Given::Stall),
-            _ => Some(Given::Fault),
+        Err(error) => match obstacle_of(error.kind()) {
+            Obstacle::Interruption => None,
+            Obstacle::Wait => Some(Given::Stall),
+            Obstacle::Fault => Some(Given::Fault),
         },
     }
 }
@@ -63,10 +64,10 @@ fn taken_by(answer: io::Result<usize>) -> Option<Taken>
     match answer {
         Ok(0) => Some(Taken::Nothing),
         Ok(count) => Some(Taken::Bytes(count)),
-        Err(error) => match error.kind() {
-            ErrorKind::Interrupted => None,
-            ErrorKind::WouldBlock | ErrorKind::NotConnected => Some(Taken::Nothing),
-            _ => Some(Taken::Fault),
+        Err(error) => match obstacle_of(error.kind()) {
+            Obstacle::Interruption => None,
+            Obstacle::Wait => Some(Taken::Nothing),
+            Obstacle::Fault => Some(Taken::Fault),
         },
     }
 }

@@ -2,9 +2,13 @@
 use crate::meeting::{guest_of, heard, hears};
 use crate::seen::{Seen, yes};
 use crate::texts::{given, taken};
-use net::{DialFault, Dialling, TcpDoor, TcpSocket, Watch};
+use bytetext::Failure;
+use net::{DialFault, DialTokens, Dialling, TcpDoor, TcpSocket, Watch};
+use std::fs::File;
 use std::io;
 use std::net::{Ipv4Addr, Net, SocketAddr};
+use std::random::RandomSource;
+use std::rt::Files;
 use streams::Stream as _;
 
 // The token of the door, and below it that of the caller who connects to it.
@@ -12,8 +16,17 @@ const DOOR: usize = 7;
 
 const CALLER: usize = 8;
 
+// The tokens of a try to connect.
+const TOKENS: DialTokens = DialTokens {
+    connection: CALLER,
+    lookup: 9,
+};
+
 /// Connects to a door, sends bytes both ways, closes, and connects where nobody listens.
-pub fn connections<R: AllocGlobal + Net>(rt: &R, seen: &mut Seen) -> io::Result<()> {
+pub fn connections<R>(rt: &R, seen: &mut Seen) -> io::Result<()>
+where
+    R: AllocGlobal + Net + Files<File = File> + RandomSource,
+{
     let mut watch = Watch::new(rt, 8)?;
     let here = SocketAddr::from((Ipv4Addr::LOCALHOST, 0));
     let Ok(door) = TcpDoor::open(rt, watch.registry(), DOOR, here) else {
@@ -22,16 +35,18 @@ pub fn connections<R: AllocGlobal + Net>(rt: &R, seen: &mut Seen) -> io::Result<
     let Some(address) = door.address() else {
         return Ok(());
     };
-    let dialling = Dialling::new(0, 300, 1);
-    match dialling.connect(rt, watch.registry(), CALLER, b"127.0.0.1", address.port()) {
-        Ok(dialled) => {
+    let mut dialling = Dialling::new(0, 300, 1);
+    let registry = watch.registry();
+    match dialling.connect(rt, registry, TOKENS, b"127.0.0.1", address.port(), 0) {
+        Ok(Some(dialled)) => {
             seen.note("it leads to the door", yes(dialled.address == address));
             meet(seen, &mut watch, &door, dialled.socket)?;
         }
+        Ok(None) => seen.note("it leads to the door", "looked up"),
         Err(_) => seen.note("it leads to the door", "refused"),
     }
     drop(door);
-    let unread = dialling.connect(rt, watch.registry(), CALLER, b"\xff", 1);
+    let unread = dialling.connect(rt, watch.registry(), TOKENS, b"\xff", 1, 0);
     seen.note(
         "a host that can't be read",
         yes(is_unreadable(unread.err())),
@@ -39,8 +54,8 @@ pub fn connections<R: AllocGlobal + Net>(rt: &R, seen: &mut Seen) -> io::Result<
     refused(rt, seen, &mut watch, address)
 }
 
-fn is_unreadable(fault: Option<DialFault>) -> bool {
-    matches!(fault, Some(DialFault::Unreadable))
+fn is_unreadable(error: Option<Failure<DialFault>>) -> bool {
+    matches!(error, Some(Failure::Refused(DialFault::Unreadable)))
 }
 
 // Lets the caller in, and has both ends send something.

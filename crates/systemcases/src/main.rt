@@ -13,6 +13,9 @@
 //! something to say; and that a refusal shows as a fault of the stream, and an end as its end. These cases use
 //! 127.0.0.1 and a path in the folder where the program runs, and no name server.
 //!
+//! The last cases make standard output a file and then a pipe. The program prints that a log waits while nobody reads
+//! the pipe, and what it writes once somebody does.
+//!
 //! The crate's file `stdout` was worked out by hand. The program ends with status 0 if it could print all lines.
 #![tactic(auto)]
 
@@ -21,6 +24,7 @@ mod connections;
 mod descriptors;
 mod doors;
 mod folders;
+mod logs;
 mod meeting;
 mod names;
 mod paths;
@@ -34,6 +38,7 @@ use crate::connections::connections;
 use crate::descriptors::{closed_under, low_descriptor};
 use crate::doors::doors;
 use crate::folders::whole_folder;
+use crate::logs::logs;
 use crate::names::{lone_files, names, tidy};
 use crate::paths::paths;
 use crate::seen::Seen;
@@ -43,6 +48,7 @@ use std::fs::File;
 use std::io;
 use std::io::Write as _;
 use std::net::Net;
+use std::random::RandomSource;
 use std::rt::Files;
 use std::time::Clock;
 
@@ -55,6 +61,7 @@ fn main(rt: HostRuntime) -> anyhow::Result<()> {
     play(&rt, &mut seen);
     tidy(&rt);
     play_sockets(&rt, &mut seen)?;
+    logs(&rt, &mut seen)?;
     let text = seen.into_bytes()?;
     io::writer(&rt).write_all(&text)?;
     Ok(())
@@ -74,7 +81,10 @@ fn play<R: AllocGlobal + Files<File = File> + Clock>(rt: &R, seen: &mut Seen) {
 }
 
 // Plays the cases of sockets.
-fn play_sockets<R: AllocGlobal + Files + Net>(rt: &R, seen: &mut Seen) -> io::Result<()> {
+fn play_sockets<R>(rt: &R, seen: &mut Seen) -> io::Result<()>
+where
+    R: AllocGlobal + Files<File = File> + Net + RandomSource,
+{
     doors(rt, seen)?;
     connections(rt, seen)?;
     paths(rt, seen)

@@ -19,8 +19,8 @@ pub fn settings(alloc: Global, lines: &[Text], out: &mut Sink) -> Result<(), Cas
     answer(alloc, &bytes, out)
 }
 
-// The lines, with a line feed between.
-fn file_of(alloc: Global, lines: &[Text]) -> Result<Vec<u8>, NoMemory> {
+/// Returns the lines, with a line feed between.
+pub fn file_of(alloc: Global, lines: &[Text]) -> Result<Vec<u8>, NoMemory> {
     let mut file = Vec::new(alloc);
     for (place, line) in lines.iter().enumerate() {
         if place > 0 {

@@ -1,5 +1,5 @@
 // What a case of the edge of a bot as a process asks for.
-use crate::{configurations, handshakes, seconds, wires};
+use crate::{configurations, handshakes, lookups, seconds, wires};
 use bytetext::Text;
 use caselines::{CaseError, NO_SUCH_CASE, Sink};
 use std::alloc::Global;
@@ -13,11 +13,15 @@ pub fn answer(
 ) -> Result<(), CaseError> {
     match first {
         b"hmac" => handshakes::hmac(words, out),
+        b"hosts" => lookups::hosts(alloc, words, out),
         b"hub" => handshakes::hub(words, out),
         b"late" => handshakes::late(words, out),
         b"leaf" => handshakes::leaf(words, out),
         b"long" => configurations::long(alloc, words, out),
+        b"query" => lookups::query(words, out),
         b"redial" => seconds::redial(words, out),
+        b"reply" => lookups::reply(alloc, words, out),
+        b"servers" => lookups::servers(alloc, words, out),
         b"settings" => configurations::settings(alloc, words, out),
         b"timeline" => seconds::timeline(words, out),
         b"wire" => wires::wire(alloc, words, out),

@@ -53,6 +53,10 @@
 //! | `hub SECRET NET LEAVES NONCE HEARD..` | what a hub says first, then its answer to each HEARD, with ` ; ` between |
 //! | `leaf SECRET NUMBER NET NONCE HEARD..` | what a leaf makes of each HEARD, in turn, with ` ; ` between |
 //! | `late BEGAN NOW` | whether a handshake that began then is too late now |
+//! | `query NUMBER NAME 4\|6` | the bytes of the query for NAME's addresses of this family, or `no name` |
+//! | `reply NUMBER NAME 4\|6 BYTES` | what BYTES answer to that query: addresses, `nothing` or `no answer` |
+//! | `hosts NAME LINE..` | the addresses of NAME in a file of hosts of these lines, or `none` |
+//! | `servers LINE..` | the name servers in a configuration of the resolver of these lines |
 //!
 //! A ZONE is the minutes by which a clock is ahead of UTC, or a rule of POSIX as one word.
 //!
@@ -132,6 +136,7 @@ mod frames;
 mod handshakes;
 mod journals;
 mod lines;
+mod lookups;
 mod masks;
 mod persons;
 mod puppet;

@@ -19,7 +19,7 @@ returns-in-Ok-clause-takes g c =
       channels = c.self.inside.channels.current;
       clock = c.self.inside.clock;
       timers = c.self.inside.timers;
-      queues = c.self.inside.queues;
+      queues = c.self.inside.queues.current;
       welcomed = c.self.inside.welcomed;
     } in
     subst
@@ -41,7 +41,7 @@ returns-in-Err-clause-takes g c =
       channels = c.self.inside.channels.current;
       clock = c.self.inside.clock;
       timers = c.self.inside.timers;
-      queues = c.self.inside.queues;
+      queues = c.self.inside.queues.current;
       welcomed = c.self.inside.welcomed;
     } in
     let new : Bot = record old { link = c.receive.new.self } in
@@ -63,7 +63,7 @@ returns-in-Ok-clause-good_records g c =
       channels = c.self.inside.channels.current;
       clock = c.self.inside.clock;
       timers = c.self.inside.timers;
-      queues = c.self.inside.queues;
+      queues = c.self.inside.queues.current;
       welcomed = c.self.inside.welcomed;
     } in
     packet_good g.P.Promise.promised c.args.store.now before c.in-Ok.answer c.take_answer.result c.take_answer.new.self

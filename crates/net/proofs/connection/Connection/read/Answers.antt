@@ -1,4 +1,4 @@
-use Rattle.std.proofs.Common.{ap, arith, ◌||◌, rules}
+use Rattle.std.proofs.Common.{ap, ◌||◌, rules}
 use Rattle.net.specs.Connections.{talk_of}
 use Rattle.net.proofs.ConnectionLemmas.{asks_at, grows_more, hears_at, one_read_more, reads_fewer}
 use Rattle.net.proofs.connection.Connection.read.Goals as goal

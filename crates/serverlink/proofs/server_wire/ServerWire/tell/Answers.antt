@@ -1,4 +1,4 @@
-use Rattle.std.proofs.Common.{◌≡◌, ◌∙◌, refl, sym, rules, tests}
+use Rattle.std.proofs.Common.{◌≡◌, ◌∙◌, ap, sym, rules, tests}
 use Rattle.std.proofs.lemmas.Iterator.{YieldsList-from_slice}
 use Rattle.std.proofs.lemmas.Iterator.Search.{any_from_yields_List}
 use Rattle.std.specs.List.{list_any}
@@ -11,7 +11,7 @@ pub invariant_of-self-2 : goal.invariant_of-self-2
 invariant_of-self-2 g c =
     let breaks : c.any.result ≡ list_any is_break c.args.line.now = any_from_yields_List is_break _ _ c.any.result c.any.ensures.ran (YieldsList-from_slice c.args.line.now cc) (λ x b q k. search (rules, tests)) in
     let is : IsLine c.args.line.now = search rules in (
-      tells_told _ _ _ _ _ _ _ _ c.args.line.now _ c.tell.result refl is c.self.invariant.0 c.tell.ensures.holds,
+      tells_told _ _ _ _ c.args.line.now c.tell.result is c.self.invariant.0 (ap g.S.Stream.sink c.tell.ensures.stream) c.tell.ensures.told,
       c.tell.ensures.bounds ∙ c.self.invariant.1,
     )
 

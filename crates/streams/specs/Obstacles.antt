@@ -1,8 +1,8 @@
--- What an error of the system means for a socket.
+-- What an error of the system means for a stream.
 use Rattle.std.specs.declared.io.ErrorKind.{ErrorKind}
 use Rattle.std.specs.declared.io.ErrorKind.TheVariants.{WouldBlock, Interrupted, NotConnected}
-use Rattle.net.specs.declared.socket.Obstacle.{Obstacle}
-use Rattle.net.specs.declared.socket.Obstacle.TheVariants.{Interruption, Wait, Fault}
+use Rattle.streams.specs.declared.obstacle.Obstacle.{Obstacle}
+use Rattle.streams.specs.declared.obstacle.Obstacle.TheVariants.{Interruption, Wait, Fault}
 
 -- an interrupted call is made again; a socket that is still connecting waits
 abbrev pub obstacle_of : ErrorKind → Obstacle

@@ -1,0 +1,109 @@
+-- The greeting of a bot: no line of it is refused, and what waits of it.
+use Rattle.std.proofs.Common.{◌≡◌, ◌∙◌, ℕ, ◌+◌, ◌≤◌, ◌<◌, ◌==◌, nat_le, Bool, true, false, not, ◌&&◌, ◌||◌, Option, Some, None, min}
+use Rattle.std.proofs.Common.{List, [], ◌∷◌, ◌++◌, length, take, codes, slice_index, refl, ap, sym, arith, length-append}
+use Rattle.std.proofs.lemmas.Bool.{and_parts, le-ltb, leb-true, lt-leb, ne_eqb}
+use Rattle.std.proofs.lemmas.List.{length-take}
+use Rattle.std.proofs.lemmas.List.Folds.{list_any-append}
+use Rattle.std.specs.List.{list_any, list_all}
+use Rattle.ircline.proofs.TextLemmas.{apart, none-all}
+use Rattle.outqueue.specs.declared.fault.QueueFault.{QueueFault}
+use Rattle.outqueue.specs.declared.limits.TheConstants.{MAX_BYTES, MAX_LINES}
+use Rattle.outqueue.specs.declared.queue.Queue.TheVariants.{Mode}
+use Rattle.outqueue.specs.declared.queues.Counts.{Counts}
+use Rattle.outqueue.specs.Refusals.{is_break, is_bad_line, refusal}
+use Rattle.outqueue.specs.Sending.{Sending, idle, waiting, sent, with_first, count_at}
+use Rattle.outqueue.proofs.Drains.{length-sent}
+use Rattle.botcore.specs.Automatic.{greeting, wish}
+use Rattle.botcore.specs.Configs.{IsGood, is_nick, is_nick_byte}
+use Rattle.botcore.specs.Putting.{put_faults, queued, queued_unless, with_line_fault}
+use Rattle.botcore.specs.declared.config.Config.{Config}
+use Rattle.botcore.specs.declared.limits.TheConstants.{MAX_NICK}
+
+-- no line is refused -----------------------------------------------------------------------------------------------------
+
+-- a byte of a nick ends no line
+no_break : (b : ℕ) → is_nick_byte b ≡ true → is_break b ≡ false
+no_break b is = rw (apart is_nick_byte 0 b is refl, apart is_nick_byte 10 b is refl, apart is_nick_byte 13 b is refl) refl
+
+-- of two texts neither of which has a break
+no_breaks : (xs ys : List ℕ) → list_any is_break xs ≡ false → list_any is_break ys ≡ false → list_any is_break (xs ++ ys) ≡ false
+no_breaks xs ys none nor = list_any-append is_break xs ys ∙ ap (λ b. b || list_any is_break ys) none ∙ nor
+
+good_line : (line : List ℕ) → 0 < length line → length line ≤ MAX_BYTES → list_any is_break line ≡ false → is_bad_line line ≡ false
+good_line line some short none = rw (ne_eqb (length line) 0 (λ e. absurd (omega arith)), le-ltb MAX_BYTES (length line) short, none) refl
+
+-- a nick is short, and has no break
+nick_parts : (nick : List ℕ) → is_nick nick ≡ true → (length nick ≤ MAX_NICK) × (list_any is_break nick ≡ false)
+nick_parts nick is =
+    let parts = (and_parts (nat_le (length nick) MAX_NICK) (not (slice_index nick 0 == 58) && list_all is_nick_byte nick)
+    (and_parts (nat_le 1 (length nick)) (nat_le (length nick) MAX_NICK && (not (slice_index nick 0 == 58) && list_all is_nick_byte nick)) is).1) in (
+      leb-true (length nick) MAX_NICK parts.0,
+      none-all is_break is_nick_byte no_break nick (and_parts (not (slice_index nick 0 == 58)) (list_all is_nick_byte nick) parts.1).1,
+    )
+
+nick_good : (nick : List ℕ) → is_nick nick ≡ true → is_bad_line (codes "NICK " ++ (nick ++ [])) ≡ false
+nick_good nick is =
+    let parts = nick_parts nick is in
+    let short = parts.0 in
+    let len : length (nick ++ []) ≡ length nick + 0 = length-append nick [] in
+    let all : length (codes "NICK " ++ (nick ++ [])) ≡ 5 + length (nick ++ []) = length-append (codes "NICK ") (nick ++ []) in
+    good_line (codes "NICK " ++ (nick ++ [])) (omega arith) (omega arith) (no_breaks (codes "NICK ") (nick ++ []) refl (no_breaks nick [] parts.1 refl))
+
+user_good : (nick : List ℕ) → is_nick nick ≡ true → is_bad_line (codes "USER " ++ (nick ++ (codes " 0 * :" ++ (nick ++ [])))) ≡ false
+user_good nick is =
+    let parts = nick_parts nick is in
+    let short = parts.0 in
+    let name = codes " 0 * :" ++ (nick ++ []) in
+    let len : length (nick ++ []) ≡ length nick + 0 = length-append nick [] in
+    let name_len : length name ≡ 6 + length (nick ++ []) = length-append (codes " 0 * :") (nick ++ []) in
+    let rest_len : length (nick ++ name) ≡ length nick + length name = length-append nick name in
+    let all : length (codes "USER " ++ (nick ++ name)) ≡ 5 + length (nick ++ name) = length-append (codes "USER ") (nick ++ name) in
+    good_line (codes "USER " ++ (nick ++ name)) (omega arith) (omega arith)
+    (no_breaks (codes "USER ") (nick ++ name) refl
+    (no_breaks nick name parts.1 (no_breaks (codes " 0 * :") (nick ++ []) refl (no_breaks nick [] parts.1 refl))))
+
+-- a good line is put into a queue that is not full
+not_refused : (q : Sending) (line : List ℕ) → is_bad_line line ≡ false → length q.mode < MAX_LINES → refusal q Mode line ≡ None
+unfolding refusal
+not_refused q line good few = rw (good, lt-leb MAX_LINES (length q.mode) few) refl
+
+-- so the greeting of a good configuration is queued whole
+pub greeting_put : (config : Config) → IsGood config → put_faults idle (greeting config) ≡ []
+greeting_put config good =
+    let nick_wish = wish Mode (codes "NICK " ∷ config.nick ∷ []) in
+    let user_wish = wish Mode (codes "USER " ∷ config.nick ∷ codes " 0 * :" ∷ config.nick ∷ []) in
+    let queues : Sending = record idle { mode = nick_wish.line ∷ [] } in
+    let nick : refusal idle Mode nick_wish.line ≡ None = not_refused idle nick_wish.line (nick_good config.nick good.nick) (omega arith) in
+    let user : refusal queues Mode user_wish.line ≡ None = not_refused queues user_wish.line (user_good config.nick good.nick) (omega arith) in
+    ap (λ (o : Option QueueFault). with_line_fault o (put_faults (queued idle nick_wish) (user_wish ∷ []))) nick
+    ∙ ap (λ (o : Option QueueFault). put_faults (queued_unless o idle nick_wish) (user_wish ∷ [])) nick
+    ∙ ap (λ (o : Option QueueFault). with_line_fault o []) user
+
+-- what waits -------------------------------------------------------------------------------------------------------------
+
+empty : {X : Type 0} (xs : List X) → length xs ≡ 0 → xs ≡ []
+empty [] e = refl
+empty (x ∷ xs) e = cc
+
+-- if no line may go, then none waits
+pub none_waits : (q : Sending) (now : ℕ) → q.timer ≡ 0 → sent q now ≡ [] → waiting q ≡ []
+none_waits q now timer none =
+    let count : length (sent q now) ≡ count_at q now = length-sent q now in
+    let no : length (sent q now) ≡ 0 = ap length none in
+    empty (waiting q) (omega arith)
+
+-- then the first lines of each queue are none
+pub none_left : (q : Sending) (left : Counts) → waiting (with_first q left) ≡ []
+    → (min left.mode (length q.mode) == 0 && (min left.server (length q.server) == 0 && min left.help (length q.help) == 0)) ≡ true
+none_left q left none =
+    let mode : length (take left.mode q.mode) ≡ min left.mode (length q.mode) = length-take left.mode q.mode in
+    let server : length (take left.server q.server) ≡ min left.server (length q.server) = length-take left.server q.server in
+    let help : length (take left.help q.help) ≡ min left.help (length q.help) = length-take left.help q.help in
+    let lower : length (take left.server q.server ++ take left.help q.help) ≡ length (take left.server q.server) + length (take left.help q.help)
+    = length-append (take left.server q.server) (take left.help q.help) in
+    let all : 0 ≡ length (take left.mode q.mode) + length (take left.server q.server ++ take left.help q.help)
+    = ap length (sym none) ∙ length-append (take left.mode q.mode) (take left.server q.server ++ take left.help q.help) in
+    let no_mode : min left.mode (length q.mode) ≡ 0 = omega arith in
+    let no_server : min left.server (length q.server) ≡ 0 = omega arith in
+    let no_help : min left.help (length q.help) ≡ 0 = omega arith in
+    rw (no_mode, no_server, no_help) refl

@@ -1,0 +1,4 @@
+pub mod SpellingLemmas
+pub mod RecordLemmas
+pub mod HeldLemmas
+pub mod FileLemmas
