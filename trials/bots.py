@@ -128,6 +128,15 @@ class Ours(Server):
         return [self.program, "serve", str(self.port)]
 
 
+class Nowhere:
+    """A server that nobody is at."""
+
+    host, password = "127.0.0.1", ""
+
+    def __init__(self):
+        self.port = free_port()
+
+
 class Ngircd(Server):
     """Debian's package ngircd: nicks of nine bytes, `~user`, and it names what it lets in a second."""
 
@@ -257,6 +266,7 @@ class Bot:
     """A bot of a configuration file, as a process."""
 
     where = ()  # words that start its program at a place of its own
+    environment = {}  # what its program has in its environment beside what the trial has
 
     def __init__(self, program, room, name, servers, lines=(), nick="egg"):
         self.program, self.name, self.nick = program, name, nick
@@ -287,7 +297,7 @@ class Bot:
             out = subprocess.PIPE if limit is not None else log
             self.process = subprocess.Popen([*self.where, self.program, "run", self.config], stdin=subprocess.DEVNULL,
                                             stdout=out, stderr=subprocess.STDOUT, preexec_fn=prepare,
-                                            restore_signals=limit is None)
+                                            restore_signals=limit is None, env={**os.environ, **self.environment})
         if limit is not None:
             self.drain = threading.Thread(target=self.keep_log, args=(self.process.stdout,), daemon=True)
             self.drain.start()
@@ -358,6 +368,17 @@ class Bot:
         """Its resident memory in kilobytes."""
         text = Path(f"/proc/{self.process.pid}/status").read_text(encoding="utf-8")
         return int(re.search(r"VmRSS:\s+(\d+)", text).group(1))
+
+
+def change_after(version):
+    """The change that is asked for at a version: u1 is added, then taken away, then u3 added, and so on."""
+    return f"adduser u{version + 1}" if version % 2 == 0 else f"deluser u{version}"
+
+
+def records_at(version):
+    """What a bot shows at a version."""
+    users = [f"0 user u{version} - -\n"] if version % 2 else []
+    return f"0 version {version} users {len(users)} bans 0\n" + "".join(users)
 
 
 def end_all(*those):

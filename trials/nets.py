@@ -205,10 +205,20 @@ class Asker(Claims):
                 answer = operator.hears()
             if answer is None:
                 return
+            if answer.startswith(("refused S5 a disk failed", "refused S2 the bot is down")):
+                # The bot ends. It is not known whether the change counts, or another's change met the fault.
+                return
             if answer.startswith("refused U11 "):
                 # Full of those of which it is not known: others make room.
                 self.doubtful.remove(record)
                 time.sleep(1)
+                continue
+            if answer.startswith("refused no room: "):
+                # A fault met the file that sets space aside: the bot was not asked.
+                self.doubtful.remove(record)
+                if not line.startswith("add"):
+                    self.here.insert(0, record)
+                time.sleep(0.2)
                 continue
             if not answer.startswith("accepted "):
                 self.strange = f"{line}: {answer!r}"

@@ -1,7 +1,6 @@
 """What `eggnet` says where a bot can't go on: each error text, disks without room, memory that is refused, and
 clients of the socket `control`."""
 import os
-import re
 import shutil
 import socket
 import subprocess
@@ -211,50 +210,83 @@ def last_generation_of(tally, program, room, layout):
         end_all(bot)
 
 
-def growing():
-    """Changes by which the records grow, each of which is accepted."""
-    for user in range(1, 400):
-        yield f"adduser u{user}"
-        for host in range(15):
-            yield f"addhost u{user} *!*user{host}@{'x' * 60}.host{user}.example"
+NO_ROOM = "refused no room: free some on the disk of the bot's folder, then say it again\n"
 
 
-def failed_disk(tally, program, room, name, folder, limit):
-    """A bot whose disk has no room: it ends, tells which change is open, and what it acknowledged is there later."""
-    server = Ours(room, program)
-    bot = Bot(program, room, name, [server])
+def full_disk(tally, program, room, name, folder, limit):
+    """A bot whose disk has no room refuses changes by name and goes on, and takes them where there is room."""
+    bot = Bot(program, room, name, [Ours(room, program)])
     if folder:
         bot.move_to(folder)
     try:
         tally.note(f"{name}: it starts", bot.start(limit), bot.logged()[-200:])
-        told = 0
-        for line in growing():
-            if bot.answers(line) != f"accepted {told + 1}\n":
-                break
-            told += 1
-        ended = comes(lambda: bot.process.poll() is not None)
-        text = bot.logged()
-        status = bot.process.returncode
-        tally.note(f"{name}: it ends with 3", ended and status == 3, f"status {status} after {told} changes")
-        said = re.search(r"change (\d+) may count or not", text)
-        tally.note(f"{name}: it says which change is open", bool(said) and int(said.group(1)) == told + 1,
-                   next((line for line in text.splitlines() if line.startswith("eggnet: ")), text[-200:]))
+        seen = [bot.answers(line) for line in ("adduser me", "compact")]
+        tally.note(f"{name}: it refuses changes", seen == [NO_ROOM] * 2, seen)
+        time.sleep(3)
+        goes_on = bot.process.poll() is None and bot.tell("status")[0] == 0
+        tally.note(f"{name}: it goes on", goes_on, bot.logged()[-200:])
+        bot.end()
         if folder:
-            if os.path.exists(f"{folder}/control"):
-                os.remove(f"{folder}/control")
             shutil.move(folder, f"{room}/{name}-moved")
             bot.move_to(f"{room}/{name}-moved")
-        tally.note(f"{name}: with room it starts again", bot.start(), bot.logged()[-200:])
+        tally.note(f"{name}: it starts where there is room", bot.start(), bot.logged()[-200:])
+        seen = bot.answers("adduser me")
+        tally.note(f"{name}: it takes a change", seen == "accepted 1\n", seen)
+    finally:
+        end_all(bot)
+
+
+# Syncs fail while a file of this name is there.
+SYNCS = r"""
+#define _GNU_SOURCE
+#include <errno.h>
+#include <stdlib.h>
+#include <sys/syscall.h>
+#include <unistd.h>
+
+int fdatasync(int fd) {
+    if (access(getenv("SYNCS_FAIL"), F_OK) == 0) {
+        errno = EIO;
+        return -1;
+    }
+    return (int)syscall(SYS_fdatasync, fd);
+}
+"""
+
+
+def failed_disk(tally, program, room):
+    """A bot whose disk fails: it ends, tells which change is open, and what it acknowledged is there later."""
+    if not shutil.which("cc"):
+        tally.say("no cc: no disk fails")
+        return
+    bot = Bot(program, room, "failing", [Ours(room, program)])
+    library, fails = preload.made(room, "syncs", SYNCS), f"{room}/syncs_fail"
+    try:
+        with open(bot.log, "ab") as log:
+            environment = {**os.environ, "LD_PRELOAD": library, "SYNCS_FAIL": fails}
+            bot.process = subprocess.Popen([program, "run", bot.config], stdin=subprocess.DEVNULL, stdout=log,
+                                           stderr=log, env=environment)
+        told = comes(lambda: bot.answers("adduser me"))
+        tally.note("failing: it starts", told == "accepted 1\n", told)
+        Path(fails).touch()
+        bot.answers("adduser you")
+        ended = comes(lambda: bot.process.poll() is not None)
+        status, text = bot.process.returncode, bot.logged()
+        tally.note("failing: it ends with 3", ended and status == 3, f"status {status}")
+        told = next((line for line in text.splitlines() if line.startswith("eggnet: ")), text[-200:])
+        tally.note("failing: it says which change is open", "; change 2 may count or not" in told, told)
+        os.remove(fails)
+        tally.note("failing: once the disk works it starts again", bot.start(), bot.logged()[-200:])
         version = int(((bot.answers("show") or "0 version -1 ").split())[2])
-        tally.note(f"{name}: what was acknowledged is there", told <= version <= told + 1,
-                   f"{told} told, version {version}")
+        tally.note("failing: what was acknowledged is there", version in (1, 2), f"version {version}")
     finally:
         end_all(bot)
 
 
 def disks(tally, program, room):
-    """Files that may not grow, and where this user may mount one a small disk that is full."""
-    failed_disk(tally, program, room, "limited", None, 24_576)
+    """Files that may not grow, a disk that fails, and where this user may mount one a small disk that is full."""
+    full_disk(tally, program, room, "limited", None, 24_576)
+    failed_disk(tally, program, room)
     small = f"{room}/small"
     os.mkdir(small)
     if os.getuid() or ran(["mount", "-t", "tmpfs", "-o", "size=96k,mode=0700", "tmpfs", small])[0]:
@@ -262,7 +294,7 @@ def disks(tally, program, room):
         return
     try:
         Path(f"{small}/filler").write_bytes(b"x" * 32_768)
-        failed_disk(tally, program, room, "full", f"{small}/egg", None)
+        full_disk(tally, program, room, "full", f"{small}/egg", None)
     finally:
         ran(["umount", "-l", small])
 
