@@ -21,7 +21,7 @@ pub trait Cases {
 }
 
 /// A program's answers to cases of several steps, where a step may depend on those before it.
-pub trait Steps {
+pub trait StepMaker {
     /// Makes the step that `line` asks for, and appends its answer to `out`: lines that each end with a line feed.
     ///
     /// # Errors
@@ -42,7 +42,7 @@ pub fn answer_input<R: Input + Print + Eprint + AllocGlobal, C: Cases>(
 /// Makes the steps of standard input on standard output, as `steps` does: a line is a step, an empty line is skipped,
 /// and a line that begins with `#` is printed as it is. If it ends early, it says why on standard error, after the name
 /// `program`. Returns the status that the program ends with.
-pub fn play_input<R: Input + Print + Eprint + AllocGlobal, S: Steps>(
+pub fn play_input<R: Input + Print + Eprint + AllocGlobal, S: StepMaker>(
     rt: &R,
     program: &str,
     steps: &mut S,
@@ -70,7 +70,10 @@ fn answer_all<R: Input + Print + AllocGlobal, C: Cases>(rt: &R, cases: &C) -> Re
 }
 
 // Makes the steps of standard input.
-fn play_all<R: Input + Print + AllocGlobal, S: Steps>(rt: &R, steps: &mut S) -> Result<(), Stop> {
+fn play_all<R: Input + Print + AllocGlobal, S: StepMaker>(
+    rt: &R,
+    steps: &mut S,
+) -> Result<(), Stop> {
     let input = read_input(rt)?;
     let answers = answers_to(rt.alloc(), steps, &input)?;
     io::writer(rt).write_all(&answers)?;
@@ -117,7 +120,7 @@ fn answer<C: Cases>(
 }
 
 // The answers to the steps of a text.
-fn answers_to<S: Steps>(alloc: Global, steps: &mut S, input: &[u8]) -> Result<Vec<u8>, Stop> {
+fn answers_to<S: StepMaker>(alloc: Global, steps: &mut S, input: &[u8]) -> Result<Vec<u8>, Stop> {
     let mut out = Vec::new(alloc);
     for (i, line) in input.split(|byte| *byte == b'\n').enumerate() {
         if let Err(error) = step(alloc, steps, line, &mut out) {
@@ -128,7 +131,7 @@ fn answers_to<S: Steps>(alloc: Global, steps: &mut S, input: &[u8]) -> Result<Ve
 }
 
 // Makes the step of a line, if it is one.
-fn step<S: Steps>(
+fn step<S: StepMaker>(
     alloc: Global,
     steps: &mut S,
     line: &[u8],

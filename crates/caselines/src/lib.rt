@@ -8,7 +8,7 @@
 //! returns. Answers go to a [`Sink`], which shows a byte that is not printable ASCII as `\x` and two hexadecimal
 //! digits.
 //!
-//! A case of several steps has a line for each. A program makes them by an impl of [`Steps`], and hands it to
+//! A case of several steps has a line for each. A program makes them by an impl of [`StepMaker`], and hands it to
 //! [`play_input`]. A step splits its line into words itself, and answers with any number of lines. Lines that begin with
 //! `#` are printed.
 //!
@@ -38,7 +38,7 @@ mod stop;
 mod values;
 mod words;
 
-pub use crate::answering::{Cases, Steps, answer_input, play_input};
+pub use crate::answering::{Cases, StepMaker, answer_input, play_input};
 pub use crate::lines::line_shown;
 pub use crate::sink::Sink;
 pub use crate::stop::{BAD_NUMBER, BAD_WORDS, CaseError, CaseFault, NO_SUCH_CASE, NOT_MADE};

@@ -81,7 +81,7 @@ pub use crate::frames::FramePeer;
 pub use crate::house::House;
 pub use crate::hub_socket::HubSocket;
 pub use crate::link::LinkHouse;
-pub use crate::live_command::{Commands, LiveCommand, Speech};
+pub use crate::live_command::{LiveCommand, LiveCommands, Speech};
 pub use crate::moment::Moment;
 pub use crate::peer::Peer;
 pub use crate::reading::LiveScript;

@@ -58,4 +58,4 @@ impl Drop for Speech {
 }
 
 /// Commands, in order.
-pub type Commands = Seq<LiveCommand>;
+pub type LiveCommands = Seq<LiveCommand>;

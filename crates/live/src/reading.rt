@@ -3,7 +3,7 @@ ghost use Rattle.live.specs.Grammar.{IsGoodCommand, IsGoodSaying};
 
 use crate::MAX_LEAVES;
 use crate::fault::{LiveFault, LiveScriptError};
-use crate::live_command::{Commands, LiveCommand};
+use crate::live_command::{LiveCommand, LiveCommands};
 use crate::reason::{LiveReason, reason_of};
 use crate::saying::{LiveSaying, saying_of};
 use bottimers::Zone;
@@ -17,7 +17,7 @@ use std::marker::Model;
 pub struct LiveScript {
     leaves: u16,
     zone: Option<Zone>,
-    commands: Commands,
+    commands: LiveCommands,
 }
 
 impl Model for LiveScript {
@@ -72,7 +72,7 @@ impl LiveScript {
     }
 
     /// Returns the commands, in order. Never allocates.
-    pub fn into_commands(self) -> Commands
+    pub fn into_commands(self) -> LiveCommands
         ensures value { result ≡ self.commands }
         // None of them gives a bot a packet.
         ensures good { AllByRecursion IsGoodCommand result }
@@ -133,7 +133,7 @@ fn set_leaves(alloc: Global, script: &mut Option<LiveScript>, leaves: u16) -> bo
     if script.is_some() || leaves > MAX_LEAVES {
         return false;
     }
-    let commands = Commands::empty(alloc);
+    let commands = LiveCommands::empty(alloc);
     *script = Some(LiveScript {
         leaves,
         zone: None,

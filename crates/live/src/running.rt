@@ -7,7 +7,7 @@ ghost use Rattle.live.specs.Heard.{heard_line, heard_text};
 
 use crate::MAX_TURNS;
 use crate::error::LiveError;
-use crate::live_command::{Commands, LiveCommand, Speech};
+use crate::live_command::{LiveCommand, LiveCommands, Speech};
 use crate::network::Network;
 use crate::reading::LiveScript;
 use crate::turn::{make_turns, tell};
@@ -98,7 +98,7 @@ fn do_all<R: Net + AllocGlobal, P: Promise, B: Run, S: Stream>(
     rt: &R,
     net: &mut Network,
     store: &ProcStore<P, B>,
-    commands: Commands,
+    commands: LiveCommands,
     stream: &mut S,
 ) -> Result<(), LiveError>
     requires good { AllByRecursion IsGoodCommand commands }

@@ -3,7 +3,7 @@ use crate::journal::JournalCase;
 use crate::link_steps::play;
 use crate::net::Net;
 use crate::talk::Talk;
-use caselines::{CaseError, Steps, cut};
+use caselines::{CaseError, StepMaker, cut};
 use std::alloc::Global;
 
 /// A case of each kind, as the steps so far left it.
@@ -35,7 +35,7 @@ impl State {
     }
 }
 
-impl Steps for State {
+impl StepMaker for State {
     fn step(&mut self, alloc: Global, line: &[u8], out: &mut Vec<u8>) -> Result<(), CaseError> {
         if let Some(kind) = begun_by(line) {
             self.kind = kind;

@@ -7,7 +7,7 @@ ghost use Rattle.sharelink.specs.Shapes.{AreGood};
 
 use crate::hearing::hear_all;
 use crate::outbox::{Outbox, step_clock};
-use crate::outcome::Outcomes;
+use crate::outcome::DriveOutcomes;
 use crate::output::write_out;
 use botcore::Bot;
 use bytetext::{NoMemory, Seq};
@@ -41,7 +41,7 @@ pub struct DriveReport {
     /// record.
     pub packets: Outgoings,
     /// The outcomes of the steps that it made, in order: one for each step with a note, a call or a fault.
-    pub outcomes: Outcomes,
+    pub outcomes: DriveOutcomes,
 }
 
 // Written by hand, so that it is proved once and not in each function that drops one.

@@ -37,4 +37,4 @@ impl DriveOutcome {
 }
 
 /// The outcomes of steps, in order.
-pub type Outcomes = Seq<DriveOutcome>;
+pub type DriveOutcomes = Seq<DriveOutcome>;
