@@ -6,7 +6,7 @@
 PROGRAM is the program to try, else what EGGNET names, else ours. The hub's folder is on a tmpfs of 4 MB, which root may
 mount, and another file fills it. A leaf's changes wait, an administrator at the hub is refused, an owner's changes on IRC
 are accepted, and the hub is killed and started on the full disk. Then the other file goes, and the leaf's changes are
-accepted. The last line is 'N well, M bad'; the status is 1 where any is bad.
+accepted, each with its line in the hub's log. The last line is 'N well, M bad'; the status is 1 where any is bad.
 """
 import os
 import sys
@@ -116,6 +116,8 @@ def room_again(tally, net, operator):
     accepted = [line for line in told if (line or "").startswith("accepted ")]
     tally.note("the leaf's changes are accepted", len(accepted) == len(WAITING),
                f"{len(accepted)} after {time.monotonic() - began:.1f} s")
+    unlogged = [line for line in accepted if f" change {line.split()[1]} accepted\n" not in hub.logged()]
+    tally.note("the hub's log has a line for each of them", bool(accepted) and not unlogged, unlogged)
     tally.note("the hub's log says that there is room again", hub.logged().count(ENDED) == 1, hub.logged()[-200:])
     seen = hub.tell("adduser", "bob")
     tally.note("tell adduser at the hub", seen[0] == 0, seen)
