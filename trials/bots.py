@@ -199,6 +199,23 @@ class Inspircd(Server):
         return ["inspircd", *alone, "--nofork", f"--config={path}"]
 
 
+def lines_of(end):
+    """The lines that the socket of an end brings, without CR LF, until it is closed or the end is no longer open."""
+    begun = b""
+    while end.is_open:
+        try:
+            came = end.socket.recv(65536)
+        except TimeoutError:
+            continue
+        except OSError:
+            return
+        if not came:
+            return
+        *whole, begun = (begun + came).split(b"\n")
+        for line in whole:
+            yield line.rstrip(b"\r").decode(errors="replace")
+
+
 class Guest:
     """A person at a server, by a bare socket. What it hears it keeps, line by line; a PING is answered."""
 
@@ -215,22 +232,12 @@ class Guest:
         self.is_welcome = self.hears(r" (001) ") is not None
 
     def listen(self):
-        begun = b""
-        while self.is_open:
-            try:
-                came = self.socket.recv(65536)
-            except OSError:
-                came = b""
-            if not came:
-                self.is_open = False
-                return
-            *whole, begun = (begun + came).split(b"\n")
-            for line in whole:
-                text = line.rstrip(b"\r").decode(errors="replace")
-                if text.startswith("PING "):
-                    self.say(f"PONG {text[5:]}")
-                else:
-                    self.lines.append(text)
+        for text in lines_of(self):
+            if text.startswith("PING "):
+                self.say(f"PONG {text[5:]}")
+            else:
+                self.lines.append(text)
+        self.is_open = False
 
     def say(self, line):
         """Sends a line. Whether it could be sent."""

@@ -4,7 +4,7 @@ import socket
 import threading
 import time
 
-from bots import PATIENCE, comes
+from bots import PATIENCE, comes, lines_of
 
 NAME = "small.trial"
 
@@ -18,23 +18,11 @@ class Visitor:
         threading.Thread(target=self.listen, daemon=True).start()
 
     def listen(self):
-        begun = b""
-        while self.is_open:
-            try:
-                came = self.socket.recv(65536)
-            except TimeoutError:
-                continue
-            except OSError:
-                came = b""
-            if not came:
-                self.is_open = False
-                return
-            *whole, begun = (begun + came).split(b"\n")
-            for line in whole:
-                text = line.rstrip(b"\r").decode(errors="replace")
-                self.lines.append((time.monotonic(), text))
-                if not self.server.is_mute:
-                    self.server.answer(self, text)
+        for text in lines_of(self):
+            self.lines.append((time.monotonic(), text))
+            if not self.server.is_mute:
+                self.server.answer(self, text)
+        self.is_open = False
 
     def say(self, *lines):
         """Sends it lines. Whether they could be sent within 20 seconds."""
