@@ -1,5 +1,5 @@
 -- The greeting of a bot: no line of it is refused, and what waits of it.
-use Rattle.std.proofs.Common.{◌≡◌, ◌∙◌, ℕ, ◌+◌, ◌≤◌, ◌<◌, ◌==◌, nat_le, Bool, true, false, not, ◌&&◌, ◌||◌, Option, Some, None, min}
+use Rattle.std.proofs.Common.{◌≡◌, ◌∙◌, ℕ, ◌+◌, ◌≤◌, ◌<◌, ◌==◌, nat_le, true, false, not, ◌&&◌, ◌||◌, Option, None, min}
 use Rattle.std.proofs.Common.{List, [], ◌∷◌, ◌++◌, length, take, codes, slice_index, refl, ap, sym, arith, length-append}
 use Rattle.std.proofs.lemmas.Bool.{and_parts, le-ltb, leb-true, lt-leb, ne_eqb}
 use Rattle.std.proofs.lemmas.List.{length-take}

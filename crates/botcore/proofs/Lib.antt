@@ -7,6 +7,7 @@ pub mod GoodLemmas
 pub mod GreetingLemmas
 pub mod JoiningLemmas
 pub mod LineLemmas
+mod MakingLemmas
 pub mod MomentLemmas
 pub mod PacketLemmas
 pub mod PutLemmas

@@ -2,7 +2,7 @@
 use Rattle.std.specs.Prelude.{ℕ, Bool, false, List, [], Option, None}
 use Rattle.bottimers.specs.Held.{Held}
 use Rattle.botjournal.specs.Ledger.{Device}
-use Rattle.sharelink.specs.BotLinks.{BotEnd, new_bot_end}
+use Rattle.sharelink.specs.BotLinks.{BotEnd, new_bot_end, bot_end_after}
 use Rattle.chanstate.specs.declared.state.ChanState.{ChanState}
 use Rattle.chanstate.specs.Views.{connected}
 use Rattle.outqueue.specs.Sending.{Sending, idle}
@@ -46,6 +46,10 @@ begun config link =
 -- a bot before its first step, on these disks
 abbrev pub new_bot : Config → Device → Bot
 new_bot config device = begun config (new_bot_end config.number config.leaves device)
+
+-- the same, but a leaf's last request has this number
+abbrev pub bot_after : Config → ℕ → Device → Bot
+bot_after config last device = begun config (bot_end_after config.number config.leaves last device)
 
 -- what a restart leaves of a bot whose journal was opened again: its binds, and the end of the link from the journal
 abbrev pub restarted : Bot → BotEnd → Bot

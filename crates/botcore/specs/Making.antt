@@ -1,5 +1,5 @@
 -- How a bot is made, opened from its disks, and taken apart.
-use Rattle.std.specs.Prelude.{◌≡◌, Result, Ok, Err}
+use Rattle.std.specs.Prelude.{◌≡◌, ℕ, Result, Ok, Err}
 use Rattle.bytetext.specs.declared.failure.Failure.{Failure}
 use Rattle.bytetext.specs.declared.failure.Failure.TheVariants.{Refused, NoMemory}
 use Rattle.disks.specs.State.{State}
@@ -8,12 +8,12 @@ use Rattle.bytejournal.specs.Opening.{CannotCreate}
 use Rattle.sharelink.specs.BotLinks.{BotEnd}
 use Rattle.botjournal.specs.Contents.{meaning}
 use Rattle.botjournal.specs.Ledger.{Device, AtEachMoment, device_on}
-use Rattle.sharelink.specs.BotOpening.{IsFound, IsLeft, FindsNone, MeanTheSame}
+use Rattle.sharelink.specs.BotOpening.{AreBots, IsFound, IsLeft, FindsNone, MeanTheSame}
 use Rattle.botcore.specs.declared.config.Config.{Config}
 use Rattle.botcore.specs.declared.fault.BotFault.{BotFault}
 use Rattle.botcore.specs.declared.fault.BotFault.TheVariants.{BadConfig, Journal}
 use Rattle.botcore.specs.declared.making.UnopenedBot.{UnopenedBot}
-use Rattle.botcore.specs.Bots.{Bot, begun, new_bot}
+use Rattle.botcore.specs.Bots.{Bot, begun, new_bot, bot_after}
 use Rattle.botcore.specs.Configs.{IsGood}
 
 -- why no bot is made before the disks are read: the configuration breaks a rule, or memory ran out although it is good
@@ -42,6 +42,11 @@ module _ {D : Type 0} (state : D → State) (config : Config) (first second : D)
   abbrev pub Makes : Result Bot (UnopenedBot D) → Type 0
   Makes (Ok bot) = IsGood config × (bot ≡ new_bot config bot.link.device)
   Makes (Err returned) = NotMade returned.error returned.disks.first returned.disks.second
+
+  -- Making a bot whose requests are numbered above this number, by cases on the answer.
+  abbrev pub MakesAfter : ℕ → Result Bot (UnopenedBot D) → Type 0
+  MakesAfter last (Ok bot) = IsGood config × (bot ≡ bot_after config last bot.link.device)
+  MakesAfter last (Err returned) = NotMade returned.error returned.disks.first returned.disks.second
 
   -- ---- opening
 
@@ -76,3 +81,13 @@ module _ {D : Type 0} (state : D → State) (config : Config) (first second : D)
   abbrev pub FindsAtEachMoment : Result Bot (UnopenedBot D) → Type 0
   FindsAtEachMoment (Ok bot) = LeavesFound bot.link.device
   FindsAtEachMoment (Err returned) = LeavesFound (device_on (state returned.disks.first) (state returned.disks.second))
+
+  -- if the disks hold a journal of the bot, at each moment, from the given disks on to these, a crash leaves one
+  abbrev pub LeavesBots : Device → Type 0
+  LeavesBots now = AreBots config.number config.leaves (state first).seen (state second).seen
+      → AtEachMoment (device_on (state first) (state second)) now (AreBots config.number config.leaves)
+
+  -- so it is at each moment of opening a bot
+  abbrev pub StaysBots : Result Bot (UnopenedBot D) → Type 0
+  StaysBots (Ok bot) = LeavesBots bot.link.device
+  StaysBots (Err returned) = LeavesBots (device_on (state returned.disks.first) (state returned.disks.second))

@@ -6,7 +6,7 @@ use bottimers::{Clock, Timers};
 use bytejournal::Disks;
 use disks::Disk;
 use procs::BindTable;
-use sharelink::BotLink;
+use sharelink::{BotLink, HeldSnapshot};
 use std::marker::Model;
 use userfile::Userfile;
 
@@ -76,6 +76,7 @@ impl<D: Disk> Bot<D> {
     ghost use Rattle.std.specs.Prelude.{◌≡◌};
     ghost use Rattle.protocol.specs.Ends.{end_is_down};
     ghost use Rattle.sharelink.specs.BotLinks.{MayLeave};
+    ghost use Rattle.sharelink.specs.Telling.{end_last_request, end_last_reply, end_held};
     ghost use Rattle.botcore.specs.Links.{ask_count, link_records, link_version};
 
     /// Returns the configuration with which the bot was made.
@@ -98,6 +99,28 @@ impl<D: Disk> Bot<D> {
         ensures { result.now ≡ link_records self.now.link }
     {
         self.link.userfile()
+    }
+
+    /// Returns the number of a leaf's last request, or 0 before its first. The hub, which sends no request, returns 0.
+    pub fn last_request(&self) -> u32
+        ensures { result ≡ end_last_request self.now.link.end }
+    {
+        self.link.last_request()
+    }
+
+    /// Returns the number of the last request of `leaf` that the hub replied to, or 0 if it replied to none or there is
+    /// no such leaf. A leaf, which replies to no request, returns 0.
+    pub fn last_reply(&self, leaf: u16) -> u32
+        ensures { result ≡ end_last_reply self.now.link.end leaf }
+    {
+        self.link.last_reply(leaf)
+    }
+
+    /// Returns which parts of a snapshot a leaf holds, or `None` if it holds none. The hub returns `None`.
+    pub fn held_parts(&self) -> Option<HeldSnapshot>
+        ensures { result ≡ end_held self.now.link.end }
+    {
+        self.link.held_parts()
     }
 
     /// Returns whether a disk failed or a restart did not end since the bot's journal was last opened. Until a restart

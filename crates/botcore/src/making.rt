@@ -34,7 +34,7 @@ impl<D: Disk> Bot<D> {
     ghost use Rattle.sharelink.specs.BotOpening.{AreCurrent};
     ghost use Rattle.botcore.specs.Bots.{begun};
     ghost use Rattle.botcore.specs.Configs.{IsGood};
-    ghost use Rattle.botcore.specs.Making.{Makes, Finds, FindsAtEachMoment};
+    ghost use Rattle.botcore.specs.Making.{Makes, MakesAfter, Finds, FindsAtEachMoment, StaysBots};
     ghost use Rattle.botcore.specs.Presence.{absent};
     ghost use Rattle.botcore.specs.ServerLines.{silent};
 
@@ -54,6 +54,25 @@ impl<D: Disk> Bot<D> {
         requires second_settled { IsSettled (D.state second) }
         ensures made { Makes D.state config first second result }
     {
+        Bot::create_after(alloc, config, first, second, 0)
+    }
+
+    /// Makes a bot as [`create`](Bot::create) does, but a leaf's first request has the number after `last`. So the hub
+    /// does not take it for a repeated one of an earlier journal of that leaf. At the hub, `last` has no effect.
+    ///
+    /// # Errors
+    /// Those of `create`.
+    pub fn create_after(
+        alloc: Global,
+        config: Config,
+        first: D,
+        second: D,
+        last: u32,
+    ) -> Result<Bot<D>, UnopenedBot<D>>
+        requires first_settled { IsSettled (D.state first) }
+        requires second_settled { IsSettled (D.state second) }
+        ensures made { MakesAfter D.state config first second last result }
+    {
         let beginning = match ready(alloc, &config) {
             Ok(beginning) => beginning,
             Err(error) => {
@@ -63,7 +82,7 @@ impl<D: Disk> Bot<D> {
                 });
             }
         };
-        match BotLink::create(alloc, first, second, config.number, config.leaves) {
+        match BotLink::create_after(alloc, first, second, config.number, config.leaves, last) {
             Ok(link) => Ok(Bot::over(alloc, config, beginning, link)),
             Err(returned) => Err(UnopenedBot {
                 error: of_journal(returned.error),
@@ -95,6 +114,8 @@ impl<D: Disk> Bot<D> {
             → IfOk result (λ bot. AreStill (D.state first) (D.state second) bot.link.device) }
         // At each moment of the call a crash leaves what the disks meant, or the same in the present layout.
         ensures any_moment { FindsAtEachMoment D.state config first second result }
+        // If the disks hold a journal of this bot, what a crash leaves at each moment is a journal of this bot.
+        ensures bots { StaysBots D.state config first second result }
     {
         let beginning = match ready(alloc, &config) {
             Ok(beginning) => beginning,

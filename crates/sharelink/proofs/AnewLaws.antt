@@ -9,11 +9,12 @@ use Rattle.bytejournal.specs.declared.fault.JournalFault.{JournalFault}
 use Rattle.bytejournal.specs.declared.fault.JournalFault.TheVariants.{DiskFault, NotAJournal, Spent, GenerationsSpent}
 use Rattle.botjournal.specs.declared.TheConstants.{LAYOUT}
 use Rattle.botjournal.specs.Contents.{Contents, meaning}
+use Rattle.botjournal.specs.Journal.{IsEither}
 use Rattle.botjournal.specs.Ledger.{Account, Device, Ledger, Pending, AtEachMoment, AreStill, NoFewer, Leaves, Refuses, settled, written, counted as contents_counted, device_on}
 use Rattle.bytejournal.specs.declared.opening.Returned.{Returned}
 use Rattle.bytejournal.specs.Opening.{Untouched}
 use Rattle.sharelink.specs.Kept.{Kept, LeavesWritten, Renews}
-use Rattle.sharelink.specs.StateOpening.{IsLeftOf, MeanTheSame, LeavesFound, FindsNone, Finds, FindsAtEachMoment, at_rest}
+use Rattle.sharelink.specs.StateOpening.{AreWhole, IsLeftOf, KeepsGates, MeanTheSame, LeavesFound, FindsNone, Finds, FindsAtEachMoment, at_rest, device_after}
 use Rattle.sharelink.specs.Anew.{IsHeldOr, CannotPut, PutsAnew, PutsAnewAtEachMoment}
 use Rattle.sharelink.proofs.FoundLaws.{certain-counted}
 
@@ -71,13 +72,17 @@ module _ (may : Type 0) (pending : Pending) where
     first_later = omega arith;
     second_later = omega arith;
     each = λ x y left right.
-        by x y (leaves x y (only_now ledger.device.first x left) (only_now ledger.device.second y right)).means;
+        held x y (leaves x y (only_now ledger.device.first x left) (only_now ledger.device.second y right));
   }
     where
       by : (x y : List ℕ) → (meaning x y ≡ Some ledger.account.contents) ⊎ (meaning x y ≡ Some (contents_counted ledger.account))
-          → IsHeldOr may pending ledger.account.contents x y
+          → (meaning x y ≡ Some ledger.account.contents) ⊎ (may × (meaning x y ≡ Some (written pending ledger.account.contents)))
       by x y (inl e) = inl e
       by x y (inr e) = inl (e ∙ ap (λ c. Some c) (certain-counted ledger.account (ap (λ (a : Account). a.doubt) rests)))
+
+      held : (x y : List ℕ) → IsEither (Some ledger.account.contents) (Some (contents_counted ledger.account)) x y
+          → IsHeldOr may pending ledger.account.contents x y
+      held x y is = record { means = by x y is.means; first_whole = is.first_whole; second_whole = is.second_whole }
 
   -- while it is written, or memory is asked for before that
   pub held-moments : (old new : Ledger) → may → old.account ≡ settled old.account.contents
@@ -89,13 +94,36 @@ module _ (may : Type 0) (pending : Pending) where
   held-moments old new m rests leaves (inr moments) = record {
     first_later = moments.first_later;
     second_later = moments.second_later;
-    each = λ x y left right. by x y (moments.each x y left right).means;
+    each = λ x y left right. held x y (moments.each x y left right);
   }
     where
       by : (x y : List ℕ) → (meaning x y ≡ Some old.account.contents) ⊎ (meaning x y ≡ Some (written pending old.account.contents))
-          → IsHeldOr may pending old.account.contents x y
+          → (meaning x y ≡ Some old.account.contents) ⊎ (may × (meaning x y ≡ Some (written pending old.account.contents)))
       by x y (inl e) = inl e
       by x y (inr e) = inr (m, e)
+
+      held : (x y : List ℕ) → IsEither (Some old.account.contents) (Some (written pending old.account.contents)) x y
+          → IsHeldOr may pending old.account.contents x y
+      held x y is = record { means = by x y is.means; first_whole = is.first_whole; second_whole = is.second_whole }
+
+-- ---- the gates while an end is found
+
+module _ {D : Type 0} (disk : D → State) (first second : D) where
+  -- disks to which nothing happened
+  pub gates-still : (device : Device) → IsSettled (disk first) → IsSettled (disk second) → AreStill (disk first) (disk second) device
+      → KeepsGates disk first second device
+  gates-still device a b still whole = still-moments (disk first) (disk second) device AreWhole a b still whole
+
+  -- an older journal that is rewritten
+  pub gates-put : {V : Type 0} (may : Type 0) (pending : Pending) (device_in : V → Device) (ledger : Ledger)
+      → AreStill (disk first) (disk second) ledger.device → (result : Result V (Returned D))
+      → PutsAnewAtEachMoment disk may pending device_in ledger result → KeepsGates disk first second (device_after disk device_in result)
+  gates-put may pending device_in ledger still (Ok end) m whole =
+      moved-moments (disk first) (disk second) ledger.device (device_in end) (IsHeldOr may pending ledger.account.contents) AreWhole still
+      (λ x y is. (is.first_whole, is.second_whole)) m
+  gates-put may pending device_in ledger still (Err returned) m whole =
+      moved-moments (disk first) (disk second) ledger.device (device_on (disk returned.disks.first) (disk returned.disks.second))
+      (IsHeldOr may pending ledger.account.contents) AreWhole still (λ x y is. (is.first_whole, is.second_whole)) m
 
 -- ---- while an end is found
 
@@ -148,10 +176,11 @@ module _ {D S : Type 0} (disk : D → State) (first second : D) (state_of : Cont
     abbrev Becomes : S → S → Type 0
     Becomes = Renews may folded renewal
 
-    put-left : (x y : List ℕ) → IsHeldOr (may before renewal) pending ledger.account.contents x y
+    put-means : (x y : List ℕ)
+        → (meaning x y ≡ Some ledger.account.contents) ⊎ (may before renewal × (meaning x y ≡ Some (written pending ledger.account.contents)))
         → IsLeftOf state_of Becomes (meaning (disk first).seen (disk second).seen) x y
-    put-left x y (inl e) = inl (e ∙ sym found)
-    put-left x y (inr put) = inr (record {
+    put-means x y (inl e) = inl (e ∙ sym found)
+    put-means x y (inr put) = inr (record {
       contents = ledger.account.contents;
       was = found;
       older = older;
@@ -164,6 +193,10 @@ module _ {D S : Type 0} (disk : D → State) (first second : D) (state_of : Cont
       current = current;
       means_anew = writes put.0;
     })
+
+    put-left : (x y : List ℕ) → IsHeldOr (may before renewal) pending ledger.account.contents x y
+        → IsLeftOf state_of Becomes (meaning (disk first).seen (disk second).seen) x y
+    put-left x y is = put-means x y is.means
 
     put-moments : (now : Device) → AtEachMoment ledger.device now (IsHeldOr (may before renewal) pending ledger.account.contents)
         → LeavesFound disk first second state_of Becomes now

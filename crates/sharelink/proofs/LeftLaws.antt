@@ -18,7 +18,7 @@ use Rattle.sharelink.specs.HubLinks.{HubEnd, IsOwn as HubIsOwn}
 use Rattle.sharelink.specs.LeafLinks.{LeafEnd, IsOwn as LeafIsOwn}
 use Rattle.sharelink.specs.BotEnds.{hub_end, leaf_end}
 use Rattle.sharelink.specs.BotLinks.{BotEnd, did, hub_at_rest, leaf_at_rest, end_meaning, AreOf, LeavesOwn}
-use Rattle.sharelink.specs.BotOpening.{FindsNone}
+use Rattle.sharelink.specs.BotOpening.{FindsNone, AreBots}
 
 pub hub_left : (hub : HubEnd) (x y : List ℕ) → KeptAreOf (hub_meaning hub.leaves) hub_folded hub.bot.kept hub.bot.doubt x y → AreOf (hub_end hub) x y
 hub_left hub x y is = record {
@@ -69,27 +69,55 @@ leaf_crashes old bot before now numbered m = record {
 
 -- ---- opening the disks again
 
--- what a bot left is a journal, and no other bot's
-pub never_refused : {D : Type 0} (state : D → State) (link : BotEnd) (first second first' second' : D)
-    → AreOf link (state first).seen (state second).seen
-    → FindsNone state link.number link.leaves first second (Refused NotAJournal) first' second' → ⊥
-never_refused state link first second first' second' own why = by why
+-- what a bot left is a journal of the bot
+pub left-bots : (link : BotEnd) (x y : List ℕ) → AreOf link x y → AreBots link.number link.leaves x y
+left-bots link x y own = by own.mean.means
   where
-    journal : IsJournal (state first).seen (state second).seen
-    journal = record {
-      some = subst (λ (o : Option Contents). IsSome o) (sym own.mean.found) refl;
+    by : (end_meaning link.number link.leaves own.mean.contents ≡ Some (did link Restart Works).after)
+        ⊎ (end_meaning link.number link.leaves own.mean.contents ≡ Some (did link Restart Counts).after)
+        → AreBots link.number link.leaves x y
+    by (inl works) = record {
+      contents = own.mean.contents;
+      found = own.mean.found;
+      end = (did link Restart Works).after;
+      means = works;
+      first_whole = own.first_whole;
+      second_whole = own.second_whole;
+    }
+    by (inr counts) = record {
+      contents = own.mean.contents;
+      found = own.mean.found;
+      end = (did link Restart Counts).after;
+      means = counts;
       first_whole = own.first_whole;
       second_whole = own.second_whole;
     }
 
-    by : FindsNone state link.number link.leaves first second (Refused NotAJournal) first' second' → ⊥
+-- a journal of a bot is a journal, and no other bot's
+pub bots-never_refused : {D : Type 0} (state : D → State) (number leaves : ℕ) (first second first' second' : D)
+    → AreBots number leaves (state first).seen (state second).seen
+    → FindsNone state number leaves first second (Refused NotAJournal) first' second' → ⊥
+bots-never_refused state number leaves first second first' second' own why = by why
+  where
+    journal : IsJournal (state first).seen (state second).seen
+    journal = record {
+      some = subst (λ (o : Option Contents). IsSome o) (sym own.found) refl;
+      first_whole = own.first_whole;
+      second_whole = own.second_whole;
+    }
+
+    by : FindsNone state number leaves first second (Refused NotAJournal) first' second' → ⊥
     by (inl none) = none journal
     by (inr another) =
-        let both : Some another.contents ≡ Some own.mean.contents = sym another.found ∙ own.mean.found in
-        let same : another.contents ≡ own.mean.contents = cc in
-        let nothing : end_meaning link.number link.leaves own.mean.contents ≡ None =
-        ap (λ (c : Contents). end_meaning link.number link.leaves c) (sym same) ∙ another.means in
-        elim own.mean.means [
-          | inl works ↦ let no : Some (did link Restart Works).after ≡ None = sym works ∙ nothing in absurd (cc)
-          | inr counts ↦ let no : Some (did link Restart Counts).after ≡ None = sym counts ∙ nothing in absurd (cc)
-        ]
+        let both : Some another.contents ≡ Some own.contents = sym another.found ∙ own.found in
+        let same : another.contents ≡ own.contents = cc in
+        let nothing : end_meaning number leaves own.contents ≡ None =
+        ap (λ (c : Contents). end_meaning number leaves c) (sym same) ∙ another.means in
+        let no : Some own.end ≡ None = sym own.means ∙ nothing in
+        absurd (cc)
+
+pub never_refused : {D : Type 0} (state : D → State) (link : BotEnd) (first second first' second' : D)
+    → AreOf link (state first).seen (state second).seen
+    → FindsNone state link.number link.leaves first second (Refused NotAJournal) first' second' → ⊥
+never_refused state link first second first' second' own =
+    bots-never_refused state link.number link.leaves first second first' second' (left-bots link (state first).seen (state second).seen own)

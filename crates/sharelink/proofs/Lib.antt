@@ -17,6 +17,7 @@ mod PumpLaws
 mod InstallLaws
 mod PartLaws
 mod TogetherLaws
+pub mod CreateLaws
 pub mod OpenLaws
 pub mod LeftLaws
 pub mod CallLaws

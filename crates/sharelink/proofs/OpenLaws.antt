@@ -1,5 +1,5 @@
 -- What the opening of a hub's end, or of a leaf's, says of a bot's end.
-use Rattle.std.proofs.Common.{◌≡◌, ◌<◌, inl, inr, ℕ, zero, suc, List, [], Option, Some, option_map, Ok, Err, refl, sym, ap, subst, ◌∙◌, arith}
+use Rattle.std.proofs.Common.{◌≡◌, ◌<◌, inl, inr, ℕ, zero, suc, List, [], Option, Some, option_map, Result, Ok, Err, refl, sym, ap, subst, ◌∙◌, arith}
 use Rattle.bytetext.specs.declared.failure.Failure.{Failure}
 use Rattle.bytetext.specs.declared.failure.Failure.TheVariants.{Refused, NoMemory}
 use Rattle.userfile.specs.declared.change.Change.{Change as UserChange}
@@ -7,19 +7,21 @@ use Rattle.disks.specs.State.{State}
 use Rattle.bytejournal.specs.declared.fault.JournalFault.{JournalFault}
 use Rattle.bytejournal.specs.declared.fault.JournalFault.TheVariants.{DiskFault, NotAJournal, Spent, GenerationsSpent}
 use Rattle.bytejournal.specs.declared.opening.Returned.{Returned}
+use Rattle.bytejournal.specs.Meaning.{IsWhole}
 use Rattle.botjournal.specs.Contents.{Contents, meaning}
-use Rattle.botjournal.specs.Ledger.{Device}
+use Rattle.botjournal.specs.Ledger.{Device, AtEachMoment, device_on}
 use Rattle.protocol.specs.HubRules.{HubState, HubRecord}
 use Rattle.protocol.specs.LeafRules.{LeafState, LeafRecord, no_loose}
 use Rattle.protocol.specs.Journals.{hub_meaning, leaf_meaning}
-use Rattle.sharelink.specs.StateOpening.{Keeps, AreKept, IsLeftOf, FindsNone as FindsNoEnd, MeanTheSame as StaySo, LeavesFound}
+use Rattle.sharelink.specs.StateOpening.{Keeps, AreKept, IsLeftOf, KeepsGates, FindsNone as FindsNoEnd, MeanTheSame as StaySo, LeavesFound, device_after}
 use Rattle.sharelink.specs.StateEnds.{Opens as EndOpens}
 use Rattle.protocol.specs.Ends.{End, AtHub, AtLeaf}
 use Rattle.sharelink.specs.HubLinks.{HubEnd, RenewsHub}
 use Rattle.sharelink.specs.LeafLinks.{LeafEnd, RenewsLeaf}
 use Rattle.sharelink.specs.BotEnds.{hub_end, leaf_end}
 use Rattle.sharelink.specs.BotLinks.{hub_at_rest, leaf_at_rest, end_meaning, compacted, RenewsEnd}
-use Rattle.sharelink.specs.BotOpening.{IsKeptOf, IsLeft, FindsNone, Opens}
+use Rattle.sharelink.specs.BotLinks.{BotEnd}
+use Rattle.sharelink.specs.BotOpening.{AreBots, IsKeptOf, IsLeft, FindsNone, Opens, OpensAtEachMoment, StaysBots}
 
 -- ---- an end of either kind, as a bot's
 
@@ -171,3 +173,43 @@ module _ {D : Type 0} (state : D → State) (leaves : ℕ) (first second : D) wh
   leaf_at_each (suc place) now numbered is =
       at-each (suc place) leaves (leaf_meaning (suc place)) RenewsLeaf leaf_at_rest (leaf_meant place leaves)
       (leaf_becomes (suc place) leaves) state first second now is
+
+-- ---- a bot's journal stays one
+
+module _ {D : Type 0} (state : D → State) (number leaves : ℕ) (first second : D) where
+  left_bots : (x y : List ℕ) → AreBots number leaves (state first).seen (state second).seen
+      → IsLeft number leaves (meaning (state first).seen (state second).seen) x y → IsWhole x → IsWhole y → AreBots number leaves x y
+  left_bots x y own (inl same) one other = record {
+    contents = own.contents;
+    found = same ∙ own.found;
+    end = own.end;
+    means = own.means;
+    first_whole = one;
+    second_whole = other;
+  }
+  left_bots x y own (inr put) one other = record {
+    contents = put.anew;
+    found = put.found;
+    end = put.kept;
+    means = put.means_anew;
+    first_whole = one;
+    second_whole = other;
+  }
+
+  device-bots : (now : Device) → LeavesFound state first second (end_meaning number leaves) (RenewsEnd number leaves) now
+      → KeepsGates state first second now → AreBots number leaves (state first).seen (state second).seen
+      → AtEachMoment (device_on (state first) (state second)) now (AreBots number leaves)
+  device-bots now m gates own =
+      let whole = gates (own.first_whole, own.second_whole) in
+      record {
+        first_later = m.first_later;
+        second_later = m.second_later;
+        each = λ x y left right.
+            left_bots x y own (m.each x y left right) (whole.each x y left right).0 (whole.each x y left right).1;
+      }
+
+  pub stays_bots : (result : Result BotEnd (Returned D)) → OpensAtEachMoment state number leaves first second result
+      → KeepsGates state first second (device_after state (λ (link : BotEnd). link.device) result)
+      → StaysBots state number leaves first second result
+  stays_bots (Ok link) m gates = device-bots link.device m gates
+  stays_bots (Err returned) m gates = device-bots (device_on (state returned.disks.first) (state returned.disks.second)) m gates

@@ -7,6 +7,7 @@ use Rattle.disks.specs.State.{State}
 use Rattle.bytejournal.specs.declared.fault.JournalFault.{JournalFault}
 use Rattle.bytejournal.specs.declared.fault.JournalFault.TheVariants.{DiskFault, NotAJournal, Spent, GenerationsSpent}
 use Rattle.bytejournal.specs.declared.opening.Returned.{Returned}
+use Rattle.bytejournal.specs.Meaning.{IsWhole}
 use Rattle.botjournal.specs.Contents.{Contents, meaning}
 use Rattle.botjournal.specs.Ledger.{Ledger, Pending, Device, Failed, AtEachMoment, device_on, written}
 
@@ -15,9 +16,11 @@ abbrev pub journal_error : Failure DiskFailed → Failure JournalFault
 journal_error (Refused fault) = Refused DiskFault
 journal_error NoMemory = NoMemory
 
--- these bytes mean what the journal held, or that with this written, which it may take
-abbrev pub IsHeldOr : Type 0 → Pending → Contents → List ℕ → List ℕ → Type 0
-IsHeldOr may pending contents x y = (meaning x y ≡ Some contents) ⊎ (may × (meaning x y ≡ Some (written pending contents)))
+-- these bytes mean what the journal held, or that with this written, which it may take; and all gates exist
+pub record IsHeldOr (may : Type 0) (pending : Pending) (contents : Contents) (x y : List ℕ) : Type 0 where
+  pub means : (meaning x y ≡ Some contents) ⊎ (may × (meaning x y ≡ Some (written pending contents)))
+  pub first_whole : IsWhole x
+  pub second_whole : IsWhole y
 
 -- why it can't be rewritten: memory is asked for only if there is a next generation
 abbrev pub CannotPut : Ledger → Failure JournalFault → Device → Type 0

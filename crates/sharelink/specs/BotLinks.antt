@@ -11,9 +11,9 @@ use Rattle.botjournal.specs.Ledger.{Device, Reopens, AtEachMoment}
 use Rattle.protocol.specs.Packets.{from_wire}
 use Rattle.protocol.specs.Bots.{How, Works, Fails, Counts, Row}
 use Rattle.protocol.specs.HubRules.{HubState}
-use Rattle.protocol.specs.LeafRules.{LeafState, no_loose}
+use Rattle.protocol.specs.LeafRules.{Leaf, LeafState, no_loose}
 use Rattle.protocol.specs.Journals.{hub_meaning, leaf_meaning}
-use Rattle.protocol.specs.Network.{Event, Ask, Tell, Compact, Restart}
+use Rattle.protocol.specs.Network.{Event, Ask, Tell, Compact, Restart, new_hub, new_leaf}
 use Rattle.protocol.specs.Ends.{End, AtHub, AtLeaf, new_end, with_oldest, end_did, end_received}
 use Rattle.sharelink.specs.declared.answer.Answer.{Answer}
 use Rattle.sharelink.specs.declared.answer.Outgoing.{Outgoing}
@@ -32,6 +32,20 @@ pub record BotEnd : Type 0 where
 -- an end that was never used
 abbrev pub new_bot_end : ℕ → ℕ → Device → BotEnd
 new_bot_end number leaves device = record { number = number; leaves = leaves; end = new_end number leaves; device = device }
+
+-- a new leaf whose last request has this number, so that its first one goes under the next number
+abbrev pub leaf_after : ℕ → Leaf
+leaf_after last = record new_leaf { kept = record new_leaf.kept { last = last } }
+
+-- a new end: a leaf's last request has this number, and the hub, which sends no request, is any new hub
+abbrev pub end_after : ℕ → ℕ → ℕ → End
+end_after zero leaves last = AtHub (new_hub leaves)
+end_after (suc place) leaves last = AtLeaf (leaf_after last)
+
+-- such an end that was never used
+abbrev pub bot_end_after : ℕ → ℕ → ℕ → Device → BotEnd
+bot_end_after number leaves last device =
+    record { number = number; leaves = leaves; end = end_after number leaves last; device = device }
 
 -- ---- rows
 

@@ -19,3 +19,4 @@ pub mod LeafLinks
 pub mod BotLinks
 pub mod BotOpening
 pub mod BotEnds
+pub mod Telling

@@ -13,8 +13,9 @@ use Rattle.protocol.specs.Network.{new_hub, new_leaf}
 
 -- ---- the hub
 
-abbrev pub start_hub : ℕ → HubState
-start_hub leaves = (new_hub leaves).kept
+-- the hub before the first change; it sends no request
+abbrev pub start_hub : ℕ → ℕ → HubState
+start_hub leaves last = (new_hub leaves).kept
 
 -- a record that the hub's journal may take now, whose numbers are in range
 abbrev pub HubMayWrite : HubState → HubRecord → Type 0
@@ -30,8 +31,9 @@ hub_pending hub Rebase = Rebasing (hub_base hub)
 
 -- ---- a leaf
 
-abbrev pub start_leaf : LeafState
-start_leaf = new_leaf.kept
+-- a leaf before the first change, whose last request has this number
+abbrev pub start_leaf : ℕ → LeafState
+start_leaf last = record new_leaf.kept { last = last }
 
 -- the state of a leaf: the records of a userfile, and requests with spellings that may be outstanding
 pub record IsLeafState (leaf : LeafState) : Type 0 where

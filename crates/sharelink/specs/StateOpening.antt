@@ -8,6 +8,7 @@ use Rattle.bytejournal.specs.declared.fault.JournalFault.{JournalFault}
 use Rattle.bytejournal.specs.declared.fault.JournalFault.TheVariants.{DiskFault, NotAJournal, Spent, GenerationsSpent}
 use Rattle.bytejournal.specs.declared.opening.Returned.{Returned}
 use Rattle.bytejournal.specs.Opening.{CannotCreate}
+use Rattle.bytejournal.specs.Meaning.{IsWhole}
 use Rattle.botjournal.specs.declared.TheConstants.{LAYOUT}
 use Rattle.botjournal.specs.Contents.{Contents, meaning}
 use Rattle.botjournal.specs.Ledger.{Device, AtEachMoment, device_on}
@@ -53,7 +54,16 @@ module _ {S : Type 0} (state_of : Contents → Option S) (Renews : S → S → T
   abbrev pub IsLeftOf : Option Contents → List ℕ → List ℕ → Type 0
   IsLeftOf old x y = (meaning x y ≡ old) ⊎ ArePutAnew old (meaning x y)
 
+-- all gates exist in these bytes of two disks
+abbrev pub AreWhole : List ℕ → List ℕ → Type 0
+AreWhole x y = IsWhole x × IsWhole y
+
 module _ {D : Type 0} (disk : D → State) (first second : D) where
+  -- if all gates exist on the given disks, they exist in whatever a crash leaves at any moment between those and these
+  abbrev pub KeepsGates : Device → Type 0
+  KeepsGates now = AreWhole (disk first).seen (disk second).seen
+      → AtEachMoment (device_on (disk first) (disk second)) now AreWhole
+
   -- what the given disks mean
   abbrev pub meaning_given : Option Contents
   meaning_given = meaning (disk first).seen (disk second).seen
@@ -122,3 +132,8 @@ module _ {D S V : Type 0} (disk : D → State) (first second : D) (device_in : V
   FindsAtEachMoment state_of Renews (Ok end) = LeavesFound disk first second state_of Renews (device_in end)
   FindsAtEachMoment state_of Renews (Err returned) =
       LeavesFound disk first second state_of Renews (device_on (disk returned.disks.first) (disk returned.disks.second))
+
+-- the device of an end that was found, or of the disks that are handed back
+abbrev pub device_after : {D V : Type 0} → (D → State) → (V → Device) → Result V (Returned D) → Device
+device_after disk device_in (Ok end) = device_in end
+device_after disk device_in (Err returned) = device_on (disk returned.disks.first) (disk returned.disks.second)

@@ -38,9 +38,9 @@ TakesAll record_of folded old entries (Ok _) new = reads record_of folded (Some 
 TakesAll record_of folded old entries (Err (Refused fault)) new = reads record_of folded (Some old) entries ≡ None
 TakesAll record_of folded old entries (Err NoMemory) new = Unit {0}
 
--- the base of a bot before the first change
-abbrev pub empty_base : ℕ → Base
-empty_base bot = record { bot = bot; version = 0; records = []; replies = []; last_request = 0; out = [] }
+-- the base of a bot before the first change, when its last request had this number
+abbrev pub empty_base : ℕ → ℕ → Base
+empty_base bot last = record { bot = bot; version = 0; records = []; replies = []; last_request = last; out = [] }
 
 -- the records of a base, if one userfile can hold them together
 abbrev pub sound_records : List UserfileRecord → Option Records

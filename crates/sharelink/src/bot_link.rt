@@ -2,6 +2,7 @@
 use crate::answer::{Answer, Outgoing};
 use crate::ends::Ends;
 use crate::error::LinkError;
+use crate::held_snapshot::HeldSnapshot;
 use crate::hub_link::HubLink;
 use crate::leaf_link::LeafLink;
 use bytejournal::{Disks, Returned};
@@ -45,8 +46,9 @@ impl<D: Disk> BotLink<D> {
     ghost use Rattle.sharelink.specs.Shapes.{HasGoodRecords, GoOut};
     ghost use Rattle.sharelink.specs.BotLinks.{Calls, CallsRestart, Asks, Tells, did, took, keeps_asks};
     ghost use Rattle.botjournal.specs.Ledger.{AreStill};
-    ghost use Rattle.sharelink.specs.BotOpening.{Makes, Opens, OpensAtEachMoment, AreCurrent};
+    ghost use Rattle.sharelink.specs.BotOpening.{Makes, MakesAfter, Opens, OpensAtEachMoment, AreCurrent, StaysBots};
     ghost use Rattle.sharelink.specs.BotLinks.{MayLeave};
+    ghost use Rattle.sharelink.specs.Telling.{end_last_request, end_last_reply, end_held};
 
     /// Creates the bot `number`, from 0 to `leaves`, on the disks `first` and `second`, before the first change. What
     /// the disks held is lost.
@@ -67,6 +69,29 @@ impl<D: Disk> BotLink<D> {
         requires few { leaves ≤ MAX_LEAVES }
         ensures row { Makes D.state number leaves first second result }
     {
+        BotLink::create_after(alloc, first, second, number, leaves, 0)
+    }
+
+    /// Creates the bot `number` as [`create`](BotLink::create) does, but a leaf's first request has the number after
+    /// `last`. So the hub does not take it for a repeated one of an earlier journal of that leaf. At the hub, `last`
+    /// has no effect.
+    ///
+    /// # Errors
+    /// Those of `create`.
+    pub fn create_after(
+        alloc: Global,
+        first: D,
+        second: D,
+        number: u16,
+        leaves: u16,
+        last: u32,
+    ) -> Result<BotLink<D>, Returned<D>>
+        requires first_settled { IsSettled (D.state first) }
+        requires second_settled { IsSettled (D.state second) }
+        requires numbered { number ≤ leaves }
+        requires few { leaves ≤ MAX_LEAVES }
+        ensures row { MakesAfter D.state number leaves first second last result }
+    {
         if number == 0 {
             return match HubLink::create(alloc, first, second, leaves) {
                 Ok(hub) => Ok(BotLink {
@@ -75,7 +100,7 @@ impl<D: Disk> BotLink<D> {
                 Err(returned) => Err(returned),
             };
         }
-        match LeafLink::create(alloc, first, second, number, leaves) {
+        match LeafLink::create(alloc, first, second, number, leaves, last) {
             Ok(leaf) => Ok(BotLink {
                 end: Ends::Leaf(leaf),
             }),
@@ -109,6 +134,8 @@ impl<D: Disk> BotLink<D> {
         ensures still { AreCurrent D.state first second → IfOk result (λ link. AreStill (D.state first) (D.state second) link.device) }
         // At each moment of the call a crash leaves what the disks meant, or that rewritten.
         ensures any_moment { OpensAtEachMoment D.state number leaves first second result }
+        // If the disks hold a journal of this bot, what a crash leaves at each moment is a journal of this bot.
+        ensures bots { StaysBots D.state number leaves first second result }
     {
         if number == 0 {
             return match HubLink::open(alloc, first, second, leaves) {
@@ -143,6 +170,37 @@ impl<D: Disk> BotLink<D> {
         match &self.end {
             Ends::Hub(hub) => hub.userfile(),
             Ends::Leaf(leaf) => leaf.userfile(),
+        }
+    }
+
+    /// Returns the number of a leaf's last request, or 0 before its first. The hub, which sends no request, returns 0.
+    pub fn last_request(&self) -> u32
+        ensures { result ≡ end_last_request self.now.end }
+    {
+        match &self.end {
+            Ends::Hub(_) => 0,
+            Ends::Leaf(leaf) => leaf.last_request(),
+        }
+    }
+
+    /// Returns the number of the last request of `leaf` that the hub replied to, or 0 if it replied to none or there is
+    /// no such leaf. A leaf, which replies to no request, returns 0.
+    pub fn last_reply(&self, leaf: u16) -> u32
+        ensures { result ≡ end_last_reply self.now.end leaf }
+    {
+        match &self.end {
+            Ends::Hub(hub) => hub.last_reply(leaf),
+            Ends::Leaf(_) => 0,
+        }
+    }
+
+    /// Returns which parts of a snapshot a leaf holds, or `None` if it holds none. The hub returns `None`.
+    pub fn held_parts(&self) -> Option<HeldSnapshot>
+        ensures { result ≡ end_held self.now.end }
+    {
+        match &self.end {
+            Ends::Hub(_) => None,
+            Ends::Leaf(leaf) => leaf.held_parts(),
         }
     }
 

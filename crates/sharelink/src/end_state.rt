@@ -28,8 +28,8 @@ pub trait EndState: Drop + Sized {
     /// Which bot the journal is of.
     ghost bot: { ℕ → ℕ };
 
-    /// The state before the first change.
-    ghost start: { ℕ → Self };
+    /// The state before the first change, when the last request had this number.
+    ghost start: { ℕ → ℕ → Self };
 
     /// What always holds of the state.
     ghost is_state: { ℕ → Self → Type 0 };
@@ -53,15 +53,16 @@ pub trait EndState: Drop + Sized {
     fn bot(who: u16) -> u16
         ensures { result ≡ bot who };
 
-    /// Returns the state of `who` before the first change, in the first generation of its journal.
+    /// Returns the state of `who` before the first change, in the first generation of its journal. A leaf's last
+    /// request has the number `last`; the hub has no request.
     ///
     /// # Errors
     /// `NoMemory`.
-    fn start(alloc: Global, who: u16) -> Result<Self, NoMemory>
+    fn start(alloc: Global, who: u16, last: u32) -> Result<Self, NoMemory>
         requires end { is_end who }
-        ensures start { IfOk result (λ kept. kept ≡ start who) }
+        ensures start { IfOk result (λ kept. kept ≡ start who last) }
         // A newly created journal means it.
-        ensures means { IfOk result (λ kept. meaning who (new_contents (empty_base (bot who))) ≡ Some kept) }
+        ensures means { IfOk result (λ kept. meaning who (new_contents (empty_base (bot who) last)) ≡ Some kept) }
         ensures state { IfOk result (λ kept. is_state who kept) };
 
     /// Returns what a journal's `base` and `entries` mean to `who`, in this `generation`. They have spellings, as they

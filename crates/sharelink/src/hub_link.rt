@@ -54,7 +54,8 @@ impl<D: Disk> HubLink<D> {
     ghost use Rattle.bytetext.specs.declared.failure.Failure.TheVariants.{NoMemory as no_memory};
     ghost use Rattle.disks.specs.State.{IsSettled};
     ghost use Rattle.protocol.specs.Bots.{unless_down};
-    ghost use Rattle.protocol.specs.HubRules.{version_of, hub_asked, text_told, hub_pumped, hub_pumped_up, hub_compacted, hub_restarted, hub_folded};
+    ghost use Rattle.protocol.specs.Numbers.{item_at};
+    ghost use Rattle.protocol.specs.HubRules.{version_of, last_request, kept_in, hub_asked, text_told, hub_pumped, hub_pumped_up, hub_compacted, hub_restarted, hub_folded};
     ghost use Rattle.protocol.specs.Network.{new_hub};
     ghost use Rattle.protocol.specs.Journals.{hub_meaning};
     ghost use Rattle.sharelink.specs.declared.TheConstants.{MAX_LEAVES};
@@ -62,7 +63,7 @@ impl<D: Disk> HubLink<D> {
     ghost use Rattle.sharelink.specs.Shapes.{GoOut};
     ghost use Rattle.botjournal.specs.Ledger.{AreStill};
     ghost use Rattle.sharelink.specs.Kept.{MayLeave};
-    ghost use Rattle.sharelink.specs.StateOpening.{AreCurrent};
+    ghost use Rattle.sharelink.specs.StateOpening.{AreCurrent, KeepsGates, device_after};
     ghost use Rattle.sharelink.specs.StateEnds.{Creates, Opens, OpensAtEachMoment};
     ghost use Rattle.sharelink.specs.HubLinks.{Calls, CallsRestart, RenewsHub, with_oldest};
 
@@ -84,7 +85,7 @@ impl<D: Disk> HubLink<D> {
                 disks: Disks { first, second },
             });
         };
-        match Kept::create(alloc, first, second, leaves) {
+        match Kept::create(alloc, first, second, leaves, 0) {
             Ok(kept) => Ok(HubLink { kept, waiting }),
             Err(returned) => Err(returned),
         }
@@ -106,6 +107,7 @@ impl<D: Disk> HubLink<D> {
         ensures still { AreCurrent D.state first second → IfOk result (λ link. AreStill (D.state first) (D.state second) link.device) }
         // At each moment of the call a crash leaves what the disks meant, or that rewritten.
         ensures any_moment { OpensAtEachMoment D.state first second (hub_meaning leaves) RenewsHub result }
+        ensures gates { KeepsGates D.state first second (device_after D.state (λ link. link.device) result) }
     {
         let Ok(waiting) = VecDeque::with_capacity(alloc, MAX_ASKS) else {
             return Err(Returned {
@@ -131,6 +133,16 @@ impl<D: Disk> HubLink<D> {
         ensures { result.now ≡ self.now.bot.kept.records }
     {
         self.kept.state().userfile()
+    }
+
+    // See `BotLink::last_reply`.
+    pub(crate) fn last_reply(&self, leaf: u16) -> u32
+        ensures { result ≡ last_request (kept_in (item_at self.now.bot.kept.replies leaf)) }
+    {
+        match self.kept.state().replies_to(leaf) {
+            Some(replies) => replies.last_request(),
+            None => 0,
+        }
     }
 
     // See `BotLink::is_down`.

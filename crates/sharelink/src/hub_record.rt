@@ -101,7 +101,7 @@ impl EndState for HubState {
         0
     }
 
-    fn start(alloc: Global, leaves: u16) -> Result<HubState, NoMemory> {
+    fn start(alloc: Global, leaves: u16, _last: u32) -> Result<HubState, NoMemory> {
         HubState::new(alloc, leaves)
     }
 

@@ -88,7 +88,7 @@ impl HubState {
     /// `NoMemory` if it cannot allocate room for the replies; never without leaves.
     pub fn new(alloc: Global, leaves: u16) -> Result<HubState, NoMemory>
         ensures start { IfOk result (λ hub. hub ≡ (new_hub leaves).kept) }
-        ensures empty { IfOk result (λ hub. hub ≡ hub_of leaves 1 (empty_base 0)) }
+        ensures empty { IfOk result (λ hub. hub ≡ hub_of leaves 1 (empty_base 0 0)) }
         ensures state { IfOk result (λ hub. IsHubState leaves hub) }
         ensures memory { IfErr result (λ _. 0 < leaves) }
     {

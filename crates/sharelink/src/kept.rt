@@ -8,7 +8,7 @@ ghost use Rattle.botjournal.specs.declared.TheConstants.{LAYOUT};
 ghost use Rattle.botjournal.specs.Ledger.{IsGoodFound, AreStill, Reopens, settled};
 ghost use Rattle.sharelink.specs.States.{Reads, contents_in, empty_base};
 ghost use Rattle.sharelink.specs.Kept.{Journals, Restarts, Renews, LeavesOwn, MayLeave, LeavesCurrent};
-ghost use Rattle.sharelink.specs.StateOpening.{Makes, Finds, FindsAtEachMoment, AreCurrent, at_rest};
+ghost use Rattle.sharelink.specs.StateOpening.{Makes, Finds, FindsAtEachMoment, AreCurrent, KeepsGates, at_rest, device_after};
 ghost use Rattle.sharelink.specs.Anew.{PutsAnew, PutsAnewAtEachMoment, journal_error};
 
 use crate::end_state::EndState;
@@ -70,23 +70,31 @@ impl<S: EndState, D: Disk> Model for Kept<S, D> {
 }
 
 impl<S: EndState, D: Disk> Kept<S, D> {
-    /// Creates the end `who` on the disks `first` and `second`, before the first change. What the disks held is lost.
+    /// Creates the end `who` on the disks `first` and `second`, before the first change. What the disks held is lost. A
+    /// leaf's last request has the number `last`; the hub has no request, so there it is 0.
     ///
     /// # Errors
     /// Each hands the disks back: `NoMemory`, when nothing was written, or `DiskFault`.
-    pub fn create(alloc: Global, first: D, second: D, who: u16) -> Result<Kept<S, D>, Returned<D>>
+    pub fn create(
+        alloc: Global,
+        first: D,
+        second: D,
+        who: u16,
+        last: u32,
+    ) -> Result<Kept<S, D>, Returned<D>>
         requires first_settled { IsSettled (D.state first) }
         requires second_settled { IsSettled (D.state second) }
         requires end { S.is_end who }
-        ensures { Makes D.state first second (λ k. k.device) (at_rest who) (S.start who) result }
+        requires asked { S.bot who ≡ 0 → last ≡ 0 }
+        ensures { Makes D.state first second (λ k. k.device) (at_rest who) (S.start who last) result }
     {
-        let Ok(state) = S::start(alloc, who) else {
+        let Ok(state) = S::start(alloc, who, last) else {
             return Err(Returned {
                 error: Failure::NoMemory,
                 disks: Disks { first, second },
             });
         };
-        match Ledger::create(alloc, first, second, &empty_base(alloc, S::bot(who))) {
+        match Ledger::create(alloc, first, second, &empty_base(alloc, S::bot(who), last)) {
             Ok(ledger) => Ok(Kept {
                 who,
                 state,
@@ -115,6 +123,7 @@ impl<S: EndState, D: Disk> Kept<S, D> {
         ensures still { AreCurrent D.state first second → IfOk result (λ k. AreStill (D.state first) (D.state second) k.device) }
         // At each moment of the call a crash leaves what the disks meant, or that rewritten.
         ensures any_moment { FindsAtEachMoment D.state first second (λ k. k.device) (S.meaning who) (Renews S.may S.folded S.renewal) result }
+        ensures gates { KeepsGates D.state first second (device_after D.state (λ k. k.device) result) }
         ensures memory { IfErr result (λ returned. returned.error ≡ no_memory → HoldByte (D.state first) (D.state second)) }
     {
         let (ledger, found) = match Ledger::open(alloc, first, second) {
@@ -307,9 +316,10 @@ impl<S: EndState, D: Disk> Kept<S, D> {
     }
 }
 
-// Creates the base of a bot before the first change.
-fn empty_base(alloc: Global, bot: u16) -> Base
-    ensures base { result ≡ empty_base bot }
+// Creates the base of a bot before the first change, when its last request had the number `last`. The hub has none.
+fn empty_base(alloc: Global, bot: u16, last: u32) -> Base
+    requires asked { bot ≡ 0 → last ≡ 0 }
+    ensures base { result ≡ empty_base bot last }
     ensures good { IsGoodBase result }
 {
     Base {
@@ -317,7 +327,7 @@ fn empty_base(alloc: Global, bot: u16) -> Base
         version: 0,
         records: Seq::empty(alloc),
         replies: Seq::empty(alloc),
-        last_request: 0,
+        last_request: last,
         out: Seq::empty(alloc),
     }
 }

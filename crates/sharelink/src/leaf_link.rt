@@ -3,6 +3,7 @@ use crate::MAX_ASKS;
 use crate::answer::{Answer, Outgoing};
 use crate::error::{LinkError, LinkFault};
 use crate::fields::know_change;
+use crate::held_snapshot::HeldSnapshot;
 use crate::kept::Kept;
 use crate::leaf_packets::{again_note, hello_and_requests, request_packet};
 use crate::leaf_record::LeafRecord;
@@ -57,35 +58,37 @@ impl<D: Disk> Model for LeafLink<D> {
 }
 
 impl<D: Disk> LeafLink<D> {
-    ghost use Rattle.std.specs.Prelude.{◌≡◌, ◌≢◌, ◌<◌, ◌≤◌, ◌+◌, [], length, Err, IfOk, OnErr};
+    ghost use Rattle.std.specs.Prelude.{◌≡◌, ◌≢◌, ◌<◌, ◌≤◌, ◌+◌, [], length, option_map, Err, IfOk, OnErr};
     ghost use Rattle.bytetext.specs.declared.failure.Failure.TheVariants.{NoMemory as no_memory};
     ghost use Rattle.disks.specs.State.{IsSettled};
     ghost use Rattle.botjournal.specs.declared.TheConstants.{WINDOW};
     ghost use Rattle.sharelink.specs.declared.TheConstants.{MAX_LEAVES};
     ghost use Rattle.protocol.specs.Journals.{leaf_meaning};
     ghost use Rattle.protocol.specs.LeafRules.{no_loose, leaf_folded};
-    ghost use Rattle.protocol.specs.Network.{new_leaf};
+    ghost use Rattle.sharelink.specs.BotLinks.{leaf_after};
+    ghost use Rattle.sharelink.specs.Telling.{held_of};
     ghost use Rattle.botjournal.specs.Ledger.{AreStill};
     ghost use Rattle.sharelink.specs.Kept.{MayLeave};
-    ghost use Rattle.sharelink.specs.StateOpening.{AreCurrent};
+    ghost use Rattle.sharelink.specs.StateOpening.{AreCurrent, KeepsGates, device_after};
     ghost use Rattle.sharelink.specs.StateEnds.{Creates, Opens, OpensAtEachMoment};
     ghost use Rattle.sharelink.specs.Shapes.{GoOut};
     ghost use Rattle.sharelink.specs.LeafLinks.{Calls, CallsRestart, RenewsLeaf, asked, keeps_asks, pumped, sent_again_at, compacted, restarted, told};
     ghost use Rattle.sharelink.specs.Texts.{Sends};
 
-    // See `BotLink::create`: the leaf `number`, from 1.
+    // See `BotLink::create_after`: the leaf `number`, from 1.
     pub(crate) fn create(
         alloc: Global,
         first: D,
         second: D,
         number: u16,
         leaves: u16,
+        last: u32,
     ) -> Result<LeafLink<D>, Returned<D>>
         requires first_settled { IsSettled (D.state first) }
         requires second_settled { IsSettled (D.state second) }
         requires numbered { (0 < number) × (number ≤ leaves) }
         requires few { leaves ≤ MAX_LEAVES }
-        ensures row { Creates D.state first second number leaves no_loose new_leaf.kept result }
+        ensures row { Creates D.state first second number leaves no_loose (leaf_after last).kept result }
     {
         let Ok(waiting) = VecDeque::with_capacity(alloc, MAX_ASKS) else {
             return Err(Returned {
@@ -93,7 +96,7 @@ impl<D: Disk> LeafLink<D> {
                 disks: Disks { first, second },
             });
         };
-        match Kept::create(alloc, first, second, number) {
+        match Kept::create(alloc, first, second, number, last) {
             Ok(kept) => Ok(LeafLink {
                 leaves,
                 kept,
@@ -121,6 +124,7 @@ impl<D: Disk> LeafLink<D> {
         ensures still { AreCurrent D.state first second → IfOk result (λ link. AreStill (D.state first) (D.state second) link.device) }
         // At each moment of the call a crash leaves what the disks meant, or that rewritten.
         ensures any_moment { OpensAtEachMoment D.state first second (leaf_meaning number) RenewsLeaf result }
+        ensures gates { KeepsGates D.state first second (device_after D.state (λ link. link.device) result) }
     {
         let Ok(waiting) = VecDeque::with_capacity(alloc, MAX_ASKS) else {
             return Err(Returned {
@@ -152,6 +156,23 @@ impl<D: Disk> LeafLink<D> {
         ensures { result.now ≡ self.now.bot.kept.records }
     {
         self.kept.state().userfile()
+    }
+
+    // See `BotLink::last_request`.
+    pub(crate) fn last_request(&self) -> u32
+        ensures { result ≡ self.now.bot.kept.last }
+    {
+        self.kept.state().last_request()
+    }
+
+    // See `BotLink::held_parts`.
+    pub(crate) fn held_parts(&self) -> Option<HeldSnapshot>
+        ensures { result ≡ option_map held_of self.now.bot.loose.parts }
+    {
+        match &self.parts {
+            Some(parts) => Some(parts.held()),
+            None => None,
+        }
     }
 
     // See `BotLink::is_down`.

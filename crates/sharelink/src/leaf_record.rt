@@ -117,8 +117,8 @@ impl EndState for LeafState {
         number
     }
 
-    fn start(alloc: Global, _number: u16) -> Result<LeafState, NoMemory> {
-        let leaf = LeafState::new(alloc);
+    fn start(alloc: Global, _number: u16, last: u32) -> Result<LeafState, NoMemory> {
+        let leaf = LeafState::new(alloc, last);
         leaf.userfile().are_sound();
         Ok(leaf)
     }

@@ -63,21 +63,22 @@ impl LeafState {
     ghost use Rattle.protocol.specs.Numbers.{last_number};
     ghost use Rattle.protocol.specs.Snapshots.{items_of};
     ghost use Rattle.protocol.specs.LeafRules.{Apply, Out, Done, Install, Compact, is_out, may_go_out, leaf_folded};
-    ghost use Rattle.protocol.specs.Network.{new_leaf};
+    ghost use Rattle.sharelink.specs.Records.{start_leaf};
     ghost use Rattle.protocol.specs.Journals.{leaf_of, leaf_base, leaf_record, leaf_meaning};
     ghost use Rattle.sharelink.specs.States.{Reads, Takes, TakesAll, leaf_on, empty_base, wants_room};
     ghost use Rattle.sharelink.specs.Kept.{WritesAny, LeavesWritten};
     ghost use Rattle.usercodec.specs.Changes.{IsGoodChange};
 
-    /// Creates the state of a leaf before the first change, in the first generation of its journal. Allocates nothing.
-    pub fn new(alloc: Global) -> LeafState
-        ensures start { result ≡ new_leaf.kept }
-        ensures empty { (number : ℕ) → result ≡ leaf_of 1 (empty_base number) }
+    /// Creates the state of a leaf before the first change, in the first generation of its journal. Its last request
+    /// has the number `last`. Allocates nothing.
+    pub fn new(alloc: Global, last: u32) -> LeafState
+        ensures start { result ≡ start_leaf last }
+        ensures empty { (number : ℕ) → result ≡ leaf_of 1 (empty_base number last) }
     {
         LeafState {
             version: 0,
             userfile: Userfile::new(alloc),
-            last: 0,
+            last,
             out: Vec::new(alloc),
             generation: 1,
         }

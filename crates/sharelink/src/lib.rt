@@ -9,9 +9,11 @@
 //!   get.
 //! - An [`Answer`] is what a call returns: a [`LinkNote`], which says what the call did, and the packets that the
 //!   caller is to send ([`Outgoings`]).
+//! - A [`HeldSnapshot`] says which parts of a snapshot a leaf holds.
 //! - A [`LinkFault`] says why a link rejects a call; a [`LinkError`] is that, or out of memory.
 //! - [`law_of_left_disks`]: a bot that was killed between two calls, or during a call of an open bot, is never rejected
 //!   as `NotAJournal` when it is opened again.
+//! - [`law_of_unopened_disks`]: nor is a bot that was killed while it was opened, however often.
 //!
 //! What a bot promised survives a restart: each change that it accepts or applies, and each request that it sends or
 //! rejects, is in its journal before the bot reports or sends anything about it. A call makes at most one call of the
@@ -36,6 +38,7 @@
 //!
 //! - `BotLinks`, `BotOpening`: a bot's end as one value, how its calls match their rows in `protocol`, how it is
 //!   created and opened, and what it leaves on its disks.
+//! - `Telling`: what a bot tells others of its end: its last request, its last replies, and the parts that it holds.
 //! - `Calls`, `Meets`, `Codes`, `Texts`, `Shapes`: what a call returns, and how that matches its row; an error's letter
 //!   and number; when a text may be sent; which packets have records of good shape.
 //! - `HubLinks`, `LeafLinks`, `BotEnds`, `StateEnds`: the hub's end and the leaf's.
@@ -53,6 +56,7 @@ mod end_state;
 mod ends;
 mod error;
 mod fields;
+mod held_snapshot;
 mod hub_accepting;
 mod hub_link;
 mod hub_packets;
@@ -81,7 +85,8 @@ mod walk;
 pub use crate::answer::{Answer, Outgoing, Outgoings};
 pub use crate::bot_link::BotLink;
 pub use crate::error::{LinkError, LinkFault};
-pub use crate::laws::law_of_left_disks;
+pub use crate::held_snapshot::HeldSnapshot;
+pub use crate::laws::{law_of_left_disks, law_of_unopened_disks};
 pub use crate::note::LinkNote;
 pub use sharewire::Packet;
 

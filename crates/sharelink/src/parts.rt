@@ -5,6 +5,7 @@ ghost use Rattle.usercodec.specs.Records.{IsGoodRecord};
 ghost use Rattle.protocol.specs.Snapshots.{joined, set_for, with_part, is_behind};
 ghost use Rattle.sharelink.specs.Parts.{left};
 
+use crate::held_snapshot::HeldSnapshot;
 use crate::walk::Walk;
 use bytetext::{NoMemory, Seq, TryCopy};
 use std::alloc::Global;
@@ -30,11 +31,12 @@ impl Model for KeptParts {
 }
 
 impl KeptParts {
-    ghost use Rattle.std.specs.Prelude.{◌≡◌, ◌<◌, ◌-◌, ◌==◌, ◌&&◌, Some, IfOk, IfSome, length, slice_set, option_map};
+    ghost use Rattle.std.specs.Prelude.{◌≡◌, ◌<◌, ◌≤◌, ◌-◌, ◌==◌, ◌&&◌, Some, IfOk, IfSome, length, slice_set, option_map};
     ghost use Rattle.std.specs.List.{AllByRecursion};
     ghost use Rattle.usercodec.specs.Records.{IsGoodRecord};
     ghost use Rattle.protocol.specs.Snapshots.{joined, no_parts, with_part};
     ghost use Rattle.sharelink.specs.Parts.{left};
+    ghost use Rattle.sharelink.specs.Telling.{held_of, byte_from, bit_of};
 
     // Creates an empty set of this version and count.
     pub(crate) fn empty(alloc: Global, version: u32, count: u8) -> Result<KeptParts, NoMemory>
@@ -52,6 +54,55 @@ impl KeptParts {
         ensures { result ≡ self.now.version }
     {
         self.version
+    }
+
+    // Returns which of the first 88 parts are kept, as bits.
+    pub(crate) fn held(&self) -> HeldSnapshot
+        ensures { result ≡ held_of self.now }
+    {
+        HeldSnapshot {
+            version: self.version,
+            bits: [
+                self.byte_from(1),
+                self.byte_from(9),
+                self.byte_from(17),
+                self.byte_from(25),
+                self.byte_from(33),
+                self.byte_from(41),
+                self.byte_from(49),
+                self.byte_from(57),
+                self.byte_from(65),
+                self.byte_from(73),
+                self.byte_from(81),
+            ],
+        }
+    }
+
+    // Returns which of the eight parts from the number `first` on are kept: the first of them is the lowest bit.
+    fn byte_from(&self, first: usize) -> u8
+        requires numbered { (0 < first) × (first ≤ 81) }
+        ensures { result ≡ byte_from self.now.parts first }
+    {
+        self.bit_of(first)
+            + 2 * self.bit_of(first + 1)
+            + 4 * self.bit_of(first + 2)
+            + 8 * self.bit_of(first + 3)
+            + 16 * self.bit_of(first + 4)
+            + 32 * self.bit_of(first + 5)
+            + 64 * self.bit_of(first + 6)
+            + 128 * self.bit_of(first + 7)
+    }
+
+    // Returns 1 if the part `number` is kept, otherwise 0.
+    fn bit_of(&self, number: usize) -> u8
+        requires numbered { 0 < number }
+        ensures bit { result ≡ bit_of self.now.parts number }
+        ensures small { result ≤ 1 }
+    {
+        match self.parts.get(number - 1) {
+            Some(Some(_)) => 1,
+            Some(None) | None => 0,
+        }
     }
 
     // Whether they are of this version and count.

@@ -1,4 +1,4 @@
-use Rattle.std.proofs.Common.{◌≡◌, ◌∙◌, List, Option, ℕ, [], true, false, unwrap_or, ap, sym, subst}
+use Rattle.std.proofs.Common.{◌≡◌, ◌∙◌, Option, true, false, unwrap_or, ap, sym}
 use Rattle.outqueue.specs.Sending.{Sending, sent, with_first}
 use Rattle.botcore.specs.ServerLines.{ServerLines}
 use Rattle.botcore.proofs.GreetingLemmas.{none_waits}

@@ -1,13 +1,13 @@
 use Rattle.std.proofs.Common.{◌≡◌, ◌≢◌, ℕ, None, Some, Err, inl, inr, sym, ap, subst, ◌∙◌, arith}
 use Rattle.botjournal.specs.declared.TheConstants.{LAYOUT}
 use Rattle.botjournal.specs.Contents.{meaning}
-use Rattle.botjournal.specs.Ledger.{Account, Device}
+use Rattle.botjournal.specs.Ledger.{Account, Device, device_on}
 use Rattle.sharelink.specs.States.{Reads, contents_in}
 use Rattle.sharelink.specs.Kept.{Kept, Renews}
-use Rattle.sharelink.specs.StateOpening.{LeavesFound, at_rest}
+use Rattle.sharelink.specs.StateOpening.{KeepsGates, LeavesFound, at_rest}
 use Rattle.sharelink.proofs.FoundLaws.{rested-mean}
 use Rattle.sharelink.proofs.KeptLaws.{found-meaning}
-use Rattle.sharelink.proofs.AnewLaws.{left-still, none-read, put-at-each, put-finds}
+use Rattle.sharelink.proofs.AnewLaws.{gates-put, gates-still, left-still, none-read, put-at-each, put-finds}
 use Rattle.sharelink.proofs.kept.Kept.open.Goals as goal
 
 -- ---- a journal that means a state
@@ -135,3 +135,40 @@ returns-clause-any_moment g c =
     subst (λ (d : Device). LeavesFound state c.args.first c.args.second means becomes d) (sym c.into_disks-in-Err-NoMemory.ensures.device)
     (left-still state c.args.first c.args.second means becomes c.in-Ok.opened.0.device c.requires.first_settled c.requires.second_settled
     c.in-Ok.ensures.still)
+
+-- ---- the gates
+
+pub returns-then-layout-eq-LAYOUT-clause-gates : goal.returns-then-layout-eq-LAYOUT-clause-gates
+returns-then-layout-eq-LAYOUT-clause-gates g c =
+    let state = g.D.Disk.state in
+    subst (λ (d : Device). KeepsGates state c.args.first c.args.second d)
+    (sym (ap (λ (k : Kept g.row.S.Denot g.row.S-Record.Denot). k.device) c.up.ensures))
+    (gates-still state c.args.first c.args.second c.in-Ok.opened.0.device c.requires.first_settled c.requires.second_settled c.in-Ok.ensures.still)
+
+pub returns-in-Ok-state_in-clause-gates : goal.returns-in-Ok-state_in-clause-gates
+returns-in-Ok-state_in-clause-gates g c =
+    let before = c.in-Ok-state_in.state in
+    gates-put g.D.Disk.state c.args.first c.args.second (g.S.EndState.may before g.S.EndState.renewal)
+    (g.S.EndState.pending c.args.who before g.S.EndState.renewal) (λ (k : Kept g.row.S.Denot g.row.S-Record.Denot). k.device)
+    c.in-Ok.opened.0 c.in-Ok.ensures.still c.put_anew.result c.put_anew.ensures.any_moment
+
+pub returns-in-Err-clause-gates : goal.returns-in-Err-clause-gates
+returns-in-Err-clause-gates g c =
+    let state = g.D.Disk.state in
+    let disks = c.in-Err.returned.disks in
+    let one = c.in-Err.ensures.row.1 in
+    let other = c.in-Err.ensures.row.2 in
+    gates-still state c.args.first c.args.second (device_on (state disks.first) (state disks.second)) c.requires.first_settled
+    c.requires.second_settled (one.seen, one.events, other.seen, other.events)
+
+pub returns-in-Err-Refused-clause-gates : goal.returns-in-Err-Refused-clause-gates
+returns-in-Err-Refused-clause-gates g c =
+    let state = g.D.Disk.state in
+    subst (λ (d : Device). KeepsGates state c.args.first c.args.second d) (sym c.into_disks.ensures.device)
+    (gates-still state c.args.first c.args.second c.in-Ok.opened.0.device c.requires.first_settled c.requires.second_settled c.in-Ok.ensures.still)
+
+pub returns-clause-gates : goal.returns-clause-gates
+returns-clause-gates g c =
+    let state = g.D.Disk.state in
+    subst (λ (d : Device). KeepsGates state c.args.first c.args.second d) (sym c.into_disks-in-Err-NoMemory.ensures.device)
+    (gates-still state c.args.first c.args.second c.in-Ok.opened.0.device c.requires.first_settled c.requires.second_settled c.in-Ok.ensures.still)
