@@ -3,9 +3,9 @@
 use Rattle.std.proofs.Common.{◌≡◌, ℕ, zero, suc, List, [], ◌∷◌, map, slice_get, Some, refl, ap, sym, subst, ◌∙◌}
 use Rattle.userfile.specs.Records.{Records}
 use Rattle.procs.specs.Promises.{Promised}
-use Rattle.protocol.specs.History.{History, start, records_of, Grows}
+use Rattle.protocol.specs.History.{History, start, records_of}
 use Rattle.protocol.specs.Packets.{AcceptedChange}
-use Rattle.protocol.proofs.Growing.{Grows-refl, Grows-trans}
+use Rattle.protocol.proofs.Growing.{Grows-refl}
 use Rattle.protocol.proofs.Moments.{shows}
 use Rattle.sharelink.specs.BotLinks.{BotEnd}
 use Rattle.procs.specs.Dispatching.{told_of}
@@ -16,10 +16,11 @@ use Rattle.botcore.specs.Happenings.{happenings_of}
 use Rattle.botworld.specs.Calling.{Calling, IsAlike, IsAlikeButChannels, IgnoresChannels, proc_call}
 use Rattle.botworld.proofs.Alike.{proc_calls}
 use Rattle.processes.specs.Deeds.{Runs, Net, Step, Deed, Made, after_deed, net_after, Makes, Happens, Run, IsFirst}
-use Rattle.processes.specs.Standing.{Stands, Reaches}
+use Rattle.processes.specs.Standing.{Stands, GrowsBy, Reaches}
 use Rattle.processes.specs.Promises.{calling_of, calling_at}
 use Rattle.botworld.proofs.Calls.{IsCalled, IsCalled-extended, setting_by, step_calls, alike_calls, alike_calls_ignoring_channels}
-use Rattle.processes.proofs.Going.{deed_goes}
+use Rattle.processes.proofs.Standing.{grown, GrowsBy-trans}
+use Rattle.processes.proofs.Deeds.{deed_goes}
 use Rattle.processes.proofs.Running.{first_stands}
 
 module _ (promised : Promised) where
@@ -60,26 +61,26 @@ module _ (promised : Promised) where
 
   -- where deeds lead, and that their calls are those of the bots at their versions
   record Goes (w : Net) (h : History) (deeds : List Deed) : Type 0 where
-    reaches : Reaches h (net_after w deeds)
+    reaches : Reaches deeds h (net_after w deeds)
     called : (i bot : ℕ) (step : Step) (a : Calling) → slice_get deeds i ≡ Some (Made bot step)
         → calling_of step ≡ Some a
         → IsCalled promised step.names reaches.after.hub.kept.accepted a
 
   goes : (w : Net) (h : History) (deeds : List Deed) → Stands w h → Run promised w deeds → Goes w h deeds
   goes w h [] st run = record {
-    reaches = record { after = h; stands = st; grows = Grows-refl h };
+    reaches = record { after = h; stands = st; grows = grown [] h h (Grows-refl h) };
     called = λ i bot step a at is. cc;
   }
   goes w h (deed ∷ deeds) st run =
-      let one = deed_goes w h st promised deed run.0 in
+      let one = (deed_goes w h st promised deed run.0).leads in
       let rest = goes (after_deed w deed) one.after deeds one.stands run.1 in
-      let grows = Grows-trans h one.after rest.reaches.after one.grows rest.reaches.grows in
+      let grows = GrowsBy-trans deed deeds h one.after rest.reaches.after one.grows rest.reaches.grows in
       record {
         reaches = record { after = rest.reaches.after; stands = rest.reaches.stands; grows = grows };
         called = λ i bot step a at is. by grows rest refl i bot step a at is;
       }
     where
-      by : {next : History} → {last : History} → Grows h last
+      by : {next : History} → {last : History} → GrowsBy (deed ∷ deeds) h last
           → (rest : Goes (after_deed w deed) next deeds) → rest.reaches.after ≡ last
           → (i bot : ℕ) (step : Step) (a : Calling)
           → slice_get (deed ∷ deeds) i ≡ Some (Made bot step) → calling_of step ≡ Some a

@@ -1,7 +1,12 @@
 mod Lists
+mod Keeping
+mod Stepping
 mod Standing
 mod Turning
+mod Replacing
 mod Going
+mod Renewing
+mod Deeds
 mod Resting
 mod Running
 mod Calling

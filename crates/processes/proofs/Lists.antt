@@ -1,11 +1,14 @@
 -- Lists of processes and of packets.
-use Rattle.std.proofs.Common.{◌≡◌, ℕ, zero, suc, List, [], ◌∷◌, ◌++◌, Some, refl, subst}
-use Rattle.protocol.specs.Packets.{Sent as LinkSent}
+use Rattle.std.proofs.Common.{◌≡◌, ◌<◌, ℕ, zero, suc, Bool, true, false, if◌then◌else◌, List, [], ◌∷◌, ◌++◌, length, slice_get, Some, refl, ap, sym, subst, arith}
+use Rattle.protocol.specs.Packets.{Sent as LinkSent, from_wire}
+use Rattle.protocol.specs.Numbers.{item_at}
 use Rattle.protocol.proofs.Lists.{item_at-more}
 use Rattle.botworld.specs.declared.sent.Sent.{Sent}
 use Rattle.botworld.specs.Net.{packet_at}
 use Rattle.botworld.specs.Network.{sent_as, all_sent}
+use Rattle.processes.specs.Deeds.{is_unanswered, answered}
 use Rattle.processes.specs.Standing.{IsAmong, AreAmong}
+use Rattle.processes.proofs.Replacing.{link_answered}
 
 -- ---- packets among packets
 
@@ -74,3 +77,41 @@ AreAmong-at (first ∷ told) packets (suc zero) sent among at = let same : first
     (λ (s : Sent). IsAmong (sent_as s) packets) same among.0
 AreAmong-at (first ∷ told) packets (suc (suc place)) sent among at = AreAmong-at told packets (suc place) sent among.1
     at
+
+-- ---- packets that stay when a leaf is replaced
+
+among_answered : (leaf last : ℕ) (sent : LinkSent) → is_unanswered leaf last sent.packet ≡ false → (packets : List LinkSent) (number : ℕ)
+    → item_at packets number ≡ Some sent → IsAmong sent (link_answered leaf last packets)
+among_answered leaf last sent stays packets zero at = cc
+among_answered leaf last sent stays [] (suc place) at = cc
+among_answered leaf last sent stays (one ∷ packets) (suc zero) at =
+    let same : one ≡ sent = cc in
+    let goes : is_unanswered leaf last one.packet ≡ false = subst (λ (s : LinkSent). is_unanswered leaf last s.packet ≡ false) (sym same) stays in
+    subst (λ (b : Bool). IsAmong sent (if b then link_answered leaf last packets else one ∷ link_answered leaf last packets)) (sym goes)
+    (1, ap (λ (s : LinkSent). Some s) same)
+among_answered leaf last sent stays (one ∷ packets) (suc (suc place)) at =
+    by (is_unanswered leaf last one.packet) (among_answered leaf last sent stays packets (suc place) at)
+  where
+    by : (b : Bool) → IsAmong sent (link_answered leaf last packets)
+        → IsAmong sent (if b then link_answered leaf last packets else one ∷ link_answered leaf last packets)
+    by true rest = rest
+    by false rest = IsAmong-behind sent one (link_answered leaf last packets) rest
+
+pub AreAmong-answered : (leaf last : ℕ) (told : List Sent) (packets : List LinkSent) → AreAmong told packets
+    → AreAmong (answered leaf last told) (link_answered leaf last packets)
+AreAmong-answered leaf last [] packets among = tt
+AreAmong-answered leaf last (sent ∷ told) packets among =
+    by (is_unanswered leaf last (from_wire sent.packet)) refl (AreAmong-answered leaf last told packets among.1)
+  where
+    by : (b : Bool) → is_unanswered leaf last (from_wire sent.packet) ≡ b
+        → AreAmong (answered leaf last told) (link_answered leaf last packets)
+        → AreAmong (if b then answered leaf last told else sent ∷ answered leaf last told) (link_answered leaf last packets)
+    by true e rest = rest
+    by false e rest = (among_answered leaf last (sent_as sent) e packets among.0.0 among.0.1, rest)
+
+-- ---- an item within a list
+
+pub get_within : {X : Type 0} (xs : List X) (place : ℕ) → place < length xs → (x : X) × (slice_get xs place ≡ Some x)
+get_within [] place within = absurd (omega (arith, within))
+get_within (x ∷ xs) zero within = (x, refl)
+get_within (x ∷ xs) (suc place) within = get_within xs place (omega (arith, within))

@@ -1,4 +1,4 @@
--- An end that was opened and put anew is found so by the next restart.
+-- An end that was opened, or opened and put anew, is found so by the next restart.
 use Rattle.std.proofs.Common.{◌≡◌, ℕ, Bool, true, false, nat_lt, [], None, refl, ap}
 use Rattle.std.specs.Prelude.{if◌then◌else◌}
 use Rattle.protocol.specs.Numbers.{last_number}
@@ -50,3 +50,13 @@ module _ (leaves number : ℕ) where
   rests_anew Counts (AtHub hub) works = ap (λ (h : Hub). AtHub h) (hub_rests (counted hub_folded hub.kept hub.doubt))
   rests_anew Counts (AtLeaf leaf) works = ap (λ (l : Leaf). AtLeaf l) (leaf_rests (counted leaf_folded leaf.kept leaf.doubt))
   rests_anew Fails e works = absurd (works refl)
+
+  -- a restart that finds an end, and another restart
+  pub rests : (how : How) (e : LinkEnd) → (how ≡ Fails → ⊥)
+      → (end_did leaves number Works (end_did leaves number how e restarts).after restarts).after
+      ≡ (end_did leaves number how e restarts).after
+  rests Works (AtHub hub) works = refl
+  rests Works (AtLeaf leaf) works = refl
+  rests Counts (AtHub hub) works = refl
+  rests Counts (AtLeaf leaf) works = refl
+  rests Fails e works = absurd (works refl)

@@ -1,21 +1,23 @@
 -- What bots in processes of their own do, and where a list of their deeds leads.
-use Rattle.std.specs.Prelude.{◌≡◌, ◌⊎◌, ℕ, ◌+◌, List, [], ◌∷◌, ◌++◌, length, slice_get, slice_set, Option, None, Some}
+use Rattle.std.specs.Prelude.{◌≡◌, ◌⊎◌, ℕ, ◌+◌, ◌<◌, ◌==◌, nat_lt, Bool, false, ◌&&◌, if◌then◌else◌, List, [], ◌∷◌, ◌++◌, length, slice_get, slice_set, Option, None, Some}
 use Rattle.userfile.specs.Records.{Records}
 use Rattle.sharewire.specs.declared.packet.Packet.{Packet}
 use Rattle.procs.specs.Promises.{Promised}
 use Rattle.disks.specs.State.{moment, left_since}
-use Rattle.botjournal.specs.Contents.{meaning}
+use Rattle.botjournal.specs.Contents.{Contents, meaning}
 use Rattle.protocol.specs.Bots.{Fails}
-use Rattle.protocol.specs.Packets.{AcceptedChange}
+use Rattle.protocol.specs.Packets.{AcceptedChange, Packet as LinkPacket, from_wire}
+use Rattle.protocol.specs.Packets.Packet.{Hello, Change, Request, Accepted, Refused, BotText, Part}
 use Rattle.protocol.specs.Network.Event.{Pump as pumps, Compact as compacts}
-use Rattle.protocol.specs.Ends.{End}
-use Rattle.sharelink.specs.BotLinks.{BotEnd, did, took, MeanEnd}
+use Rattle.protocol.specs.Ends.{End, end_is_down}
+use Rattle.sharelink.specs.BotLinks.{BotEnd, did, took, MeanEnd, end_meaning}
 use Rattle.sharelink.specs.BotOpening.{IsKeptOf, IsLeft}
+use Rattle.sharelink.specs.Telling.{end_last_request, end_last_reply}
 use Rattle.botcore.specs.declared.event.BotEvent.{BotEvent}
 use Rattle.botcore.specs.declared.event.BotEvent.TheVariants.{Connect, Line, Ask, Pump, Receive, Clock, Bind, Unbind}
 use Rattle.botcore.specs.declared.event.BotEvent.TheVariants.{Compact, Restart}
 use Rattle.botcore.specs.declared.report.Report.{Report}
-use Rattle.botcore.specs.Bots.{Bot, begun, new_bot}
+use Rattle.botcore.specs.Bots.{Bot, begun, new_bot, bot_after}
 use Rattle.botcore.specs.Links.{link_version, link_records}
 use Rattle.botcore.specs.Steps.{TakesStep}
 use Rattle.botworld.specs.declared.sent.Sent.{Sent}
@@ -29,7 +31,8 @@ pub data Process : Type 0 where
   Runs : Bot → Process
   Ended : (first second : List ℕ) → Process
 
--- the process of each bot, the hub's first, and every packet in a report, in the order of the reports
+-- the process of each bot, the hub's first, and the packets in the reports, in the order of the reports, but for those
+-- that left as a leaf was replaced
 pub record Net : Type 0 where
   pub processes : List Process
   pub packets : List Sent
@@ -57,8 +60,27 @@ pub data Deed : Type 0 where
   Opened : (bot : ℕ) → (after : Bot) → Deed
   -- another process was to open the bot, and ended before it had: this is on the disks
   Unopened : (bot : ℕ) → (first second : List ℕ) → Deed
+  -- the hub renews a leaf: a new process begins as that leaf, in a new folder, whatever became of the earlier one
+  Replaced : (leaf : ℕ) → (after : Bot) → Deed
 
 -- ---- the net after deeds
+
+-- a request of this leaf that has a higher number than its last request that the hub replied to
+abbrev pub is_unanswered : (leaf last : ℕ) → LinkPacket → Bool
+is_unanswered leaf last (Hello layout from version) = false
+is_unanswered leaf last (Change number origin request change) = false
+is_unanswered leaf last (Request from request change) = (from == leaf) && nat_lt last request
+is_unanswered leaf last (Accepted to request number) = false
+is_unanswered leaf last (Refused to request fault) = false
+is_unanswered leaf last (BotText from to text) = false
+is_unanswered leaf last (Part version part count items) = false
+
+-- the packets but for such requests
+abbrev pub answered : (leaf last : ℕ) → List Sent → List Sent
+answered leaf last [] = []
+answered leaf last (sent ∷ packets) =
+    if is_unanswered leaf last (from_wire sent.packet) then answered leaf last packets
+    else sent ∷ answered leaf last packets
 
 abbrev pub with_process : Net → ℕ → Process → List Sent → Net
 with_process w bot process more =
@@ -69,6 +91,10 @@ after_deed w (Made bot step) = with_process w bot (Runs step.after) (posted bot 
 after_deed w (Died bot was doing first second) = with_process w bot (Ended first second) []
 after_deed w (Opened bot after) = with_process w bot (Runs after) []
 after_deed w (Unopened bot first second) = with_process w bot (Ended first second) []
+after_deed w (Replaced leaf after) = record {
+  processes = slice_set w.processes leaf (Runs after);
+  packets = answered leaf (end_last_request after.link.end) w.packets;
+}
 
 abbrev pub net_after : Net → List Deed → Net
 net_after w [] = w
@@ -143,6 +169,32 @@ pub record IsUnopened (bot bots : ℕ) (x y first second : List ℕ) : Type 0 wh
   pub many : leaves + 1 ≡ bots
   pub left : IsLeft bot leaves (meaning x y) first second
 
+-- these bytes mean this end to the hub of a net of `bots` bots
+pub record MeanHub (bots : ℕ) (first second : List ℕ) (end : End) : Type 0 where
+  pub leaves : ℕ
+  pub many : leaves + 1 ≡ bots
+  pub contents : Contents
+  pub found : meaning first second ≡ Some contents
+  pub means : end_meaning 0 leaves contents ≡ Some end
+
+-- the hub's end of the link: that of its bot, which runs and isn't down, or what its disks mean once its process ended
+abbrev pub IsHubEnd : ℕ → Process → End → Type 0
+IsHubEnd bots (Runs hub) end = (hub.link.end ≡ end) × (end_is_down end ≡ false)
+IsHubEnd bots (Ended first second) end = MeanHub bots first second end
+
+-- A new bot with the number of a leaf. It is at version 0, and has no records and no requests. Its first request gets the
+-- number after that of the leaf's last request that the hub has replied to.
+pub record IsReplaced (w : Net) (leaf : ℕ) (after : Bot) : Type 0 where
+  pub hub : Process
+  pub end : End
+  pub at : slice_get w.processes 0 ≡ Some hub
+  pub has : IsHubEnd (length w.processes) hub end
+  pub above : 0 < leaf
+  pub within : leaf < length w.processes
+  pub number : after.config.number ≡ leaf
+  pub leaves : after.config.leaves + 1 ≡ length w.processes
+  pub made : after ≡ bot_after after.config (end_last_reply end leaf) after.link.device
+
 module _ (promised : Promised) where
   -- the bot runs, a report sent it the packet that it takes, and the step is one that a bot takes
   pub record Makes (w : Net) (bot : ℕ) (step : Step) : Type 0 where
@@ -164,6 +216,7 @@ module _ (promised : Promised) where
       × IsOpened bot (length w.processes) first second after
   Happens w (Unopened bot first second) = (x y : List ℕ) × (slice_get w.processes bot ≡ Some (Ended x y))
       × IsUnopened bot (length w.processes) x y first second
+  Happens w (Replaced leaf after) = IsReplaced w leaf after
 
   -- each of these deeds happens after those before it
   abbrev pub Run : Net → List Deed → Type 0
@@ -198,6 +251,22 @@ AcceptsIn (Made bot step) old new = GrowsByNote bot step.report.note old new
 AcceptsIn (Died bot was doing first second) old new = AtMostOneMore old new
 AcceptsIn (Opened bot after) old new = AtMostOneMore old new
 AcceptsIn (Unopened bot first second) old new = AtMostOneMore old new
+AcceptsIn (Replaced leaf after) old new = AtMostOneMore old new
+
+-- ---- which bots are replaced
+
+-- this deed does not replace this bot
+abbrev pub StaysIn : ℕ → Deed → Type 0
+StaysIn bot (Made at step) = Unit {0}
+StaysIn bot (Died at was doing first second) = Unit {0}
+StaysIn bot (Opened at after) = Unit {0}
+StaysIn bot (Unopened at first second) = Unit {0}
+StaysIn bot (Replaced leaf after) = leaf ≡ bot → ⊥
+
+-- none of these deeds replaces this bot
+abbrev pub Stays : ℕ → List Deed → Type 0
+Stays bot [] = Unit {0}
+Stays bot (deed ∷ deeds) = StaysIn bot deed × Stays bot deeds
 
 -- ---- what is shown
 

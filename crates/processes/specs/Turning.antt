@@ -5,7 +5,7 @@ use Rattle.botcore.specs.declared.event.BotEvent.{BotEvent}
 use Rattle.botcore.specs.declared.report.Report.{Report}
 use Rattle.botcore.specs.Bots.{Bot}
 use Rattle.botworld.specs.declared.sent.Sent.{Sent}
-use Rattle.processes.specs.Deeds.{Runs, Net, Deed, Made, Died, Opened, Unopened, WasTold, Run, net_after}
+use Rattle.processes.specs.Deeds.{Runs, Net, Deed, Made, Died, Opened, Unopened, Replaced, WasTold, Run, net_after}
 
 -- reports have sent all packets among these events
 abbrev pub AreTold : List Sent → ℕ → List BotEvent → Type 0
@@ -19,6 +19,7 @@ IsStep bot names event report (Made at step) =
 IsStep bot names event report (Died at was doing first second) = ⊥
 IsStep bot names event report (Opened at after) = ⊥
 IsStep bot names event report (Unopened at first second) = ⊥
+IsStep bot names event report (Replaced leaf after) = ⊥
 
 -- each deed is such a step, with the event and the report at its place
 abbrev pub AreSteps : ℕ → List (List ℕ) → List BotEvent → List Report → List Deed → Type 0

@@ -1,22 +1,24 @@
 // The laws of the deeds of bots in processes of their own.
-ghost use Rattle.std.specs.Prelude.{◌≡◌, ◌⊎◌, ◌≤◌, ◌+◌, ◌++◌, ℕ, suc, true, List, slice_get, Some, Ok};
+ghost use Rattle.std.specs.Prelude.{◌≡◌, ◌⊎◌, ◌<◌, ◌≤◌, ◌+◌, ◌++◌, ℕ, suc, true, List, ◌∷◌, length, slice_get, Some, Ok};
 ghost use Rattle.protocol.specs.History.{History, start, records_of};
 ghost use Rattle.disks.specs.State.{may_leave, moment, left_since};
 ghost use Rattle.botjournal.specs.Ledger.{Device};
+ghost use Rattle.protocol.specs.Ends.{End};
 ghost use Rattle.sharelink.specs.BotLinks.{BotEnd, MayLeave};
+ghost use Rattle.sharelink.specs.Telling.{end_last_request, end_last_reply};
 ghost use Rattle.botcore.specs.declared.config.Config.{Config};
 ghost use Rattle.botcore.specs.Bots.{Bot};
 ghost use Rattle.botcore.specs.declared.event.BotEvent.{BotEvent};
 ghost use Rattle.botcore.specs.declared.report.Report.{Report};
-ghost use Rattle.botcore.specs.Making.{Makes, Finds, LeavesFound};
+ghost use Rattle.botcore.specs.Making.{Makes, MakesAfter, Finds, LeavesFound};
 ghost use Rattle.botcore.specs.Steps.{TakesStep};
 ghost use Rattle.botworld.specs.Calling.{Calling, IsAlike, IsAlikeButChannels, IgnoresChannels};
-ghost use Rattle.processes.specs.Deeds.{Net, Step, Deed, Made, Runs, Nothing, Telling, IsOpened, IsUnopened, CrashesIn, LeavesIn, Happens, Run, IsNew, IsFirst, net_after};
-ghost use Rattle.processes.specs.Deeds.{shown_version, shown_records};
+ghost use Rattle.processes.specs.Deeds.{Process, Net, Step, Deed, Made, Replaced, Runs, Nothing, Telling, IsOpened, IsUnopened, CrashesIn, LeavesIn, IsHubEnd, Happens, Run, IsNew, IsFirst, net_after};
+ghost use Rattle.processes.specs.Deeds.{Stays, shown_version, shown_records};
 ghost use Rattle.processes.specs.Standing.{Stands, Reaches, Leads};
 ghost use Rattle.processes.specs.Turning.{AreTold, AreDeeds};
 ghost use Rattle.turns.specs.Turns.{Steps};
-ghost use Rattle.processes.specs.Promises.{Once, calling_of};
+ghost use Rattle.processes.specs.Promises.{Once, BeginsAnew, calling_of};
 
 use disks::Disk;
 use procs::Promise;
@@ -26,9 +28,9 @@ use procs::Promise;
 pub fn laws_of_processes<P: Promise, D: Disk>()
     // The first moment stands for the start of history.
     ensures begins { (count : ℕ) (w : Net) → IsFirst count w → Stands w (start count) }
-    // Deeds lead to a moment into which history has grown.
+    // Deeds lead to a moment into which history has grown. Only for leaves that they replace is anything taken back.
     ensures goes { (w : Net) (h : History) (deeds : List Deed)
-        → Stands w h → Run P.promised w deeds → Reaches h (net_after w deeds) }
+        → Stands w h → Run P.promised w deeds → Reaches deeds h (net_after w deeds) }
     // A bot at version v shows the records that the first v changes make that the hub has accepted.
     ensures at_version { (w : Net) (h : History) → Stands w h → (bot version : ℕ) → shown_version w bot ≡ Some version
         → shown_records w bot ≡ Some (records_of h.hub.kept.accepted version) }
@@ -38,9 +40,10 @@ pub fn laws_of_processes<P: Promise, D: Disk>()
         → shown_version (net_after w first) one ≡ Some version
         → shown_version (net_after w (first ++ more)) other ≡ Some version
         → shown_records (net_after w first) one ≡ shown_records (net_after w (first ++ more)) other }
-    // No version goes back, even if the bot's process died in between and another process opened the bot.
+    // No version goes back, even if the bot's process died in between and another process opened the bot. Only a leaf that
+    // is replaced begins again.
     ensures never_back { (count : ℕ) (w : Net) (first more : List Deed)
-        → IsFirst count w → Run P.promised w (first ++ more) → (bot before after : ℕ)
+        → IsFirst count w → Run P.promised w (first ++ more) → (bot before after : ℕ) → Stays bot more
         → shown_version (net_after w first) bot ≡ Some before
         → shown_version (net_after w (first ++ more)) bot ≡ Some after → before ≤ after }
     // The list of accepted changes grows as the hub's step reports, and at no other step. Another deed adds at most the
@@ -49,6 +52,11 @@ pub fn laws_of_processes<P: Promise, D: Disk>()
     // A request is accepted at most once, and is reported so.
     ensures once { (count : ℕ) (w : Net) (deeds : List Deed)
         → IsFirst count w → Run P.promised w deeds → Once (net_after w deeds) }
+    // A leaf that was replaced never takes a reply from before as one to a request of its own. Its requests have higher
+    // numbers than all that the hub had replied to.
+    ensures begins_anew { (count : ℕ) (w : Net) (first more : List Deed) (leaf : ℕ) (new : Bot)
+        → IsFirst count w → Run P.promised w (first ++ Replaced leaf new ∷ more) → Stays leaf more
+        → BeginsAnew (net_after w first) (net_after w (first ++ Replaced leaf new ∷ more)) leaf (end_last_request new.link.end) }
     // Bots that are alike call the same procs, at any two moments, over stores of the same names.
     ensures same_calls { (count : ℕ) (w : Net) (deeds : List Deed) → IsFirst count w → Run P.promised w deeds
         → (i j one other : ℕ) (s t : Step) (a b : Calling)
@@ -63,6 +71,13 @@ pub fn laws_of_processes<P: Promise, D: Disk>()
     // A bot that `Bot::create` made is one of the first moment.
     ensures made { (config : Config) (first second : D) (bot : Bot) → Makes D.state config first second (Ok bot)
         → IsNew config.leaves config.number (Runs bot) }
+    // A bot that `Bot::create_after` made replaces a leaf, if it has the leaf's number, and the number of the leaf's last
+    // request that the hub has replied to: while the hub runs, what `Bot::last_reply` returns.
+    ensures replaced { (w : Net) (hub : Process) (end : End) (config : Config) (first second : D) (bot : Bot)
+        → slice_get w.processes 0 ≡ Some hub → IsHubEnd (length w.processes) hub end
+        → 0 < config.number → config.leaves + 1 ≡ length w.processes
+        → MakesAfter D.state config first second (end_last_reply end config.number) (Ok bot)
+        → Happens P.promised w (Replaced config.number bot) }
     // The steps of a turn are deeds, if reports have sent its packets. `take_turn` of the crate `turns` says that it makes
     // such steps.
     ensures turned { (w : Net) (bot : ℕ) (names : List (List ℕ)) (old new : Bot) (events : List BotEvent) (reports : List Report)

@@ -1,8 +1,10 @@
 use Rattle.protocol.specs.History.{start}
 use Rattle.processes.proofs.Running.{stands_at_version, run_goes, first_stands, run_same_records, run_never_back, stands_once}
+use Rattle.processes.proofs.Running.{run_begins_anew}
 use Rattle.processes.proofs.Calling.{run_same_calls, run_same_calls_ignoring_channels}
 use Rattle.processes.proofs.Dying.{step_dies}
-use Rattle.processes.proofs.Going.{deed_goes}
+use Rattle.processes.proofs.Deeds.{deed_goes}
+use Rattle.processes.proofs.Renewing.{made_replaces}
 use Rattle.processes.proofs.Turning.{steps_are_deeds}
 use Rattle.processes.proofs.laws.laws_of_processes.Goals as goal
 
@@ -10,7 +12,7 @@ pub returns-clause-begins : goal.returns-clause-begins
 returns-clause-begins g c = first_stands
 
 pub returns-clause-goes : goal.returns-clause-goes
-returns-clause-goes g c = λ w h deeds st run. run_goes g.P.Promise.promised w h deeds st run
+returns-clause-goes g c = λ w h deeds st run. (run_goes g.P.Promise.promised w h deeds st run).reaches
 
 pub returns-clause-at_version : goal.returns-clause-at_version
 returns-clause-at_version g c = stands_at_version
@@ -24,13 +26,21 @@ returns-clause-never_back g c = λ count w first more is run. run_never_back g.P
     w first more is run
 
 pub returns-clause-grows_as_told : goal.returns-clause-grows_as_told
-returns-clause-grows_as_told g c = λ w h deed st happens. deed_goes w h st g.P.Promise.promised deed happens
+returns-clause-grows_as_told g c = λ w h deed st happens. (deed_goes w h st g.P.Promise.promised deed happens).leads
 
 pub returns-clause-once : goal.returns-clause-once
 returns-clause-once g c =
     λ count w deeds is run.
-    let last = run_goes g.P.Promise.promised w (start count) deeds (first_stands count w is) run in
+    let last = (run_goes g.P.Promise.promised w (start count) deeds (first_stands count w is) run).reaches in
     stands_once _ last.after last.stands
+
+pub returns-clause-begins_anew : goal.returns-clause-begins_anew
+returns-clause-begins_anew g c = λ count w first more leaf new is run stays. run_begins_anew g.P.Promise.promised count
+    w first more leaf new is run stays
+
+pub returns-clause-replaced : goal.returns-clause-replaced
+returns-clause-replaced g c = λ w hub end config first second bot at has above many makes.
+    made_replaces w hub end config bot at has above many makes.0 makes.1
 
 pub returns-clause-same_calls : goal.returns-clause-same_calls
 returns-clause-same_calls g c =
