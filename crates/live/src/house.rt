@@ -139,8 +139,8 @@ impl House {
 
     // The next connection that waits.
     fn next(&self, alloc: Global) -> Option<Peer> {
-        let socket = self.door.let_in(self.watch.registry(), TOKEN)?;
-        Some(Peer::accepted(alloc, socket))
+        let arrival = self.door.let_in(self.watch.registry(), TOKEN)?;
+        Some(Peer::accepted(alloc, arrival.socket))
     }
 
     fn admit(&mut self, alloc: Global, peer: Peer) -> Result<(), NoMemory> {

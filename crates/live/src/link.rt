@@ -80,11 +80,11 @@ impl LinkHouse {
     /// `NoMemory` if memory cannot be allocated.
     pub fn let_in(&mut self, alloc: Global, registry: &Registry) -> Result<bool, NoMemory> {
         for count in 0..MAX_ENDS {
-            let Some(socket) = self.door.let_in(registry, TOKEN) else {
+            let Some(arrival) = self.door.let_in(registry, TOKEN) else {
                 return Ok(count > 0);
             };
             self.make_place();
-            let peer = Peer::accepted(alloc, socket);
+            let peer = Peer::accepted(alloc, arrival.socket);
             self.ends.push(End {
                 wire: FramePeer::new(alloc, peer),
                 leaf: None,

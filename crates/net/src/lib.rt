@@ -2,8 +2,9 @@
 //! server to try next, the seconds of this machine's clocks, and the log.
 //!
 //! - A [`TcpSocket`] is a connection over TCP, and a [`UnixSocket`] one at a path of this machine; each is a
-//!   [`Stream`](streams::Stream). A [`TcpDoor`] and a [`UnixDoor`] accept connections. A [`Watch`] waits until one of
-//!   them is ready, and names it by the token under which it was opened.
+//!   [`Stream`](streams::Stream). A [`TcpDoor`] and a [`UnixDoor`] accept connections. A `TcpDoor` returns each as
+//!   an [`Arrival`], with the address that it comes from. A [`Watch`] waits until one of them is ready, and names it by
+//!   the token under which it was opened.
 //! - A [`Connection`] holds a stream with the bytes heard from it and the bytes still to be sent, each within a bound.
 //! - A [`Redial`] decides when a lost connection is tried again.
 //! - A [`Dialling`] decides which server of a list is tried next, at which of its addresses, and when.
@@ -78,12 +79,13 @@
 //!
 //! A process that printed its log would block once nobody reads the pipe that it prints to, and hear nobody any more. So
 //! [`note`](Log::note) only queues a line, and [`flush`](Log::flush) writes while the system says that standard output
-//! takes bytes. At most [`MAX_LOG_WAITING`] bytes wait. A line that doesn't fit is dropped and counted. Before the next
-//! line that fits, the log says how many were dropped:
+//! takes bytes. At most [`MAX_LOG_WAITING`] bytes wait. A line that doesn't fit is dropped and counted, and so is one for
+//! which no memory is left. Before the next line that it keeps, the log says how many were dropped, and why:
 //!
 //! ```text
 //! 1700000000 up at version 7
 //! 1700000060 log: standard output was full, so lines were dropped: 12
+//! 1700000060 log: memory ran out, so lines were dropped: 1
 //! 1700000060 ended
 //! ```
 #![tactic(auto)]
@@ -112,7 +114,7 @@ pub use crate::log_lines::MAX_LOG_LINE;
 pub use crate::logging::{Log, MAX_LOG_WAITING};
 pub use crate::redial::{FIRST_WAIT, Redial};
 pub use crate::socket::Socket;
-pub use crate::tcp::{TcpDoor, TcpSocket};
+pub use crate::tcp::{Arrival, TcpDoor, TcpSocket};
 pub use crate::timeline::Timeline;
 pub use crate::unix::{UnixDoor, UnixSocket};
 pub use crate::watch::Watch;

@@ -1,6 +1,6 @@
 // The lines of a log.
 ghost use Rattle.std.specs.Prelude.{◌≡◌, ◌≤◌, IfOk, List, ℕ, length};
-ghost use Rattle.net.specs.Logs.{AreLines, IsLineOf, Tells, gap_line};
+ghost use Rattle.net.specs.Logs.{AreLines, IsLineOf, Tells, gap_line, gap_lines};
 ghost use Rattle.net.specs.declared.log_lines.TheConstants.{MAX_LOG_LINE};
 
 use bytetext::NoMemory;
@@ -10,31 +10,48 @@ use std::fmt::Display;
 /// The most bytes of one line of a [`Log`](crate::Log), without its LF.
 pub const MAX_LOG_LINE: usize = 4_000;
 
-// Returns the line of `entry`, after the line that tells of `dropped` lines, if some were.
+// How many lines were dropped since the last one that was kept.
+#[derive(Clone, Copy)]
+pub(crate) struct Gap {
+    // So many did not fit.
+    pub(crate) dropped: u64,
+    // For so many no memory was left.
+    pub(crate) unmade: u64,
+}
+
+// Returns the line of `entry`, after the lines that tell of a `gap` before it.
 pub(crate) fn lines_of<E: Display>(
     alloc: Global,
-    dropped: u64,
+    gap: Gap,
     now: u64,
     entry: &E,
 ) -> Result<Vec<u8>, NoMemory>
-    ensures { IfOk result (λ lines. AreLines dropped now (E.output entry.now) lines.items) }
+    ensures { IfOk result (λ lines. AreLines gap.dropped gap.unmade now (E.output entry.now) lines.items) }
 {
-    let mut lines = gap_of(alloc, dropped, now)?;
+    let mut lines = gaps_of(alloc, gap, now)?;
     let line = line_of(alloc, now, entry)?;
     lines.extend_from_slice(line.as_slice())?;
     Ok(lines)
 }
 
-// Returns the line that tells of `dropped` lines, or nothing if none was dropped.
-fn gap_of(alloc: Global, dropped: u64, now: u64) -> Result<Vec<u8>, NoMemory>
-    ensures { IfOk result (λ line. line.items ≡ gap_line dropped now) }
+// Returns the lines that tell of a gap; nothing if no line was dropped.
+fn gaps_of(alloc: Global, gap: Gap, now: u64) -> Result<Vec<u8>, NoMemory>
+    ensures { IfOk result (λ lines. lines.items ≡ gap_lines gap.dropped gap.unmade now) }
 {
-    if dropped == 0 {
+    let mut lines = gap_of(alloc, "standard output was full", gap.dropped, now)?;
+    let unmade = gap_of(alloc, "memory ran out", gap.unmade, now)?;
+    lines.extend_from_slice(unmade.as_slice())?;
+    Ok(lines)
+}
+
+// Returns the line that tells that `count` lines were dropped, and `why`; nothing if none was.
+fn gap_of(alloc: Global, why: &str, count: u64, now: u64) -> Result<Vec<u8>, NoMemory>
+    ensures { IfOk result (λ line. line.items ≡ gap_line why.now count now) }
+{
+    if count == 0 {
         return Ok(Vec::new(alloc));
     }
-    let line = format!(in alloc;
-        "{now} log: standard output was full, so lines were dropped: {dropped}\n"
-    )?;
+    let line = format!(in alloc; "{now} log: {why}, so lines were dropped: {count}\n")?;
     Ok(line.into_bytes())
 }
 

@@ -2,7 +2,7 @@
 ghost use Rattle.std.specs.Prelude.{◌≤◌, vec_len};
 ghost use Rattle.net.specs.declared.logging.TheConstants.{MAX_LOG_WAITING};
 
-use crate::log_lines::lines_of;
+use crate::log_lines::{Gap, lines_of};
 use crate::standard_output::{StandardOutput, write_piece};
 use bytetext::NoMemory;
 use std::alloc::Global;
@@ -13,14 +13,14 @@ use std::net::Net;
 use streams::Taken;
 
 /// The most bytes that wait in a [`Log`] for standard output.
-pub const MAX_LOG_WAITING: usize = 65_536;
+pub const MAX_LOG_WAITING: usize = 262_144;
 
 /// The log of a process: lines that wait in memory until standard output takes them. So a process doesn't block when
 /// nobody reads its log. Contracts see it as a `Rattle.net.specs.Logs.Logged`.
 ///
 /// [`note`](Log::note) queues a line, and [`flush`](Log::flush) writes what waits. At most [`MAX_LOG_WAITING`] bytes
-/// wait. A line that doesn't fit is dropped. Before the next line that fits stands a line that says how many were
-/// dropped.
+/// wait. A line that doesn't fit, or for which no memory is left, is dropped. Before the next line that is kept, the log
+/// says how many were dropped, and why.
 ///
 /// ```text
 /// let mut log = Log::open(&rt)?;
@@ -32,8 +32,8 @@ pub struct Log {
     output: StandardOutput,
     // The bytes of the lines that wait.
     waiting: Vec<u8>,
-    // How many lines were dropped since the last one that fitted.
-    dropped: u64,
+    // How many lines were dropped since the last one that was kept.
+    gap: Gap,
     ghost fits: { vec_len waiting ≤ MAX_LOG_WAITING },
 }
 
@@ -44,7 +44,7 @@ impl Drop for Log {
             alloc: _,
             output: _,
             waiting: _,
-            dropped: _,
+            gap: _,
         } = self;
     }
 }
@@ -54,13 +54,13 @@ impl Model for Log {
 
     ghost Value = { Logged };
 
-    ghost view = { λ log. record { waiting = log.waiting.items; dropped = log.dropped } };
+    ghost view = { λ log. record { waiting = log.waiting.items; dropped = log.gap.dropped; unmade = log.gap.unmade } };
 }
 
 impl Log {
-    ghost use Rattle.std.specs.Prelude.{◌≡◌, ◌≤◌, ◌==◌, ◌++◌, [], length, IfOk, if◌then◌else◌};
+    ghost use Rattle.std.specs.Prelude.{◌≡◌, ◌≤◌, ◌==◌, ◌⊎◌, [], length, IfOk};
     ghost use Rattle.net.specs.Connections.{Grows};
-    ghost use Rattle.net.specs.Logs.{EndsWith, Notes};
+    ghost use Rattle.net.specs.Logs.{EndsWith, Notes, queued, without_memory};
     ghost use Rattle.net.specs.declared.logging.TheConstants.{MAX_LOG_WAITING};
 
     /// Creates a log of no line yet, and has the system watch standard output. The system can't watch a regular file,
@@ -71,43 +71,56 @@ impl Log {
     pub fn open(rt: &(impl Net + AllocGlobal)) -> io::Result<Log>
         ensures none { IfOk result (λ log. log.waiting ≡ []) }
         ensures whole { IfOk result (λ log. log.dropped ≡ 0) }
+        ensures made { IfOk result (λ log. log.unmade ≡ 0) }
     {
         Ok(Log {
             alloc: rt.alloc(),
             output: StandardOutput::watch(rt)?,
             waiting: Vec::new(rt.alloc()),
-            dropped: 0,
+            gap: Gap {
+                dropped: 0,
+                unmade: 0,
+            },
         })
     }
 
     /// Queues a line for `entry`, what happened at second `now`: the second, a space, the entry and LF. If the line has
     /// more than [`MAX_LOG_LINE`](crate::MAX_LOG_LINE) bytes, it is cut there, or before the character that is there.
     ///
-    /// If lines were dropped before, a line of its own says how many. If the lines don't fit into [`MAX_LOG_WAITING`]
-    /// bytes with what waits, or an allocation fails, the line is dropped and counted.
+    /// If lines were dropped before, lines of their own say how many, and why. If the lines don't fit into
+    /// [`MAX_LOG_WAITING`] bytes with what waits, or an allocation fails, the line is dropped and counted.
     pub fn note<E: Display>(&mut self, now: u64, entry: &E)
         ensures noted { Notes now (E.output entry.now) self.old self.new }
         ensures kept { Grows self.old.waiting self.new.waiting }
         ensures bound { length self.new.waiting ≤ MAX_LOG_WAITING }
     {
-        let is_queued = match lines_of(self.alloc, self.dropped, now, entry) {
+        match lines_of(self.alloc, self.gap, now, entry) {
             Ok(lines) => self.queue(lines.as_slice()),
-            Err(NoMemory) => false,
-        };
-        if is_queued {
-            self.dropped = 0;
-        } else {
-            self.dropped = self.dropped.saturating_add(1);
+            Err(NoMemory) => self.count_unmade(),
         }
     }
 
-    // Queues `lines` if they fit and memory is left for them. Returns whether it did.
-    fn queue(&mut self, lines: &[u8]) -> bool
-        ensures waiting { self.new.waiting ≡ (if result then self.old.waiting ++ lines.now else self.old.waiting) }
-        ensures dropped { self.new.dropped ≡ self.old.dropped }
+    // Queues `lines` if they fit and memory is left for them; else counts a line that was dropped.
+    fn queue(&mut self, lines: &[u8])
+        ensures { (self.new ≡ queued lines.now self.old) ⊎ (self.new ≡ without_memory self.old) }
     {
-        lines.len() <= MAX_LOG_WAITING - self.waiting.len()
-            && self.waiting.extend_from_slice(lines).is_ok()
+        if lines.len() > MAX_LOG_WAITING - self.waiting.len() {
+            self.gap.dropped = self.gap.dropped.saturating_add(1);
+        } else if self.waiting.extend_from_slice(lines).is_ok() {
+            self.gap = Gap {
+                dropped: 0,
+                unmade: 0,
+            };
+        } else {
+            self.count_unmade();
+        }
+    }
+
+    // Counts a line for which no memory was left.
+    fn count_unmade(&mut self)
+        ensures { self.new ≡ without_memory self.old }
+    {
+        self.gap.unmade = self.gap.unmade.saturating_add(1);
     }
 
     /// Writes what waits to standard output, in pieces of whole lines and at most 4,096 bytes. Stops when standard
@@ -119,6 +132,7 @@ impl Log {
     pub fn flush<R: Print>(&mut self, rt: &R)
         ensures rest { EndsWith self.old.waiting self.new.waiting }
         ensures dropped { self.new.dropped ≡ self.old.dropped }
+        ensures unmade { self.new.unmade ≡ self.old.unmade }
     {
         while !self.waiting.is_empty() && self.output.is_writable() {
             match write_piece(&mut self.waiting, &mut io::writer(rt)) {
@@ -143,10 +157,11 @@ impl Log {
         self.waiting.is_empty()
     }
 
-    /// Returns how many lines were dropped since the last line that fitted, at most 2 ^ 64 - 1.
+    /// Returns how many lines were dropped because they did not fit, since the last line that was kept, at most
+    /// 2 ^ 64 - 1.
     pub fn dropped(&self) -> u64
         ensures { result ≡ self.now.dropped }
     {
-        self.dropped
+        self.gap.dropped
     }
 }

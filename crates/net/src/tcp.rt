@@ -48,10 +48,19 @@ fn watch_at_once(registry: &Registry, token: usize, stream: TcpStream) -> io::Re
     Socket::watched(registry, token, stream)
 }
 
+/// A connection that a [`TcpDoor`] accepted.
+#[derive(Drop)]
+pub struct Arrival {
+    /// The connection, from which nothing was read and to which nothing was sent.
+    pub socket: TcpSocket,
+    /// The address and the port of the other side.
+    pub address: SocketAddr,
+}
+
 /// A listener over TCP.
 ///
 /// ```text
-/// while let Some(socket) = door.let_in(registry, token) { .. }
+/// while let Some(Arrival { socket, address }) = door.let_in(registry, token) { .. }
 /// ```
 pub struct TcpDoor {
     listener: TcpListener,
@@ -87,13 +96,15 @@ impl TcpDoor {
         self.listener.local_addr().ok()
     }
 
-    /// Accepts the next waiting connection, which `registry` then watches under `token`. Returns `None` if none waits.
-    /// At the limit of open files no connection seems to wait; a later call accepts it.
-    pub fn let_in(&self, registry: &Registry, token: usize) -> Option<TcpSocket>
-        ensures { IfSome result (λ socket. socket.account.past ≡ nothing_yet) }
+    /// Accepts the next waiting connection, which `registry` then watches under `token`, and returns it with the address
+    /// of its other side. Returns `None` if none waits. At the limit of open files no connection seems to wait; a later
+    /// call accepts it.
+    pub fn let_in(&self, registry: &Registry, token: usize) -> Option<Arrival>
+        ensures { IfSome result (λ arrival. arrival.socket.account.past ≡ nothing_yet) }
     {
-        let (stream, _) = self.listener.accept().ok()?;
-        watch_at_once(registry, token, stream).ok()
+        let (stream, address) = self.listener.accept().ok()?;
+        let socket = watch_at_once(registry, token, stream).ok()?;
+        Some(Arrival { socket, address })
     }
 }
 

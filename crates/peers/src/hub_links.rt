@@ -176,11 +176,11 @@ impl HubLinks {
             let Some(slot) = free_slot(self.slots.as_slice()) else {
                 return Ok(());
             };
-            let Some(socket) = self.door.let_in(registry, FIRST_TOKEN.saturating_add(slot)) else {
+            let Some(arrival) = self.door.let_in(registry, FIRST_TOKEN.saturating_add(slot)) else {
                 return Ok(());
             };
             self.make_way(log, now);
-            self.greet(rt, socket, slot)?;
+            self.greet(rt, arrival.socket, slot)?;
         }
         Ok(())
     }
