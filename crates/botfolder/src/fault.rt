@@ -38,9 +38,12 @@ pub enum FolderFault {
     /// A file of its journal is missing.
     #[error("holds a journal that lacks a file: bring back journal/first and journal/second")]
     LacksFile,
-    /// Its file `net` is shorter than the number of a net.
-    #[error("holds a file net that is too short: bring back the file net, 16 digits and a line feed")]
-    ShortNet,
+    /// Its file `net` or `made` is shorter than a number.
+    #[error("holds a file {0} that is too short: bring back the file {0}, 16 digits and a line feed")]
+    ShortNumber(FolderFile),
+    /// Its file `leaves` has more than 1,048,576 bytes, or would have.
+    #[error("has no room in its file leaves: end its bot, and remove lines that a later line of the same leaf replaces")]
+    LongBook,
     /// No journal was made in it.
     #[error("holds no bot: give the folder of one")]
     NoBot,

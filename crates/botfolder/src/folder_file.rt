@@ -9,6 +9,7 @@ use bytetext::Failure;
 use std::fmt::Display;
 use std::fs::{File, OpenOptions};
 use std::io::ErrorKind;
+use std::os::unix::fs::FileExt as _;
 use std::rt::Files;
 use std::{fmt, fs};
 
@@ -29,6 +30,14 @@ pub enum FolderFile {
     Net,
     /// `net.new`
     NewNet,
+    /// `made`
+    Made,
+    /// `made.new`
+    NewMade,
+    /// `leaves`
+    Leaves,
+    /// `leaves.new`
+    NewLeaves,
     /// `room`
     Room,
     /// `control`
@@ -46,6 +55,10 @@ impl FolderFile {
             FolderFile::NewSecond => "new/second",
             FolderFile::Net => "net",
             FolderFile::NewNet => "net.new",
+            FolderFile::Made => "made",
+            FolderFile::NewMade => "made.new",
+            FolderFile::Leaves => "leaves",
+            FolderFile::NewLeaves => "leaves.new",
             FolderFile::Room => "room",
             FolderFile::Control => "control",
         }
@@ -94,6 +107,22 @@ fn keep_regular<R: Files>(rt: &R, path: &str, file: FolderFile) -> Result<(), Fo
             ErrorKind::NotFound => Ok(()),
             _ => Err(system_error(&error)),
         },
+    }
+}
+
+// Returns how many bytes a file has.
+pub(crate) fn len_of(file: &File) -> Result<usize, FolderError> {
+    match file.metadata() {
+        Ok(metadata) => Ok(metadata.len() as usize),
+        Err(error) => Err(system_error(&error)),
+    }
+}
+
+// Fills `bytes` from the front of a file.
+pub(crate) fn read_file(file: &File, bytes: &mut [u8]) -> Result<(), FolderError> {
+    match file.read_exact_at(bytes, 0) {
+        Ok(()) => Ok(()),
+        Err(error) => Err(system_error(&error)),
     }
 }
 

@@ -6,6 +6,8 @@
 //!   journal/        first and second, the two disks of the bot's journal
 //!   new/            the same while they are made
 //!   net             the number of the bot's net: 16 digits and a line feed
+//!   made            the folder's own number: 16 digits and a line feed
+//!   leaves          at a hub, the book of its leaves: which folder is which leaf, a line each
 //!   room            zeros: the space that is set aside for the bot
 //!   control         a socket, at which the running bot takes commands
 //! ```
@@ -29,6 +31,10 @@
 //! // listen at folder.control()
 //! ```
 //!
+//! [`BotFolder::keep_net`] and [`BotFolder::keep_made`] keep the two numbers. [`BotFolder::leaves`] returns the lines of
+//! the book, and [`BotFolder::enter`] adds some after them. Each of these files is written under a second name, such as
+//! `net.new`, and then renamed: whatever crash comes, it is found as it was, or with all that was written.
+//!
 //! [`BotFolder::room`] returns a [`Room`], which finds out whether the disk has room for changes before one is written to
 //! the journal.
 //!
@@ -38,21 +44,24 @@
 #![tactic(auto)]
 
 mod begun;
+mod book_file;
 mod bot_folder;
 mod fault;
 mod folder_file;
 mod folders;
 mod locking;
-mod net_file;
+mod number_file;
 mod paths;
 mod room;
 mod stopped;
+mod whole_file;
 
 pub use crate::begun::Begun;
+pub use crate::book_file::MAX_BOOK;
 pub use crate::bot_folder::BotFolder;
 pub use crate::fault::{FolderError, FolderFault};
 pub use crate::folder_file::FolderFile;
-pub use crate::net_file::NET_DIGITS;
+pub use crate::number_file::NUMBER_DIGITS;
 pub use crate::paths::{MAX_PATH, control_of};
 pub use crate::room::{Room, SET_ASIDE};
 pub use crate::stopped::{Stopped, read_stopped};

@@ -4,13 +4,12 @@ ghost use Rattle.botfolder.specs.Folders.{AreCopies};
 
 use crate::bot_folder::is_there;
 use crate::fault::{FolderError, FolderFault, system_error};
-use crate::folder_file::{FolderFile, open_file};
+use crate::folder_file::{FolderFile, len_of, open_file, read_file};
 use crate::paths::{JOURNAL, below};
 use bytetext::Failure;
 use disks::MemDisk;
 use std::alloc::Global;
 use std::fs::{File, OpenOptions, TryLockError};
-use std::os::unix::fs::FileExt as _;
 use std::rt::Files;
 
 /// Copies in memory of the two disks of a journal.
@@ -75,13 +74,6 @@ fn room_for(alloc: Global, file: &File) -> Result<Vec<u8>, FolderError> {
     Ok(vec![in alloc; 0; len]?)
 }
 
-fn len_of(file: &File) -> Result<usize, FolderError> {
-    match file.metadata() {
-        Ok(metadata) => Ok(metadata.len() as usize),
-        Err(error) => Err(system_error(&error)),
-    }
-}
-
 // Locks a file so that other readers can share it.
 fn lock(file: &File) -> Result<(), FolderError> {
     match file.try_lock_shared() {
@@ -94,8 +86,5 @@ fn lock(file: &File) -> Result<(), FolderError> {
 // Reads what a locked file holds, which may have changed its length before it was locked.
 fn read(file: &File, bytes: &mut Vec<u8>) -> Result<(), FolderError> {
     bytes.resize(len_of(file)?, 0)?;
-    match file.read_exact_at(bytes, 0) {
-        Ok(()) => Ok(()),
-        Err(error) => Err(system_error(&error)),
-    }
+    read_file(file, bytes)
 }

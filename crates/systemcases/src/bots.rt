@@ -3,6 +3,7 @@ ghost use Rattle.std.specs.Prelude.{◌≡◌, IfSome, IfOk};
 ghost use Rattle.botfolder.specs.Folders.{AreCopies, AreReady};
 
 use crate::LAYOUT;
+use crate::keeping::kept_files;
 use crate::seen::{Seen, done, yes};
 use botfolder::{Begun, BotFolder, FolderError, FolderFault, Stopped, read_stopped};
 use bytejournal::Journal;
@@ -14,8 +15,8 @@ use std::os::unix::fs::DirBuilderExt as _;
 use std::rt::Files;
 use std::time::Clock;
 
-// The folder's name.
-const BOT: &str = "bot";
+/// The folder's name.
+pub const BOT: &str = "bot";
 
 /// Makes a bot's journal in a folder: after starts that are stopped, and beside other starts.
 pub fn bot_folders<R: AllocGlobal + Files<File = File> + Clock>(rt: &R, seen: &mut Seen) {
@@ -27,6 +28,7 @@ pub fn bot_folders<R: AllocGlobal + Files<File = File> + Clock>(rt: &R, seen: &m
     controls(rt, seen);
     missing_files(rt, seen);
     other_files(rt, seen);
+    kept_files(rt, seen);
 }
 
 // Tries folders that a bot can't use.
@@ -148,7 +150,7 @@ fn missing_files<R: AllocGlobal + Files<File = File> + Clock>(rt: &R, seen: &mut
     );
 }
 
-// Starts with a folder that has the name of a file, and reads a number of a net that is too short.
+// Starts with a folder that has the name of a file.
 fn other_files<R: AllocGlobal + Files<File = File> + Clock>(rt: &R, seen: &mut Seen) {
     let made = DirBuilder::new().create(rt, "bot/journal/second").is_ok();
     seen.note("a folder with its name", done(made));
@@ -158,30 +160,6 @@ fn other_files<R: AllocGlobal + Files<File = File> + Clock>(rt: &R, seen: &mut S
         "removed",
         done(fs::remove_dir(rt, "bot/journal/second").is_ok()),
     );
-    seen.note(
-        "a net's number of 3 bytes",
-        done(fs::write(rt, "bot/net", "123").is_ok()),
-    );
-    seen.note("it is read", net_read(rt));
-    seen.note(
-        "16 bytes",
-        done(fs::write(rt, "bot/net", "0123456789abcdef").is_ok()),
-    );
-    seen.note("they are read", net_read(rt));
-    seen.note("removed", done(remove(rt, "bot/net")));
-    seen.note("none is read", net_read(rt));
-}
-
-// Reads the number of the net, and returns what is found.
-fn net_read<R: AllocGlobal + Files<File = File> + Clock>(rt: &R) -> &'static str {
-    match BotFolder::take(rt, BOT) {
-        Ok(folder) => match folder.net(rt) {
-            Ok(Some(digits)) => done(&digits == b"0123456789abcdef"),
-            Ok(None) => "no number",
-            Err(error) => word_of(error),
-        },
-        Err(error) => word_of(error),
-    }
 }
 
 // Takes the folder, and returns how that ends.
@@ -271,11 +249,13 @@ fn copied<R: AllocGlobal>(rt: &R, copies: Stopped) -> &'static str
     }
 }
 
-fn remove<R: Files>(rt: &R, path: &str) -> bool {
+/// Removes the file at `path`, and returns whether that worked.
+pub fn remove<R: Files>(rt: &R, path: &str) -> bool {
     fs::remove_file(rt, path).is_ok()
 }
 
-fn word_of(error: FolderError) -> &'static str {
+/// Returns the word for why a folder can't be used.
+pub fn word_of(error: FolderError) -> &'static str {
     match error {
         Failure::Refused(fault) => word_of_fault(fault),
         Failure::NoMemory => "out of memory",
@@ -292,7 +272,8 @@ fn word_of_fault(fault: FolderFault) -> &'static str {
         FolderFault::NotRegular(file) => file.name(),
         FolderFault::InUse => "in use",
         FolderFault::LacksFile => "lacks a file",
-        FolderFault::ShortNet => "too short a number of its net",
+        FolderFault::ShortNumber(_) => "too short a number",
+        FolderFault::LongBook => "no room in its book",
         FolderFault::NoBot => "no bot",
         FolderFault::Unusable => "unusable",
         FolderFault::ProcessFiles => "too many files of this process",

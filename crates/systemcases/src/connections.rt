@@ -3,7 +3,7 @@ use crate::meeting::{guest_of, heard, hears};
 use crate::seen::{Seen, yes};
 use crate::texts::{given, taken};
 use bytetext::Failure;
-use net::{DialFault, DialTokens, Dialling, TcpDoor, TcpSocket, Watch};
+use net::{Arrival, DialFault, DialTokens, Dialling, TcpDoor, TcpSocket, Watch};
 use std::fs::File;
 use std::io;
 use std::net::{Ipv4Addr, Net, SocketAddr};
@@ -66,10 +66,15 @@ fn meet(seen: &mut Seen, watch: &mut Watch, door: &TcpDoor, caller: TcpSocket) -
         "the door has something to say",
         yes(watch.tokens().contains(&DOOR)),
     );
-    let Some(mut guest) = guest_of(watch, door)? else {
+    let Some(Arrival { socket, address }) = guest_of(watch, door)? else {
         seen.note("who came", "nobody");
         return Ok(());
     };
+    seen.note(
+        "the guest comes from the caller's address",
+        yes(is_address_of(&caller, address)),
+    );
+    let mut guest = socket;
     let mut piece = [0; 16];
     seen.note("before a word", given(guest.give(&mut piece)));
     seen.note("the caller is told", taken(caller.take(b"PING :a\r\n")));
@@ -89,6 +94,14 @@ fn meet(seen: &mut Seen, watch: &mut Watch, door: &TcpDoor, caller: TcpSocket) -
         given(heard(watch, &mut guest, &mut piece)?),
     );
     Ok(())
+}
+
+// Returns whether `caller` is at `address` of this machine.
+fn is_address_of(caller: &TcpSocket, address: SocketAddr) -> bool {
+    match caller.own_port() {
+        Some(port) => address == SocketAddr::from((Ipv4Addr::LOCALHOST, port)),
+        None => false,
+    }
 }
 
 // Connects to `address`, where nobody listens any more.

@@ -8,7 +8,7 @@ use std::os::fd::{AsRawFd as _, IntoRawFd as _};
 use std::rt::Files;
 use std::{fs, io};
 
-// How many of the longest lines may wait. So many fill a pipe of Linux too, a page each.
+// How many of the longest lines may wait: more than a pipe of Linux takes, which has 16 pages.
 const MOST_LINES: usize = MAX_LOG_WAITING / (MAX_LOG_LINE + 1);
 
 /// Makes standard output a file, then a pipe, logs to them, and makes it again what it was. A new file must get the
@@ -77,14 +77,18 @@ fn fill<R: AllocGlobal + Print>(rt: &R, seen: &mut Seen, log: &mut Log) -> io::R
     }
     seen.note("two lines too many are dropped", yes(log.dropped() == 2));
     log.flush(rt);
-    seen.note("the others fill the pipe", yes(log.is_empty()));
+    let waiting = log.len();
+    seen.note(
+        "the others fill the pipe",
+        yes(waiting < MOST_LINES * (MAX_LOG_LINE + 1)),
+    );
+    seen.note("the rest waits", yes(waiting > 0));
     log.note(2, &"more");
-    log.flush(rt);
-    seen.note("one more waits", yes(!log.is_empty()));
+    seen.note("one more fits", yes(log.dropped() == 0));
     Ok(())
 }
 
-// Reads what the pipe holds, and then what waited.
+// Reads what the pipe holds, and what waited as the pipe takes it.
 fn drain<R: AllocGlobal + Print>(
     rt: &R,
     seen: &mut Seen,
@@ -94,10 +98,10 @@ fn drain<R: AllocGlobal + Print>(
     let mut piece = Vec::from_elem(rt.alloc(), 0, MAX_LOG_LINE + 1)?;
     for _ in 0..MOST_LINES {
         reader.read_exact(&mut piece)?;
+        log.flush(rt);
     }
     let is_whole = piece.starts_with(b"1 aaa") && piece.ends_with(b"aaa\n");
     seen.note("the last line is whole", yes(is_whole));
-    log.flush(rt);
     seen.note("nothing waits once they are read", yes(log.is_empty()));
     let count = reader.read(&mut piece)?;
     let told = b"2 log: standard output was full, so lines were dropped: 2\n2 more\n";

@@ -6,7 +6,7 @@
 //! closed under it refuses a write and a sync, since both go to the file. The program stops the making of a journal at
 //! each call of its disks, with five ways of tearing, and prints what the next start does. For a bot's folder it prints
 //! what a start finds after one that was stopped at each step of its making, beside one that runs, and after one that
-//! ended.
+//! ended; and what is found of the numbers and the lines that the folder keeps.
 //!
 //! No contract can say either what a socket gives and takes. The program prints that the bytes that one end sends come
 //! out of the other in order; that a waiting caller is let in; that the watch names the token of a socket that has
@@ -24,6 +24,7 @@ mod connections;
 mod descriptors;
 mod doors;
 mod folders;
+mod keeping;
 mod logs;
 mod meeting;
 mod names;

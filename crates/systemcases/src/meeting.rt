@@ -1,5 +1,5 @@
 // Waiting for one another.
-use net::{Socket, TcpDoor, TcpSocket, Watch};
+use net::{Arrival, Socket, TcpDoor, Watch};
 use std::io;
 use std::io::{Read, Write};
 use streams::{Given, Stream as _};
@@ -13,10 +13,10 @@ const TURN: u64 = 100;
 pub const GUEST: usize = 9;
 
 /// Waits for the next guest at `door`. Returns `None` if nobody comes.
-pub fn guest_of(watch: &mut Watch, door: &TcpDoor) -> io::Result<Option<TcpSocket>> {
+pub fn guest_of(watch: &mut Watch, door: &TcpDoor) -> io::Result<Option<Arrival>> {
     for _turn in 0..TURNS {
-        if let Some(socket) = door.let_in(watch.registry(), GUEST) {
-            return Ok(Some(socket));
+        if let Some(arrival) = door.let_in(watch.registry(), GUEST) {
+            return Ok(Some(arrival));
         }
         watch.wait(TURN)?;
     }

@@ -77,6 +77,8 @@ pub fn tidy<R: Files>(rt: &R) {
         "bot/new/second",
         "bot/lock",
         "bot/net",
+        "bot/made",
+        "bot/leaves",
         "bot/control",
     ] {
         let _ = fs::remove_file(rt, file);
