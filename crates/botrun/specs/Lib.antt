@@ -8,3 +8,4 @@ pub mod Spaces
 pub mod Stations
 pub mod Sums
 pub mod Taking
+pub mod Warnings

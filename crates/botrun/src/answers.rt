@@ -1,12 +1,17 @@
 // The answers to an admin.
+ghost use Rattle.std.specs.Prelude.{◌≡◌};
+ghost use Rattle.botrun.specs.Warnings.{looseness_in};
+
 use crate::checking::NoBind;
 use crate::ending::{KIND, PROC};
 use crate::outcome::Outcome;
 use botcore::{End, Note, Report};
 use bytetext::NoMemory;
 use control::CommandAdvice;
+use loosemask::{Looseness, looseness_of};
 use std::alloc::Global;
 use std::fmt::Display;
+use userfile::Change;
 
 // The outcome of a change, as a line.
 pub(crate) fn of_change(alloc: Global, outcome: Outcome) -> Result<Vec<u8>, NoMemory> {
@@ -15,6 +20,40 @@ pub(crate) fn of_change(alloc: Global, outcome: Outcome) -> Result<Vec<u8>, NoMe
         Outcome::Accepted(number) => numbered(alloc, "accepted", number),
         Outcome::Refused(fault) => refused(alloc, fault.code(), &fault),
         Outcome::Barred(fault) => refused(alloc, fault.code(), &fault),
+    }
+}
+
+// The outcome of a change that an admin asks for, as a line. A change that is not refused, and adds a hostmask that fits
+// strangers, has a second line with a warning.
+pub(crate) fn of_asked(
+    alloc: Global,
+    outcome: Outcome,
+    looseness: Option<Looseness>,
+) -> Result<Vec<u8>, NoMemory> {
+    let mut answer = of_change(alloc, outcome)?;
+    if let (Outcome::Nothing | Outcome::Accepted(_), Some(looseness)) = (outcome, looseness) {
+        answer.extend_from_slice(looseness.warning().as_bytes())?;
+        answer.push(b'\n')?;
+    }
+    Ok(answer)
+}
+
+// Whether a change adds a hostmask that fits strangers.
+pub(crate) fn looseness_in(change: &Change) -> Option<Looseness>
+    ensures { result ≡ looseness_in change.now }
+{
+    match change {
+        Change::AddHost { handle: _, mask } => looseness_of(mask.as_bytes()),
+        Change::AddUser { .. }
+        | Change::DelUser { .. }
+        | Change::DelHost { .. }
+        | Change::SetGlobal { .. }
+        | Change::SetChan { .. }
+        | Change::SetBot { .. }
+        | Change::AddBan { .. }
+        | Change::DelBan { .. }
+        | Change::SetInfo { .. }
+        | Change::SetSticky { .. } => None,
     }
 }
 

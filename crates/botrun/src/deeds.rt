@@ -3,7 +3,7 @@ ghost use Rattle.std.specs.Prelude.{◌<◌};
 ghost use Rattle.bytetext.specs.declared.moment.TheConstants.{MOMENTS_END};
 ghost use Rattle.botcore.specs.Steps.{IsGoodEvent};
 
-use crate::answers::{of_bind, of_change, of_no_bind};
+use crate::answers::{looseness_in, of_asked, of_bind, of_change, of_no_bind};
 use crate::checking::{new_bind, old_bind};
 use crate::ending::RunError;
 use crate::outcome::Outcome;
@@ -18,11 +18,28 @@ use recordtext::put_records;
 use serverlink::{MAX_LINE, Why};
 use settings::{BindWords, Settings};
 use std::alloc::Global;
+use userfile::Change;
 
 // At the end, the process waits at most this many seconds for what is still unsent.
 const LAST_SECONDS: u64 = 2;
 
 impl Process {
+    // Asks for a change. At a leaf the hub answers it later.
+    pub(crate) fn change<R: AllocGlobal, P: Promise, B: Run>(
+        &mut self,
+        rt: &R,
+        log: &mut Log,
+        store: &ProcStore<P, B>,
+        settings: &Settings,
+        change: Change,
+        now: u64,
+    ) -> Result<Vec<u8>, RunError> {
+        let looseness = looseness_in(&change);
+        let changes = vec![in rt.alloc(); change]?;
+        let outcome = self.take(rt, log, store, settings, changes, false, now)?;
+        Ok(of_asked(rt.alloc(), outcome, looseness)?)
+    }
+
     pub(crate) fn compact_now<R: AllocGlobal, P: Promise, B: Run>(
         &mut self,
         rt: &R,

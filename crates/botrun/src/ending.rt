@@ -4,7 +4,7 @@ ghost use Rattle.botrun.specs.Ending.{status_of};
 ghost use Rattle.botrun.specs.declared.ending.RunError.TheVariants.{NoMemory as no_memory};
 
 use botcore::{BotError, BotFault};
-use botfolder::{FolderError, FolderFault};
+use botfolder::{FolderError, FolderFault, FolderFile};
 use bytejournal::JournalFault;
 use bytetext::{Failure, NoMemory};
 use net::DoorFault;
@@ -265,7 +265,7 @@ impl From<io::Error> for RunError {
 // The error for a folder that cannot be used for the bot. A file `net` that is too short holds no number of a net.
 pub(crate) fn of_folder(error: FolderError) -> RunError {
     match error {
-        Failure::Refused(FolderFault::ShortNet) => RunError::NoNet,
+        Failure::Refused(FolderFault::ShortNumber(FolderFile::Net)) => RunError::NoNet,
         Failure::Refused(fault) => RunError::Folder(fault),
         Failure::NoMemory => RunError::NoMemory,
     }

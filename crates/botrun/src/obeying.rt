@@ -2,7 +2,7 @@
 ghost use Rattle.std.specs.Prelude.{◌<◌};
 ghost use Rattle.bytetext.specs.declared.moment.TheConstants.{MOMENTS_END};
 
-use crate::answers::{of_advice, of_change};
+use crate::answers::of_advice;
 use crate::ending::RunError;
 use crate::entry::Entry;
 use crate::process::Process;
@@ -96,11 +96,7 @@ impl Process {
             return Ok(Vec::from_slice(alloc, NO_ROOM)?);
         }
         match command {
-            AdminCommand::Change(change) => {
-                let changes = vec![in alloc; change]?;
-                let outcome = self.take(rt, log, store, settings, changes, false, now)?;
-                Ok(of_change(alloc, outcome)?)
-            }
+            AdminCommand::Change(change) => self.change(rt, log, store, settings, change, now),
             AdminCommand::Show => self.show(alloc, settings),
             AdminCommand::Status => self.status(alloc, settings),
             AdminCommand::Bind(words) => self.bind(alloc, store, &words),

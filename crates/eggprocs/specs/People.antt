@@ -9,7 +9,6 @@ use Rattle.userfile.specs.declared.change.Change.TheVariants.{AddUser, DelUser, 
 use Rattle.userfile.specs.declared.error.ChangeFault.{ChangeFault}
 use Rattle.userfile.specs.declared.user.User.{User}
 use Rattle.userfile.specs.Apply.{refusal}
-use Rattle.userfile.specs.Codes.{fault_code}
 use Rattle.userfile.specs.Held.{user_of}
 use Rattle.userfile.specs.Persons.{flags_of}
 use Rattle.bytetext.specs.Words.{first_word, after_word}
@@ -24,6 +23,7 @@ use Rattle.eggprocs.specs.declared.rights.Requester.TheVariants.{Elsewhere, Stra
 use Rattle.eggprocs.specs.Args.{nick_of, told_of, has_word}
 use Rattle.eggprocs.specs.Channel.{put}
 use Rattle.eggprocs.specs.Lines.{notice}
+use Rattle.eggprocs.specs.Outcomes.{queued_text, refusal_text}
 use Rattle.eggprocs.specs.Rights.{is_owner}
 
 -- a NOTICE to the caller
@@ -36,8 +36,8 @@ for_masters = codes "only masters and owners may do that"
 
 -- the request of a change, or a NOTICE of why the userfile refuses it
 abbrev pub asked_unless : Option ChangeFault → Call → Change → List Action
-asked_unless None call change = Ask change ∷ told call (codes "this waits for the next pump") ∷ []
-asked_unless (Some fault) call change = told call (codes "that is refused: " ++ fault_code fault) ∷ []
+asked_unless None call change = Ask change ∷ told call (queued_text change) ∷ []
+asked_unless (Some fault) call change = told call (refusal_text fault) ∷ []
 
 -- ---- what only owners may do
 

@@ -78,8 +78,9 @@
 //!   which the caller is too. If that finds nothing, `seen` says whether the userfile has a user of that name.
 //!
 //! Each of these private commands, and `seen`, answers with one NOTICE to the nick, in the help queue: how it is used
-//! if a word is missing; the code of the refusal if the present records refuse the change; and otherwise that the
-//! change waits for the next pump. `bans` has a NOTICE for each ban.
+//! if a word is missing; why, in words and by its code, if the present records refuse the change; and otherwise that the
+//! change is queued, since the hub decides. `+host` adds a warning for a mask that is likely to fit strangers
+//! ([`loosemask`]). `bans` has a NOTICE for each ban.
 //!
 //! To try things out with, for any caller:
 //!
@@ -111,6 +112,7 @@ mod laws;
 mod lines;
 mod marks;
 mod orders;
+mod outcomes;
 mod pairs;
 mod people;
 mod proc_name;

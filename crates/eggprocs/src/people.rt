@@ -10,6 +10,7 @@ ghost use Rattle.userfile.specs.Held.{user_of};
 
 use crate::args::{nick_of, told_of};
 use crate::lines::notice;
+use crate::outcomes::{queued_text, refusal_text};
 use crate::pairs::two;
 use crate::rights::{OWNER, Requester, is_owner, standing_of};
 use bytetext::{NoMemory, Text, after_word, first_word};
@@ -144,12 +145,12 @@ pub(crate) fn asked_unless(
 {
     match fault {
         Some(fault) => {
-            let mut words = Vec::from_slice(alloc, b"that is refused: ")?;
-            words.extend_from_slice(fault.code().as_bytes())?;
-            only_told(alloc, call, words.as_slice())
+            let words = refusal_text(alloc, fault)?;
+            only_told(alloc, call, words.as_bytes())
         }
         None => {
-            let answer = told(alloc, call, b"this waits for the next pump")?;
+            let words = queued_text(alloc, &change)?;
+            let answer = told(alloc, call, words.as_bytes())?;
             two(alloc, Action::Ask(change), answer)
         }
     }

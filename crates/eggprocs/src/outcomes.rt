@@ -1,0 +1,68 @@
+// What the NOTICEs say of changes that are refused or asked for.
+ghost use Rattle.std.specs.Prelude.{◌≡◌, IfOk};
+ghost use Rattle.eggprocs.specs.Outcomes.{mask_added, queued_text, refusal_text, refusal_words};
+
+use bytetext::{NoMemory, Text};
+use loosemask::looseness_of;
+use std::alloc::Global;
+use userfile::{Change, ChangeFault};
+
+// Why the userfile refuses a change, and the refusal's code.
+pub(crate) fn refusal_text(alloc: Global, fault: ChangeFault) -> Result<Text, NoMemory>
+    ensures { IfOk result (λ text. text ≡ refusal_text fault) }
+{
+    let mut text = Vec::from_slice(alloc, refusal_words(fault))?;
+    text.extend_from_slice(b" (")?;
+    text.extend_from_slice(fault.code().as_bytes())?;
+    text.extend_from_slice(b")")?;
+    Ok(Text::new(text))
+}
+
+fn refusal_words(fault: ChangeFault) -> &'static [u8]
+    ensures { result.now ≡ refusal_words fault }
+{
+    match fault {
+        ChangeFault::BadHandle => b"a handle has 1 to 32 bytes, without spaces and * , : @",
+        ChangeFault::UserExists => b"there is such a user already",
+        ChangeFault::NoSuchUser => b"there is no such user",
+        ChangeFault::BadMask => b"a mask is nick!user@host, of at most 120 bytes",
+        ChangeFault::MaskExists => b"the user has this mask already",
+        ChangeFault::NoSuchMask => b"the user has no such mask",
+        ChangeFault::BadChannel => b"a channel begins with & # + or !, and has at most 100 bytes",
+        ChangeFault::BanExists => b"there is such a ban already",
+        ChangeFault::NoSuchBan => b"there is no such ban",
+        ChangeFault::BadComment => b"a comment has at most 100 bytes, an info line at most 80",
+        ChangeFault::Full => b"there is no room for one more",
+    }
+}
+
+// That a change is asked for, with a warning if it adds a loose hostmask.
+pub(crate) fn queued_text(alloc: Global, change: &Change) -> Result<Text, NoMemory>
+    ensures { IfOk result (λ text. text ≡ queued_text change.now) }
+{
+    let mut text = Vec::from_slice(alloc, b"queued: the hub has not answered yet")?;
+    if let Some(looseness) = looseness_of(mask_added(change)) {
+        text.extend_from_slice(b"; ")?;
+        text.extend_from_slice(looseness.warning().as_bytes())?;
+    }
+    Ok(Text::new(text))
+}
+
+// The hostmask that a change adds to a user, or the empty text if it adds none.
+fn mask_added(change: &Change) -> &[u8]
+    ensures { result.now ≡ mask_added change.now }
+{
+    match change {
+        Change::AddHost { handle: _, mask } => mask.as_bytes(),
+        Change::AddUser { .. }
+        | Change::DelUser { .. }
+        | Change::DelHost { .. }
+        | Change::SetGlobal { .. }
+        | Change::SetChan { .. }
+        | Change::SetBot { .. }
+        | Change::AddBan { .. }
+        | Change::DelBan { .. }
+        | Change::SetInfo { .. }
+        | Change::SetSticky { .. } => b"",
+    }
+}
