@@ -4,7 +4,6 @@ use Rattle.userfile.specs.Apply.{bad_shape, refusal}
 use Rattle.userfile.specs.Together.{records_fault}
 use Rattle.userfile.specs.declared.change.Change.{Change as UserChange}
 use Rattle.userfile.specs.declared.error.ChangeFault.{ChangeFault}
-use Rattle.usercodec.specs.declared.records.Record.{Record}
 use Rattle.botjournal.specs.declared.TheConstants.{LAYOUT}
 use Rattle.botjournal.specs.declared.request.Request.{Request as OutRequest}
 use Rattle.botjournal.specs.declared.reply.Reply.{Reply}
@@ -331,31 +330,31 @@ module _ (floor count leaves : ℕ) (how : How) where
     parts : (j : ℕ) (set : PartSet) → LeafKeeps (part_taken leaves number how w j set)
     parts j set = by (joined set.parts)
       where
-        room : (items : List Record) (b : Bool) → LeafKeeps (
+        room : (items : _) (b : Bool) → LeafKeeps (
             if b then journals leaf_folded how w (Install set.version (records_from items)) (Installed set.version) []
             (record w.loose { parts = None })
             else refused NumbersSpent w)
         room items true = leaf_journals how (Install set.version (records_from items)) _ [] _
         room items false = holds
 
-        install : (items : List Record) (f : Option ChangeFault)
+        install : (items : _) (f : Option ChangeFault)
             → LeafKeeps (installed leaves number how w set.version (records_from items) f)
         install items (Some fault) = holds
         install items None = room items (nat_lt w.kept.generation last_number)
 
-        by : (o : Option (List Record)) → LeafKeeps (set_taken leaves number how w j set o)
+        by : (o : _) → LeafKeeps (set_taken leaves number how w j set o)
         by None = holds
         by (Some items) = install items (records_fault (records_from items).users (records_from items).bans)
 
     leaf_receives : (p : Packet) → LeafKeeps (leaf_received leaves number how w p)
     leaf_receives p = leaf_ups _ (at p)
       where
-        fresh : (s j k : ℕ) (items : List Record) (b : Bool)
+        fresh : (s j k : ℕ) (items : _) (b : Bool)
             → LeafKeeps (if b then noted Old w else part_taken leaves number how w j (with_part (set_for w.loose.parts s k) j items))
         fresh s j k items true = holds
         fresh s j k items false = parts j (with_part (set_for w.loose.parts s k) j items)
 
-        part : (s j k : ℕ) (items : List Record) (b : Bool) → LeafKeeps (
+        part : (s j k : ℕ) (items : _) (b : Bool) → LeafKeeps (
             if b then noted Stray w
             else if nat_le s w.kept.version || is_behind s w.loose.parts then noted Old w
             else part_taken leaves number how w j (with_part (set_for w.loose.parts s k) j items))

@@ -287,6 +287,6 @@ shown_version w bot = version_in (slice_get w.processes bot)
 abbrev pub shown_records : Net → ℕ → Option Records
 shown_records w bot = records_in (slice_get w.processes bot)
 
--- a report has sent this packet
+-- a report has sent this packet, which is none of the requests that left as a leaf was replaced
 abbrev pub IsTold : Net → Packet → Type 0
 IsTold w packet = (number : ℕ) × (sent : Sent) × (packet_at w.packets number ≡ Some sent) × (sent.packet ≡ packet)
