@@ -29,6 +29,7 @@ enum Asked {
     Journal,
     Line,
     Literals,
+    Loose,
     Mask,
     Numeric,
     OldChange,
@@ -50,7 +51,7 @@ enum Asked {
     Zone,
 }
 
-const ASKED: [(&[u8], Asked); 37] = [
+const ASKED: [(&[u8], Asked); 38] = [
     (b"ban", Asked::Ban),
     (b"binds", Asked::Binds),
     (b"chan", Asked::Chan),
@@ -69,6 +70,7 @@ const ASKED: [(&[u8], Asked); 37] = [
     (b"journal", Asked::Journal),
     (b"line", Asked::Line),
     (b"literals", Asked::Literals),
+    (b"loose", Asked::Loose),
     (b"mask", Asked::Mask),
     (b"numeric", Asked::Numeric),
     (b"oldchange", Asked::OldChange),
@@ -126,6 +128,7 @@ fn answer_to(asked: Asked, alloc: Global, words: &[Text], out: &mut Sink) -> Res
         Asked::Journal => journals::journal(alloc, words, out),
         Asked::Line => lines::line(alloc, words, out),
         Asked::Literals => masks::literals(alloc, words, out),
+        Asked::Loose => masks::loose(words, out),
         Asked::Mask => masks::mask(alloc, words, out),
         Asked::Numeric => lines::numeric(words, out),
         Asked::OldChange => spellings::old_change(alloc, words, out),

@@ -9,6 +9,7 @@
 //! | `same TEXT TEXT` | `same` or `not same` |
 //! | `mask bind\|host MASK TEXT` | `match` or `no match`, or the code of why the mask is refused |
 //! | `literals bind\|host MASK` | how many literals the mask has, or the code of why it is refused |
+//! | `loose MASK` | the warning of a loose hostmask, or `not loose` |
 //! | `flags EXPR GLOBAL CHAN BOT` | `met` or `not met`, or the code of the first word that is refused |
 //! | `cron MASK MOMENT ZONE` | `match` or `no match`, or the code of a refusal |
 //! | `civil MOMENT ZONE` | the civil minute as `YEAR MONTH DAY HOUR MINUTE WEEKDAY`, 0 for Sunday, or the code |

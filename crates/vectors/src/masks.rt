@@ -1,6 +1,7 @@
 // Masks.
 use bytetext::{Text, TryCopy};
 use caselines::{BAD_WORDS, CaseError, Sink};
+use loosemask::looseness_of;
 use std::alloc::Global;
 use wildmask::{Mask, MaskError, MaskFault, bind_fault, host_fault};
 
@@ -34,6 +35,18 @@ pub fn literals(alloc: Global, words: &[Text], out: &mut Sink) -> Result<(), Cas
         Ok(mask) => out.number(mask.literals() as u64),
         Err(MaskError::Refused(_)) => out.put(b"refused"),
         Err(MaskError::NoMemory) => return Err(CaseError::NoMemory),
+    }
+    Ok(())
+}
+
+/// Answers `loose MASK` on `out`: the warning of a loose hostmask, or `not loose`.
+pub fn loose(words: &[Text], out: &mut Sink) -> Result<(), CaseError> {
+    let [mask] = words else {
+        return Err(BAD_WORDS);
+    };
+    match looseness_of(mask.as_bytes()) {
+        Some(looseness) => out.put(looseness.warning().as_bytes()),
+        None => out.put(b"not loose"),
     }
     Ok(())
 }
