@@ -133,7 +133,7 @@ def starved(program, room, server, place, library):
                           stderr=subprocess.PIPE, env=environment) as bot.process:
         end = time.monotonic() + 5
         while bot.process.poll() is None and told < 4 and time.monotonic() < end:
-            if bot.answers("adduser me" if told == 0 else f"addhost me *!*a{told}@h") == f"accepted {told + 1}\n":
+            if bot.answers("adduser me" if told == 0 else f"addhost me *!a{told}@h") == f"accepted {told + 1}\n":
                 told += 1
         for line in ("show", "status", "bind pub - echo !e", "compact", "die"):
             bot.answers(line)
