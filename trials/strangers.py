@@ -1,7 +1,4 @@
 """Connections to a hub that don't belong to its net, for trials/net."""
-import hashlib
-import hmac
-import os
 import socket
 import struct
 import time
@@ -9,6 +6,7 @@ from pathlib import Path
 
 from bots import comes
 from nets import SECRET
+from sealed import Copy, Opener, Sealer, hello, leaf_key, leaf_line, link_keys
 
 
 class Stranger:
@@ -28,14 +26,21 @@ class Stranger:
             heard += came
         return heard.decode().strip()
 
-    def says(self, leaf, secret=SECRET, number=None):
-        """Says a leaf's line. What the hub answers."""
-        number = number or Path(f"{self.net.bots[0].folder}/net").read_text(encoding="utf-8").strip()
-        own = os.urandom(16).hex()
-        text = f"leaf {leaf} {number} {own} {self.nonce}".encode()
-        code = hmac.new(secret, text, hashlib.sha256).hexdigest()
-        self.socket.sendall(f"leaf {leaf} {number} {own} {code}\n".encode())
-        return self.line()
+    def says(self, leaf, secret=SECRET):
+        """Says a leaf's line, of the leaf's folder without records. What the hub answers."""
+        key = leaf_key(secret, leaf)
+        made = number_in(self.net.bots[leaf], "made") if leaf <= self.net.leaves else "0" * 16
+        line, _, shown = leaf_line(key, self.nonce, leaf, self.net.leaves, number_in(self.net.bots[0], "net"), made, Copy())
+        self.socket.sendall(line.encode() + b"\n")
+        answer = self.line()
+        if answer and answer.startswith("hub "):
+            to_leaf, to_hub = link_keys(key, shown, answer.split()[-1])
+            self.opener, self.sealer = Opener(to_leaf), Sealer(to_hub)
+        return answer
+
+    def sends(self, frames):
+        """Sends records that carry these bytes."""
+        self.socket.sendall(self.sealer.seal(frames))
 
     def is_let_go(self, seconds=15):
         """Whether the hub lets it go, and after how many seconds."""
@@ -54,9 +59,9 @@ class Stranger:
         self.socket.close()
 
 
-def hello(leaf, version):
-    """The frame of a hello, of a leaf of layout 3."""
-    return struct.pack(">HBBHI", 8, 8, 3, leaf, version)
+def number_in(bot, name):
+    """The number in a file of a bot's folder."""
+    return Path(f"{bot.folder}/{name}").read_text(encoding="utf-8").strip()
 
 
 def strangers(tally, net):
@@ -70,7 +75,7 @@ def strangers(tally, net):
     for what, frame in bad.items():
         it = Stranger(net)
         answer = it.says(last)
-        it.socket.sendall(frame)
+        it.sends(frame)
         gone, took = it.is_let_go()
         tally.note(what, answer is not None and answer.startswith("hub ") and gone and took < 5, f"after {took:.1f} s")
         it.close()
@@ -80,9 +85,9 @@ def strangers(tally, net):
     gone, took = first.is_let_go()
     tally.note("a second connection with the right code takes the first one's seat", bool(answer) and gone and took < 5,
                f"after {took:.1f} s")
-    second.socket.sendall(hello(last, 0))
+    second.sends(hello(last, 0))
     second.socket.settimeout(10)
-    tally.note("it is answered", len(second.socket.recv(65536)) > 0)
+    tally.note("it is answered", any(second.opener.feed(second.socket.recv(65536))))
     first.close()
     second.close()
     slow_reader(tally, net, last)
@@ -121,7 +126,7 @@ def slow_reader(tally, net, last):
     end = time.monotonic() + 40
     while time.monotonic() < end and not gone and count < 60_000:
         try:
-            it.socket.sendall(hello(last, 0) * 50)
+            it.sends(hello(last, 0) * 50)
             count += 50
         except socket.timeout:
             pass

@@ -116,6 +116,26 @@ impl BotFolder {
         }
     }
 
+    /// Forgets the journal, as when a leaf begins again: the next [`begin`](BotFolder::begin) returns two empty disks. No
+    /// bot may be open on it. Whatever crash comes, a start finds the whole journal, or none.
+    ///
+    /// # Errors
+    /// What the system gives, as [`FolderFault`] describes it; `NoMemory` if an allocation fails. A start may then find
+    /// the journal or not.
+    pub fn forget_journal<R: AllocGlobal + Files<File = File>>(
+        &self,
+        rt: &R,
+    ) -> Result<(), FolderError> {
+        clear_new(rt, self.path())?;
+        let journal = below(rt.alloc(), self.path(), JOURNAL)?;
+        let new = below(rt.alloc(), self.path(), NEW)?;
+        // From now on it is what an interrupted creation left.
+        match fs::rename(rt, journal.as_str(), new.as_str()) {
+            Ok(()) => sync_folder(rt, self.path()),
+            Err(error) => Err(system_error(&error)),
+        }
+    }
+
     /// Removes the socket that a killed bot left, so that a new one can be made there.
     ///
     /// # Errors

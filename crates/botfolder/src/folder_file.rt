@@ -38,6 +38,10 @@ pub enum FolderFile {
     Leaves,
     /// `leaves.new`
     NewLeaves,
+    /// `doubt`
+    Doubt,
+    /// `doubt.new`
+    NewDoubt,
     /// `room`
     Room,
     /// `control`
@@ -59,6 +63,8 @@ impl FolderFile {
             FolderFile::NewMade => "made.new",
             FolderFile::Leaves => "leaves",
             FolderFile::NewLeaves => "leaves.new",
+            FolderFile::Doubt => "doubt",
+            FolderFile::NewDoubt => "doubt.new",
             FolderFile::Room => "room",
             FolderFile::Control => "control",
         }

@@ -8,6 +8,7 @@
 //!   net             the number of the bot's net: 16 digits and a line feed
 //!   made            the folder's own number: 16 digits and a line feed
 //!   leaves          at a hub, the book of its leaves: which folder is which leaf, a line each
+//!   doubt           at a hub that may be an older copy of itself: which leaf shows it
 //!   room            zeros: the space that is set aside for the bot
 //!   control         a socket, at which the running bot takes commands
 //! ```
@@ -46,6 +47,7 @@
 mod begun;
 mod book_file;
 mod bot_folder;
+mod doubt_file;
 mod fault;
 mod folder_file;
 mod folders;
@@ -59,6 +61,7 @@ mod whole_file;
 pub use crate::begun::Begun;
 pub use crate::book_file::MAX_BOOK;
 pub use crate::bot_folder::BotFolder;
+pub use crate::doubt_file::MAX_DOUBT;
 pub use crate::fault::{FolderError, FolderFault};
 pub use crate::folder_file::FolderFile;
 pub use crate::number_file::NUMBER_DIGITS;

@@ -33,6 +33,11 @@ pub(crate) const LEAVES: WholeFile = WholeFile {
     new: FolderFile::NewLeaves,
 };
 
+pub(crate) const DOUBT: WholeFile = WholeFile {
+    file: FolderFile::Doubt,
+    new: FolderFile::NewDoubt,
+};
+
 // Replaces what this file of a folder holds by `bytes`, and syncs them and the file's name to the device.
 pub(crate) fn replace_file<R: AllocGlobal + Files<File = File>>(
     rt: &R,

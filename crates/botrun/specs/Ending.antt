@@ -1,11 +1,11 @@
 -- The exit status of a bot's process.
 use Rattle.std.specs.Prelude.{ℕ}
 use Rattle.peers.specs.declared.secret.SecretFault.{SecretFault}
-use Rattle.peers.specs.declared.secret.SecretFault.TheVariants.{Unreadable, NotRegular, ProcessFiles, MachineFiles, NoMemory as no_memory, DiskFails, Length}
+use Rattle.peers.specs.declared.secret.SecretFault.TheVariants.{Unreadable, NotRegular, ProcessFiles, MachineFiles, NoMemory as no_memory, DiskFails, Length, BadLeafKey, LeafKey, OtherLeaf}
 use Rattle.botrun.specs.declared.ending.RunError.{RunError}
-use Rattle.botrun.specs.declared.ending.RunError.TheVariants.{Account, NoServer, BindKind, BindProc, Bind, Config, Secret, NoNet, Listen, Folder, OtherJournal, GenerationsSpent, Control, DiskFailed, System, NoMemory}
+use Rattle.botrun.specs.declared.ending.RunError.TheVariants.{Account, NoServer, BindKind, BindProc, Bind, Config, Secret, NoNet, NoMade, BadDoubt, Book, Listen, Folder, OtherJournal, GenerationsSpent, Control, DiskFailed, System, NoMemory}
 
--- 1 for a file of the secret that holds none or that this user may not read; 3 for what the machine refuses
+-- 1 for a file of the secret that holds none for this bot or that this user may not read; 3 for what the machine refuses
 abbrev pub secret_status : SecretFault → ℕ
 secret_status Unreadable = 1
 secret_status NotRegular = 1
@@ -14,9 +14,12 @@ secret_status MachineFiles = 3
 secret_status no_memory = 3
 secret_status DiskFails = 3
 secret_status Length = 1
+secret_status BadLeafKey = 1
+secret_status LeafKey = 1
+secret_status OtherLeaf = 1
 
--- 1 for the configuration, the file of its secret, and a journal that is another bot's, lacks its net's number or
--- cannot be rewritten; 3 for what the machine refuses; 4 if out of memory
+-- 1 for the configuration, the file of its secret, a journal that is another bot's, lacks its net's number or cannot be
+-- rewritten, and a faulty number of the folder or book of leaves; 3 for what the machine refuses; 4 if out of memory
 abbrev pub status_of : RunError → ℕ
 status_of Account = 1
 status_of NoServer = 1
@@ -26,6 +29,9 @@ status_of (Bind line fault) = 1
 status_of Config = 1
 status_of (Secret fault) = secret_status fault
 status_of NoNet = 1
+status_of NoMade = 1
+status_of BadDoubt = 1
+status_of (Book fault) = 1
 status_of (Listen fault) = 3
 status_of (Folder fault) = 3
 status_of OtherJournal = 1

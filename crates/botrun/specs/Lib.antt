@@ -2,8 +2,11 @@ pub mod RecordSums
 pub mod Askers
 pub mod Bases
 pub mod Ending
+pub mod KeptSums
 pub mod Outcomes
+pub mod Owns
 pub mod Passing
+pub mod Renewals
 pub mod Spaces
 pub mod Stations
 pub mod Sums

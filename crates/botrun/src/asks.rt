@@ -132,7 +132,7 @@ fn is_admin(asker: &Asker, number: u64) -> bool
 }
 
 // Who waits for the answer to what a call asks for: the person for whose words the call was made.
-fn asker_in(alloc: Global, call: &Call) -> Result<Asker, NoMemory>
+pub(crate) fn asker_in(alloc: Global, call: &Call) -> Result<Asker, NoMemory>
     ensures { IfOk result (λ asker. asker ≡ asker_in call.now) }
 {
     match call.args.as_slice().first() {
@@ -183,7 +183,7 @@ fn asks_in(calls: &MadeCalls) -> usize
 }
 
 // The number of actions that ask for a change.
-fn asks_among(actions: &[Action]) -> usize
+pub(crate) fn asks_among(actions: &[Action]) -> usize
     ensures { result ≡ count_by is_ask actions.now }
 {
     let mut count = 0;
@@ -209,7 +209,7 @@ fn is_ask(action: &Action) -> bool
 }
 
 // The number of changes among these that the link refused.
-fn refused_in(faults: &Faults) -> usize
+pub(crate) fn refused_in(faults: &Faults) -> usize
     ensures { result ≡ count_by is_refused_ask faults.now }
 {
     faults

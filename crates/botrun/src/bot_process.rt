@@ -1,6 +1,7 @@
 // A bot's process, from its start to its end.
-ghost use Rattle.std.specs.Prelude.{◌<◌, IfOk, length};
+ghost use Rattle.std.specs.Prelude.{◌<◌, IfOk, IfSome, length};
 ghost use Rattle.bytetext.specs.declared.moment.TheConstants.{MOMENTS_END};
+ghost use Rattle.botrun.specs.Renewals.{HasNoRecords};
 ghost use Rattle.botrun.specs.Stations.{IsKnownWhereWanted, IsLinkedAs};
 
 use crate::admins::Admins;
@@ -8,17 +9,18 @@ use crate::bases::Bases;
 use crate::checking::check;
 use crate::ending::{RunError, of_folder};
 use crate::entry::Entry;
-use crate::netting::{count_out, keep_net, links_of, secret_of};
+use crate::kept_sum::KeptSum;
+use crate::netting::{count_out, is_nets, links_of, secret_of};
 use crate::others::Others;
 use crate::process::{Process, Turned};
 use crate::seconds::Seconds;
 use crate::space::Space;
-use crate::starting::{bind_all, bot_of, folder_of};
+use crate::starting::{bind_all, bot_of, folder_of, forget_journal};
 use crate::sums::Sums;
 use botfolder::BotFolder;
 use ircline::LineReader;
 use net::{Log, Timeline, Watch};
-use peers::Key;
+use peers::Secret;
 use procs::{ProcStore, Promise, Run};
 use serverlink::IrcConnection;
 use settings::Settings;
@@ -37,8 +39,9 @@ const EVENTS: usize = 64;
 /// # Errors
 /// - Before anything is opened: the errors of [`check`], then `Secret`.
 /// - Before anybody is connected or let in: `Folder`, `System`, `Config`, `OtherJournal`, `GenerationsSpent`, `NoNet`,
-///   `Listen` and `Control`.
-/// - Later: `DiskFailed` and `System`, and `Folder` if a leaf cannot save the number of its net.
+///   `NoMade`, `BadDoubt`, `Book`, `Listen` and `Control`; once more when a leaf begins again.
+/// - Later: `DiskFailed` and `System`, and `Folder` if a leaf cannot save the number of its net or forget its journal, or
+///   a hub cannot write its book.
 /// - At any time: `NoMemory` if an allocation fails.
 ///
 /// [`RunError`] describes them.
@@ -53,79 +56,157 @@ where
     R: AllocGlobal + Net + Clock + Files<File = File> + Print + RandomSource,
 {
     check(rt.alloc(), store, settings)?;
-    let key = secret_of(rt, settings)?;
+    let secret = secret_of(rt, settings)?;
     // Before the folder, so that a bot that gets no log changes nothing there.
     let mut log = Log::open(rt)?;
-    let ended = run_logged(rt, &mut log, store, settings, key);
+    let ended = run_logged(rt, &mut log, store, settings, secret);
     log.flush(rt);
     ended
 }
 
-// Takes the folder, and makes turns until an admin ends the bot. Writes the log at the end of each turn.
+// Takes the folder, and runs the bot there until an admin ends it. A leaf that has to begin again begins there with a new
+// journal.
 fn run_logged<R, P: Promise, B: Run>(
     rt: &R,
     log: &mut Log,
     store: &ProcStore<P, B>,
     settings: &Settings,
-    key: Option<Key>,
+    secret: Option<Secret>,
 ) -> Result<(), RunError>
 where
     R: AllocGlobal + Net + Clock + Files<File = File> + Print + RandomSource,
     requires some { 0 < length settings.now.servers }
-    requires known { IsKnownWhereWanted settings.now.station key }
+    requires known { IsKnownWhereWanted settings.now.station secret }
 {
-    let folder = folder_of(rt, settings)?;
+    let mut folder = folder_of(rt, settings)?;
     let mut watch = Watch::new(rt, EVENTS)?;
-    let mut process = begin(rt, &watch, &folder, settings, key)?;
-    bind_all(rt.alloc(), &mut process.bot, store, settings)?;
-    look_back(rt.alloc(), &mut process, store)?;
     let mut timeline = Timeline::begin(rt.monotonic()?.as_secs());
-    let up = timeline.read_clocks(rt)?;
-    log.note(up, &Entry::Up(process.bot.version()));
-    process.space.tell_start(log, up);
-    let mut turned = Turned::Busy;
-    for _turn in 0..u64::MAX {
-        log.flush(rt);
-        let seconds = wait(rt, &mut watch, &mut timeline, turned)?;
-        let is_awake = turned == Turned::Busy || !watch.tokens().is_empty();
-        process.space.look_if_due(log, is_awake, seconds);
-        turned = process.turn(rt, log, &watch, store, settings, seconds)?;
-        keep_new_net(rt, log, &folder, &mut process, seconds.wall)?;
-        if turned == Turned::Ended {
-            log.note(seconds.wall, &Entry::Ended);
-            break;
+    warn(log, settings, secret, timeline.read_clocks(rt)?);
+    let mut last = 0;
+    for _life in 0..u64::MAX {
+        let mut process = begin(rt, &watch, folder, settings, secret, last)?;
+        bind_all(rt.alloc(), &mut process.bot, store, settings)?;
+        look_back(rt.alloc(), &mut process, store)?;
+        let up = timeline.read_clocks(rt)?;
+        log.note(up, &Entry::Up(process.bot.version()));
+        process.space.tell_start(log, up);
+        match make_turns(
+            rt,
+            log,
+            &mut watch,
+            &mut timeline,
+            &mut process,
+            store,
+            settings,
+        )? {
+            Some(above) => {
+                folder = give_up(rt, process)?;
+                last = above;
+            }
+            None => {
+                let _gone = process.folder.clear_control(rt);
+                break;
+            }
         }
     }
-    let _gone = folder.clear_control(rt);
     Ok(())
 }
 
-// Creates the process of the bot in a folder. It is not connected to anybody yet.
+// Ends the connections of a bot without records, and forgets its journal.
+fn give_up<R: AllocGlobal + Files<File = File>>(
+    rt: &R,
+    process: Process,
+) -> Result<BotFolder, RunError>
+    requires empty { HasNoRecords process.bot }
+{
+    let folder = process.into_folder();
+    forget_journal(rt, &folder)?;
+    Ok(folder)
+}
+
+// Warns in the log if a leaf knows the secret of its whole net.
+fn warn(log: &mut Log, settings: &Settings, secret: Option<Secret>, now: u64) {
+    let number = settings.station.number;
+    if number > 0 && is_nets(secret) {
+        log.note(now, &Entry::KnowsNet(number));
+    }
+}
+
+// Makes turns until an admin ends the bot. Writes the log at the end of each turn. If a leaf has to begin again, returns
+// the number above which its requests are to be numbered.
+fn make_turns<R, P: Promise, B: Run>(
+    rt: &R,
+    log: &mut Log,
+    watch: &mut Watch,
+    timeline: &mut Timeline,
+    process: &mut Process,
+    store: &ProcStore<P, B>,
+    settings: &Settings,
+) -> Result<Option<u32>, RunError>
+where
+    R: AllocGlobal + Net + Clock + Files<File = File> + Print + RandomSource,
+    // A bot with records never begins again.
+    ensures again { IfOk result (λ above. IfSome above (λ _. HasNoRecords process.new.bot)) }
+{
+    let mut turned = Turned::Busy;
+    for _turn in 0..u64::MAX {
+        log.flush(rt);
+        let seconds = wait(rt, watch, timeline, turned)?;
+        let is_awake = turned == Turned::Busy || !watch.tokens().is_empty();
+        process.space.look_if_due(log, is_awake, seconds);
+        turned = process.turn(rt, log, watch, store, settings, seconds)?;
+        match turned {
+            Turned::Busy | Turned::Rests => {}
+            Turned::BeginsAbove(last) => {
+                log.note(seconds.wall, &Entry::BeginsAbove(last));
+                return Ok(Some(last));
+            }
+            Turned::Ended => {
+                log.note(seconds.wall, &Entry::Ended);
+                break;
+            }
+        }
+    }
+    Ok(None)
+}
+
+// Creates the process of the bot in a folder. It is not connected to anybody yet. If the folder holds no journal, a
+// leaf's requests are numbered above `last`.
 fn begin<R>(
     rt: &R,
     watch: &Watch,
-    folder: &BotFolder,
+    folder: BotFolder,
     settings: &Settings,
-    key: Option<Key>,
+    secret: Option<Secret>,
+    last: u32,
 ) -> Result<Process, RunError>
 where
     R: AllocGlobal + Net + Files<File = File> + RandomSource + Clock,
     requires some { 0 < length settings.now.servers }
-    requires known { IsKnownWhereWanted settings.now.station key }
+    requires known { IsKnownWhereWanted settings.now.station secret }
     ensures station { IfOk result (λ process. IsLinkedAs settings.now.station process.others.links) }
 {
-    let bot = bot_of(rt, folder, settings)?;
-    let links = links_of(rt, watch.registry(), folder, settings, key, bot.version())?;
-    let admins = door_of(rt, watch, folder)?;
-    let space = space_of(rt, folder)?;
+    let bot = bot_of(rt, &folder, settings, last)?;
+    let links = links_of(
+        rt,
+        watch.registry(),
+        &folder,
+        settings,
+        secret,
+        bot.version(),
+    )?;
+    let admins = door_of(rt, watch, &folder)?;
+    let space = space_of(rt, &folder)?;
     let bases = Bases::new(bot.version());
     Ok(Process {
+        folder,
         bot,
         lines: LineReader::new(rt.alloc()),
         uplink: IrcConnection::new(rt.alloc(), settings)?,
         admins,
         others: Others::new(rt.alloc(), links),
         bases,
+        kept_sum: KeptSum::new(),
         sums: Sums::new(),
         space,
         until: None,
@@ -170,23 +251,6 @@ fn look_back<P: Promise, B: Run>(
     Ok(())
 }
 
-// If a leaf has just learned the number of its net, saves it before the leaf goes on.
-fn keep_new_net<R: AllocGlobal + Files<File = File>>(
-    rt: &R,
-    log: &mut Log,
-    folder: &BotFolder,
-    process: &mut Process,
-    now: u64,
-) -> Result<(), RunError> {
-    if let Some(net) = process.others.links.to_keep() {
-        process.space.lend();
-        keep_net(rt, folder, &net)?;
-        process.space.look(log, now);
-        process.others.links.keep(log, net, now);
-    }
-    Ok(())
-}
-
 // Waits until there may be something to do: not at all if there may be more at once, and at most until the next second.
 // Returns what the clocks show after the wait.
 fn wait<R: Clock>(
@@ -198,7 +262,7 @@ fn wait<R: Clock>(
     ensures moment { IfOk result (λ seconds. seconds.wall < MOMENTS_END) }
 {
     let most = match turned {
-        Turned::Busy | Turned::Ended => 0,
+        Turned::Busy | Turned::BeginsAbove(_) | Turned::Ended => 0,
         Turned::Rests => rest_of_second(rt)?,
     };
     watch.wait(most)?;

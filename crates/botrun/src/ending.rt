@@ -8,7 +8,7 @@ use botfolder::{FolderError, FolderFault, FolderFile};
 use bytejournal::JournalFault;
 use bytetext::{Failure, NoMemory};
 use net::DoorFault;
-use peers::SecretFault;
+use peers::{BookFault, SecretFault};
 use procs::BindFault;
 use serverlink::put;
 use std::alloc::{AllocError, AllocFailed};
@@ -45,10 +45,16 @@ pub enum RunError {
     Config,
     /// The folder cannot be used for the bot.
     Folder(FolderFault),
-    /// The file of the line `secret` cannot be read, or holds no secret.
+    /// The file of the line `secret` cannot be read, or holds no secret that this bot can use.
     Secret(SecretFault),
     /// The folder holds a journal, but not the number of the bot's net.
     NoNet,
+    /// The folder's file `made` does not hold a number.
+    NoMade,
+    /// The folder's file `doubt` does not hold a line of a hub.
+    BadDoubt,
+    /// The folder's book of leaves has a faulty line.
+    Book(BookFault),
     /// The hub cannot listen at its address.
     Listen(DoorFault),
     /// The folder holds another bot's journal, or none that can be read.
@@ -63,7 +69,7 @@ pub enum RunError {
         /// The number of the change that may count or not: one above the version.
         change: u64,
     },
-    /// The system cannot wait for sockets or for standard output, read the time, or draw a number for a net.
+    /// The system cannot wait for sockets or for standard output, read the time, or draw a number for a net or a folder.
     System,
     /// An allocation failed.
     NoMemory,
@@ -85,8 +91,9 @@ pub enum Subject {
 impl RunError {
     /// Returns the exit status of a program that ends with this error:
     ///
-    /// - 1 for a configuration, a file of its secret that holds none or that this user may not read, another bot's
-    ///   journal, a journal without the number of its net, or one that cannot be rewritten;
+    /// - 1 for a configuration, a file of its secret that holds none for this bot or that this user may not read, another
+    ///   bot's journal, a journal without the number of its net, or one that cannot be rewritten, and a faulty number of
+    ///   the folder or book of leaves;
     /// - 3 for what the system, a folder, a socket or a disk refuses, also while the secret is read;
     /// - 4 if the program is out of memory.
     pub fn status(self) -> u8
@@ -100,9 +107,17 @@ impl RunError {
             | RunError::Bind { line: _, fault: _ }
             | RunError::Config
             | RunError::Secret(
-                SecretFault::Unreadable | SecretFault::NotRegular | SecretFault::Length,
+                SecretFault::Unreadable
+                | SecretFault::NotRegular
+                | SecretFault::Length
+                | SecretFault::BadLeafKey
+                | SecretFault::LeafKey
+                | SecretFault::OtherLeaf,
             )
             | RunError::NoNet
+            | RunError::NoMade
+            | RunError::BadDoubt
+            | RunError::Book(_)
             | RunError::OtherJournal
             | RunError::GenerationsSpent => 1,
             RunError::Secret(
@@ -134,6 +149,9 @@ impl RunError {
             RunError::OtherJournal
             | RunError::GenerationsSpent
             | RunError::NoNet
+            | RunError::NoMade
+            | RunError::BadDoubt
+            | RunError::Book(_)
             | RunError::Folder(_)
             | RunError::DiskFailed { change: _ } => { Subject::Folder }
             RunError::Control(_) => Subject::Control,
@@ -161,6 +179,7 @@ impl Display for RunError {
             RunError::Folder(fault) => fault.fmt(f),
             RunError::Control(fault) => f.write_str(of_control(fault)),
             RunError::Secret(fault) => put(f, "the file of the line secret ", &fault),
+            RunError::Book(fault) => put(f, "holds a file leaves with a fault: ", &fault),
             RunError::Listen(fault) => put(f, "the address of the line listen ", &fault),
             RunError::DiskFailed { change } => {
                 put(
@@ -174,6 +193,8 @@ impl Display for RunError {
             | RunError::NoServer
             | RunError::Config
             | RunError::NoNet
+            | RunError::NoMade
+            | RunError::BadDoubt
             | RunError::OtherJournal
             | RunError::GenerationsSpent
             | RunError::System
@@ -215,6 +236,10 @@ fn sentence(error: RunError) -> &'static str {
             "holds a journal of an older layout that can't be rewritten, since its generations are used up: run an older version of eggnet, or give a leaf an empty folder",
         RunError::NoNet =>
             "holds a journal and not the number of its net: bring back the file net, 16 digits and a line feed",
+        RunError::NoMade =>
+            "holds a file made that is no number: bring it back, 16 digits and a line feed, or remove it and have the hub renew this leaf",
+        RunError::BadDoubt =>
+            "holds a file doubt that no hub writes: bring it back, or remove it if this hub's journal is its newest",
         RunError::System =>
             "the system waits for no sockets, tells no time or draws no number: raise its limit of open files, and try again",
         RunError::NoMemory => "out of memory: free some and try again",
@@ -223,6 +248,7 @@ fn sentence(error: RunError) -> &'static str {
         | RunError::Bind { line: _, fault: _ }
         | RunError::Folder(_)
         | RunError::Secret(_)
+        | RunError::Book(_)
         | RunError::Listen(_)
         | RunError::Control(_)
         | RunError::DiskFailed { change: _ } => "",
@@ -262,10 +288,11 @@ impl From<io::Error> for RunError {
     }
 }
 
-// The error for a folder that cannot be used for the bot. A file `net` that is too short holds no number of a net.
+// The error for a folder that cannot be used for the bot. A file `net` or `made` that is too short holds no number.
 pub(crate) fn of_folder(error: FolderError) -> RunError {
     match error {
         Failure::Refused(FolderFault::ShortNumber(FolderFile::Net)) => RunError::NoNet,
+        Failure::Refused(FolderFault::ShortNumber(FolderFile::Made)) => RunError::NoMade,
         Failure::Refused(fault) => RunError::Folder(fault),
         Failure::NoMemory => RunError::NoMemory,
     }

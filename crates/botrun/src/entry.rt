@@ -8,6 +8,10 @@ use std::fmt::Display;
 pub(crate) enum Entry<'a> {
     // The bot is up at this version.
     Up(u32),
+    // The file of the secret of this leaf holds the net's secret.
+    KnowsNet(u16),
+    // A leaf begins again, since the hub has replied to requests of an earlier folder up to this number.
+    BeginsAbove(u32),
     // The bot's records at this version have this sum.
     Records(u32, &'a [u8]),
     // A change was accepted under this number.
@@ -36,6 +40,20 @@ impl Display for Entry<'_> {
     fn fmt<W: fmt::Write>(&self, f: &mut fmt::Formatter<W>) -> fmt::Result {
         match *self {
             Entry::Up(version) => put(f, "up at version ", &version),
+            Entry::KnowsNet(leaf) => {
+                put(
+                    f,
+                    "the file of the secret holds the net's secret: print the key of leaf ",
+                    &leaf,
+                )?;
+                f.write_str(" with eggnet key, and keep only that here")
+            }
+            Entry::BeginsAbove(last) => {
+                put(f, "the hub has replied to ", &last)?;
+                f.write_str(
+                    " requests of an earlier folder of this leaf; this one begins above them",
+                )
+            }
             Entry::Records(version, sum) => {
                 put(f, "records at version ", &version)?;
                 put(f, ": ", &Shown(sum))

@@ -25,6 +25,23 @@
 //! `refused ..` to the admin on the same connection. Changes are answered in the order in which they were asked for,
 //! including those of procs.
 //!
+//! # Which folder is which leaf
+//!
+//! Each bot's folder has a number of its own, drawn before its journal gets its name. The hub keeps the number of each
+//! leaf's folder in its book, the file `leaves`, and writes it there before it welcomes a new leaf. Another folder that
+//! shows that leaf's number is refused, until an admin says `renew N` at the hub.
+//!
+//! A leaf that was made again has a new folder, and knows nothing of the requests of the earlier one. The hub tells it
+//! how many of them it has replied to. The leaf then begins again in the same folder, with a journal whose requests are
+//! numbered above them, so no reply of the past is taken for one of its own. Only a leaf that has no records yet does so.
+//!
+//! # A hub in doubt
+//!
+//! If a leaf has records that the hub lacks, or other records at the hub's version, the hub may be an older copy of
+//! itself, such as one from a backup. It then accepts no change: it refuses those of admins, takes no requests of its
+//! leaves, and lets the changes of its own procs wait. Either its newest journal is given back, or an admin says
+//! `trust-this-copy`: then its records count, and the folders of those leaves never join again.
+//!
 //! # The log
 //!
 //! The log goes to standard output, one line for each event: seconds since 1970-01-01 UTC, and what happened. Each turn
@@ -70,15 +87,19 @@ mod checking;
 mod deeds;
 mod ending;
 mod entry;
+mod keeping;
+mod kept_sum;
 mod looking;
 mod netting;
 mod noticing;
 mod obeying;
 mod others;
 mod outcome;
+mod own;
 mod passing;
 mod process;
 mod record_sum;
+mod refusing;
 mod seconds;
 mod space;
 mod starting;

@@ -1,10 +1,47 @@
 // Notices to a person about a change that their words asked for.
 ghost use Rattle.std.specs.Prelude.{◌≡◌};
 
+use crate::asks::{Asker, asker_in, asks_among, refused_in};
 use crate::outcome::Outcome;
+use botcore::Report;
 use bytetext::{NoMemory, Text};
 use serverlink::IrcConnection;
 use std::alloc::Global;
+
+// Queues a notice to each person whose words made a proc ask for a change in this step: it waits for the hub.
+pub(crate) fn notice_waiting(
+    alloc: Global,
+    uplink: &mut IrcConnection,
+    report: &Report,
+) -> Result<(), NoMemory>
+    ensures { uplink.new.session ≡ uplink.old.session }
+{
+    if refused_in(&report.faults) > 0 {
+        return Ok(());
+    }
+    for call in report.calls.as_slice() {
+        if asks_among(call.reply.actions.as_slice()) > 0 {
+            let asker = asker_in(alloc, &call.call)?;
+            notice_to(alloc, uplink, &asker, Outcome::Nothing)?;
+        }
+    }
+    Ok(())
+}
+
+// Queues a notice about the outcome of a change to whoever asked for it, if that is a person.
+fn notice_to(
+    alloc: Global,
+    uplink: &mut IrcConnection,
+    asker: &Asker,
+    outcome: Outcome,
+) -> Result<(), NoMemory>
+    ensures { uplink.new.session ≡ uplink.old.session }
+{
+    match asker {
+        Asker::Person(nick) => notice(alloc, uplink, nick.as_bytes(), outcome),
+        Asker::Nobody | Asker::Admin(_) => Ok(()),
+    }
+}
 
 // Queues a notice to a person about the outcome of a change. Does nothing without a server, or if too many lines wait.
 pub(crate) fn notice(
@@ -28,7 +65,7 @@ pub(crate) fn notice(
 // The outcome of a change, as a notice words it.
 fn words_of(alloc: Global, outcome: Outcome) -> Result<Vec<u8>, NoMemory> {
     let words = match outcome {
-        Outcome::Nothing => format!(in alloc; "it waits")?,
+        Outcome::Nothing => format!(in alloc; "queued: the hub has not answered yet")?,
         Outcome::Accepted(number) => format!(in alloc; "accepted under number {number}")?,
         Outcome::Refused(fault) => format!(in alloc; "refused, {}: {fault}", fault.code())?,
         Outcome::Barred(fault) => format!(in alloc; "refused, {}: {fault}", fault.code())?,

@@ -6,13 +6,14 @@ use crate::answers::of_advice;
 use crate::ending::RunError;
 use crate::entry::Entry;
 use crate::process::Process;
-use crate::space::NO_ROOM;
 use bytetext::Failure;
 use control::AdminCommand;
 use net::Log;
 use procs::{ProcStore, Promise, Run};
 use recordtext::first_word;
 use settings::Settings;
+use std::fs::File;
+use std::rt::Files;
 
 // The most commands of each admin that one turn executes. The changes of a turn go to each other bot in one write,
 // and 16 changes are all that a hub sends in answer to one hello. For all admins a turn executes at most 128
@@ -23,7 +24,7 @@ const MAX_COMMANDS: usize = 16;
 impl Process {
     // Executes the admins' commands, in rounds of one command of each, so that no admin waits for all commands
     // of another. Begins no further round once the bot is to end or is down. Returns whether there was a command.
-    pub(crate) fn obey_all<R: AllocGlobal, P: Promise, B: Run>(
+    pub(crate) fn obey_all<R: AllocGlobal + Files<File = File>, P: Promise, B: Run>(
         &mut self,
         rt: &R,
         log: &mut Log,
@@ -45,7 +46,7 @@ impl Process {
     }
 
     // Executes one command of each admin. Returns whether there was one.
-    fn obey_each<R: AllocGlobal, P: Promise, B: Run>(
+    fn obey_each<R: AllocGlobal + Files<File = File>, P: Promise, B: Run>(
         &mut self,
         rt: &R,
         log: &mut Log,
@@ -71,7 +72,7 @@ impl Process {
     }
 
     // Executes the command in a line, and returns the answer.
-    fn obey<R: AllocGlobal, P: Promise, B: Run>(
+    fn obey<R: AllocGlobal + Files<File = File>, P: Promise, B: Run>(
         &mut self,
         rt: &R,
         log: &mut Log,
@@ -92,8 +93,8 @@ impl Process {
             let (word, _rest) = first_word(line);
             log.note(now, &Entry::Asked(word));
         }
-        if needs_room(&command) && !self.space.has_room() {
-            return Ok(Vec::from_slice(alloc, NO_ROOM)?);
+        if let Some(refusal) = self.refusal(alloc, &command)? {
+            return Ok(refusal);
         }
         match command {
             AdminCommand::Change(change) => self.change(rt, log, store, settings, change, now),
@@ -104,6 +105,8 @@ impl Process {
             AdminCommand::Say(line) => self.say(alloc, line),
             AdminCommand::Compact => self.compact_now(rt, log, store, settings, now),
             AdminCommand::Jump => self.jump(rt, log, settings, now),
+            AdminCommand::Renew(leaf) => self.renew(rt, log, settings, leaf, now),
+            AdminCommand::Trust => self.trust(rt, settings),
             AdminCommand::Die(text) => self.die(rt, log, settings, &text, now),
         }
     }
@@ -119,20 +122,8 @@ fn is_logged(command: &AdminCommand) -> bool {
         | AdminCommand::Say(_)
         | AdminCommand::Compact
         | AdminCommand::Jump
+        | AdminCommand::Renew(_)
+        | AdminCommand::Trust
         | AdminCommand::Die(_) => true,
-    }
-}
-
-// Whether a command writes to the journal.
-fn needs_room(command: &AdminCommand) -> bool {
-    match command {
-        AdminCommand::Change(_) | AdminCommand::Compact => true,
-        AdminCommand::Show
-        | AdminCommand::Status
-        | AdminCommand::Bind(_)
-        | AdminCommand::Unbind(_)
-        | AdminCommand::Say(_)
-        | AdminCommand::Jump
-        | AdminCommand::Die(_) => false,
     }
 }

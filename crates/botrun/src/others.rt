@@ -29,4 +29,9 @@ impl Others {
             asks: Asks::new(alloc),
         }
     }
+
+    // Whether the bot is to pump at second `now`: never at a hub in doubt, so the changes that its procs asked for wait.
+    pub(crate) fn is_pump_due(&self, now: u64) -> bool {
+        self.links.doubt().is_none() && self.links.is_pump_due(now)
+    }
 }

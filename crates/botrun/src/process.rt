@@ -1,15 +1,18 @@
 // One turn of a bot's process.
-ghost use Rattle.std.specs.Prelude.{◌<◌};
+ghost use Rattle.std.specs.Prelude.{◌<◌, IfOk, IfSome};
 ghost use Rattle.bytetext.specs.declared.moment.TheConstants.{MOMENTS_END};
+ghost use Rattle.botrun.specs.Renewals.{BeginsWithout, HasNoRecords};
 
 use crate::admins::Admins;
 use crate::bases::Bases;
 use crate::ending::RunError;
+use crate::kept_sum::KeptSum;
 use crate::others::Others;
 use crate::seconds::Seconds;
 use crate::space::Space;
 use crate::sums::Sums;
 use botcore::Bot;
+use botfolder::BotFolder;
 use bytetext::NoMemory;
 use disks::FileDisk;
 use ircline::LineReader;
@@ -22,8 +25,9 @@ use std::net::Net;
 use std::random::RandomSource;
 use std::rt::Files;
 
-// A bot, its connections, and the state of its process.
+// A bot, its folder, its connections, and the state of its process.
 pub(crate) struct Process {
+    pub(crate) folder: BotFolder,
     pub(crate) bot: Bot<FileDisk>,
     pub(crate) lines: LineReader,
     pub(crate) uplink: IrcConnection,
@@ -31,7 +35,8 @@ pub(crate) struct Process {
     pub(crate) others: Others,
     // When the journal is rewritten.
     pub(crate) bases: Bases,
-    // When the log shows the sum of the records.
+    // The sum of the records, and when the log shows it.
+    pub(crate) kept_sum: KeptSum,
     pub(crate) sums: Sums,
     // The room for changes on the disk.
     pub(crate) space: Space,
@@ -43,12 +48,14 @@ pub(crate) struct Process {
 impl Drop for Process {
     fn drop(self) {
         let Process {
+            folder: _,
             bot: _,
             lines: _,
             uplink: _,
             admins: _,
             others: _,
             bases: _,
+            kept_sum: _,
             sums: _,
             space: _,
             until: _,
@@ -76,13 +83,16 @@ pub(crate) enum Turned {
     //
     // Everything else waits for the clock.
     Rests,
+    // The bot is a leaf whose journal has to be made again, so that its requests are numbered above this number.
+    BeginsAbove(u32),
     // The process has ended, as an admin asked.
     Ended,
 }
 
 impl Process {
     // Makes a turn: connects what is lost and due, reads, steps, writes, closes the connections that are over, and logs
-    // the sum of the records if that is due. `watch` names the sockets that may have something to read.
+    // the sum of the records if that is due. `watch` names the sockets that may have something to read. A leaf that has
+    // to begin again ends the turn once it has read.
     pub(crate) fn turn<R, P: Promise, B: Run>(
         &mut self,
         rt: &R,
@@ -95,6 +105,8 @@ impl Process {
     where
         R: AllocGlobal + Net + Files<File = File> + RandomSource,
         requires moment { seconds.wall < MOMENTS_END }
+        // A bot with records goes on.
+        ensures again { IfOk result (λ turned. BeginsWithout turned self.new.bot) }
     {
         let now = seconds.wall;
         self.uplink.wake(watch.tokens(), seconds.steady);
@@ -105,7 +117,14 @@ impl Process {
         is_busy |= self
             .admins
             .read(rt, log, watch, &self.others.asks, seconds)?;
+        self.tell_own(rt.alloc())?;
         is_busy |= self.others.links.read(rt, log, now)?;
+        if let Some(last) = self.to_begin_after() {
+            return Ok(Turned::BeginsAbove(last));
+        }
+        self.keep_new_doubt(rt, log, now)?;
+        self.keep_new_net(rt, log, now)?;
+        self.enter_new_leaves(rt, log, now)?;
         is_busy |= self.hear(rt, log, store, settings, connected, now)?;
         is_busy |= self.obey_all(rt, log, store, settings, now)?;
         is_busy |= self.send(rt, log, settings, now)?;
@@ -115,6 +134,17 @@ impl Process {
             return Ok(Turned::Ended);
         }
         Ok(if is_busy { Turned::Busy } else { Turned::Rests })
+    }
+
+    // Unless the process is to end, returns the number above which a leaf without records has to begin again, if it has
+    // to.
+    fn to_begin_after(&self) -> Option<u32>
+        ensures { IfSome result (λ _. HasNoRecords self.now.bot) }
+    {
+        if self.until.is_some() || self.bot.version() > 0 {
+            return None;
+        }
+        self.others.links.to_begin_after()
     }
 
     // Unless the process is to end, connects what is lost and due, and accepts other bots. Returns whether a connection
@@ -151,7 +181,7 @@ impl Process {
         self.uplink.keep(rt, log, settings, now)?;
         let server = self.uplink.send();
         let admins = self.admins.send();
-        let links = self.others.links.send();
+        let links = self.others.links.send()?;
         self.uplink.let_go(log, now);
         self.others.links.let_go(log, now);
         self.stay_up()?;
@@ -167,6 +197,24 @@ impl Process {
         } else {
             Ok(())
         }
+    }
+
+    // Ends all connections, and returns the bot's folder.
+    pub(crate) fn into_folder(self) -> BotFolder {
+        let Process {
+            folder,
+            bot: _,
+            lines: _,
+            uplink: _,
+            admins: _,
+            others: _,
+            bases: _,
+            kept_sum: _,
+            sums: _,
+            space: _,
+            until: _,
+        } = self;
+        folder
     }
 
     // Whether the process is to end, and either the wait is over, or the server is gone and the admins have their

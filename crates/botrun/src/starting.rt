@@ -31,19 +31,32 @@ pub(crate) fn folder_of<R: AllocGlobal + Files<File = File> + Clock>(
     }
 }
 
-// Opens the bot whose journal the folder holds, or creates it if there is none.
+// Opens the bot whose journal the folder holds, or creates it if there is none: then a leaf's requests are numbered above
+// `last`.
 pub(crate) fn bot_of<R: AllocGlobal + Files<File = File> + RandomSource + Clock>(
     rt: &R,
     folder: &BotFolder,
     settings: &Settings,
+    last: u32,
 ) -> Result<Bot<FileDisk>, RunError> {
     let config = config_of(rt.alloc(), settings)?;
     match folder.begin(rt) {
         Ok(Begun::Found(disks)) => found(rt.alloc(), config, disks),
         Ok(Begun::Empty(disks)) => {
             begin_net(rt, folder, settings)?;
-            made(rt, folder, config, disks)
+            made(rt, folder, config, disks, last)
         }
+        Err(error) => Err(of_folder(error)),
+    }
+}
+
+// Forgets the journal of a leaf that has to begin again. No bot is open in the folder.
+pub(crate) fn forget_journal<R: AllocGlobal + Files<File = File>>(
+    rt: &R,
+    folder: &BotFolder,
+) -> Result<(), RunError> {
+    match folder.forget_journal(rt) {
+        Ok(()) => Ok(()),
         Err(error) => Err(of_folder(error)),
     }
 }
@@ -59,17 +72,18 @@ fn found(alloc: Global, config: Config, disks: Pair) -> Result<Bot<FileDisk>, Ru
     }
 }
 
-// Creates a bot. Its journal is found from now on.
+// Creates a bot; a leaf's requests are numbered above `last`. Its journal is found from now on.
 fn made<R: AllocGlobal + Files<File = File>>(
     rt: &R,
     folder: &BotFolder,
     config: Config,
     disks: Pair,
+    last: u32,
 ) -> Result<Bot<FileDisk>, RunError>
     requires ready { AreReady disks }
 {
     let Pair { first, second } = disks;
-    let bot = match Bot::create(rt.alloc(), config, first, second) {
+    let bot = match Bot::create_after(rt.alloc(), config, first, second, last) {
         Ok(bot) => bot,
         Err(returned) => return Err(of_bot(returned.error)),
     };

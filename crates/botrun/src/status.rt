@@ -14,12 +14,13 @@ pub(crate) fn status_of(
     settings: &Settings,
 ) -> Result<Vec<u8>, NoMemory> {
     let mut text = Vec::new(alloc);
-    put_count(&mut text, b"version ", u64::from(process.bot.version()))?;
+    let version = process.bot.version();
+    put_count(&mut text, b"version ", u64::from(version))?;
     put_server(&mut text, process, settings)?;
     for place in 0..process.uplink.channels.len() {
         put_channel(&mut text, process, place)?;
     }
-    put_status(&mut text, &process.others.links)?;
+    put_status(&mut text, &process.others.links, version)?;
     if process.others.links.is_leaf() {
         put_count(&mut text, b"asks ", process.others.asks.len() as u64)?;
     }

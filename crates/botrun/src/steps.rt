@@ -10,6 +10,7 @@ ghost use Rattle.botrun.specs.Taking.{GoesOn, Hears, TakesChanges};
 use crate::ending::RunError;
 use crate::entry::Entry;
 use crate::looking::look_at_all;
+use crate::noticing::notice_waiting;
 use crate::outcome::{Outcome, outcome_of, told_by};
 use crate::passing::pass_lines;
 use crate::process::Process;
@@ -49,7 +50,7 @@ impl Process {
         let waiting = self.others.links.take_packets(alloc)?;
         let said = !waiting.is_empty();
         let packets = self.space.admit(alloc, waiting);
-        let pumps = self.others.links.is_pump_due(now);
+        let pumps = self.others.is_pump_due(now);
         let nick = self.nick_before(alloc, connected)?;
         let changes = Vec::new(alloc);
         let heard = Heard {
@@ -72,11 +73,11 @@ impl Process {
         self.space.look_if_full(log, now);
         // A proc may have had a leaf ask for a change. If this turn pumped and more is due at once, the link took
         // bytes, so the next turn comes at once too.
-        Ok(said || (!pumps && self.others.links.is_pump_due(now)))
+        Ok(said || (!pumps && self.others.is_pump_due(now)))
     }
 
-    // Unless the bot is a leaf, pumps until nothing waits, or the link refuses. `first` is the outcome of the turn
-    // before.
+    // Unless the bot is a leaf, or a hub in doubt, pumps until nothing waits, or the link refuses. `first` is the outcome
+    // of the turn before.
     fn pump<R: AllocGlobal, P: Promise, B: Run>(
         &mut self,
         rt: &R,
@@ -88,7 +89,7 @@ impl Process {
     ) -> Result<(), RunError>
         ensures goes_on { OnOk result (GoesOn P.promised store.now self.old.bot self.old.lines self.new.bot self.new.lines) }
     {
-        let most = if self.others.links.is_leaf() {
+        let most = if self.others.links.is_leaf() || self.others.links.doubt().is_some() {
             0
         } else {
             MAX_ASKS
@@ -186,9 +187,9 @@ impl Process {
         }
     }
 
-    // Passes on what each step of a turn says, in order: its lines to the server, its packets to the other bots, and
-    // its answer to whoever asked for the change that it accepted or refused. `pumped` says whether the last step is a
-    // pump.
+    // Passes on what each step of a turn says, in order: its lines to the server, its packets to the other bots, a
+    // notice to whoever asked for a change that waits, and its answer to whoever asked for the change that it accepted
+    // or refused. `pumped` says whether the last step is a pump.
     fn pass<R: AllocGlobal>(
         &mut self,
         rt: &R,
@@ -208,10 +209,15 @@ impl Process {
         ensures held { self.new.lines ≡ self.old.lines }
     {
         let is_leaf = self.others.links.is_leaf();
+        // Whether a change that is asked for is decided on later.
+        let waits = is_leaf || self.others.links.doubt().is_some();
         let mut rest = told.reports.as_slice();
         while let Some((report, behind)) = rest.split_first() {
             pass_lines(log, &mut self.uplink, settings, report, now)?;
             self.others.pass(rt, log, report, now)?;
+            if waits {
+                notice_waiting(rt.alloc(), &mut self.uplink, report)?;
+            }
             let outcome = told_by(report);
             let settles = is_leaf || (pumped && behind.is_empty());
             self.others.answer(

@@ -4,7 +4,6 @@ ghost use Rattle.botrun.specs.Sums.{is_due, told_at, untold};
 
 use crate::entry::Entry;
 use crate::process::Process;
-use crate::record_sum::sum_of;
 use bytetext::NoMemory;
 use net::Log;
 
@@ -61,7 +60,7 @@ impl Process {
     ) -> Result<(), NoMemory> {
         let version = self.bot.version();
         if self.sums.is_due(version, is_last, now) {
-            let sum = sum_of(rt.alloc(), self.bot.userfile())?;
+            let sum = self.kept_sum.at(rt.alloc(), version, self.bot.userfile())?;
             log.note(now, &Entry::Records(version, &sum));
             self.sums.tell(version, now);
         }

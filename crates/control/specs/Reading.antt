@@ -3,6 +3,7 @@ use Rattle.std.specs.Prelude.{◌≡◌, ℕ, ◌==◌, ◌||◌, nat_lt, Bool, 
 use Rattle.std.specs.List.{list_any}
 use Rattle.bytetext.specs.declared.failure.Failure.{Failure}
 use Rattle.bytetext.specs.declared.failure.Failure.TheVariants.{Refused, NoMemory}
+use Rattle.bytetext.specs.Numerals.{number_from}
 use Rattle.userfile.specs.declared.change.Change.{Change}
 use Rattle.recordtext.specs.Words.{words_of, is_empty, rest_of}
 use Rattle.recordtext.specs.Changes.{change_named}
@@ -66,6 +67,16 @@ abbrev pub say_said : List (List ℕ) → Result AdminCommand CommandAdvice
 say_said [] = Err (Form word.Say)
 say_said (w ∷ words) = said (rest_of (w ∷ words))
 
+-- renew N: digits, of a number from 1
+abbrev pub renewed : Option ℕ → Result AdminCommand CommandAdvice
+renewed None = Err (Form word.Renew)
+renewed (Some leaf) = if leaf == 0 then Err (Form word.Renew) else Ok (command.Renew leaf)
+
+abbrev pub renew_said : List (List ℕ) → Result AdminCommand CommandAdvice
+renew_said [] = Err (Form word.Renew)
+renew_said (number ∷ []) = renewed (number_from 0 number)
+renew_said (number ∷ w ∷ words) = Err (Form word.Renew)
+
 -- die TEXT, which may be left out
 abbrev pub die_text : Option (List ℕ) → List ℕ
 die_text None = []
@@ -93,10 +104,12 @@ said_of (Some word.Die) spelling words = die_said words
 said_of (Some word.Global) spelling words = change_said word.Global spelling words
 said_of (Some word.Info) spelling words = change_said word.Info spelling words
 said_of (Some word.Jump) spelling words = alone word.Jump words command.Jump
+said_of (Some word.Renew) spelling words = renew_said words
 said_of (Some word.Say) spelling words = say_said words
 said_of (Some word.Show) spelling words = alone word.Show words command.Show
 said_of (Some word.Status) spelling words = alone word.Status words command.Status
 said_of (Some word.Sticky) spelling words = change_said word.Sticky spelling words
+said_of (Some word.Trust) spelling words = alone word.Trust words command.Trust
 said_of (Some word.Unbind) spelling words = unbind_said words
 
 -- the first word says what is asked for

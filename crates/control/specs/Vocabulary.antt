@@ -3,7 +3,7 @@ use Rattle.std.specs.Prelude.{ℕ, List, [], ◌∷◌, Option, find, codes}
 use Rattle.std.specs.Str.{bytes_eq}
 use Rattle.control.specs.declared.command_word.CommandWord.{CommandWord}
 use Rattle.control.specs.declared.command_word.CommandWord.TheVariants.{AddBan, AddHost, AddUser, Bind, Bot, Chan, Compact, DelBan, DelHost}
-use Rattle.control.specs.declared.command_word.CommandWord.TheVariants.{DelUser, Die, Global, Info, Jump, Say, Show, Status, Sticky, Unbind}
+use Rattle.control.specs.declared.command_word.CommandWord.TheVariants.{DelUser, Die, Global, Info, Jump, Renew, Say, Show, Status, Sticky, Trust, Unbind}
 
 abbrev pub spelling_of : CommandWord → List ℕ
 spelling_of AddBan = codes "addban"
@@ -20,16 +20,18 @@ spelling_of Die = codes "die"
 spelling_of Global = codes "global"
 spelling_of Info = codes "info"
 spelling_of Jump = codes "jump"
+spelling_of Renew = codes "renew"
 spelling_of Say = codes "say"
 spelling_of Show = codes "show"
 spelling_of Status = codes "status"
 spelling_of Sticky = codes "sticky"
+spelling_of Trust = codes "trust-this-copy"
 spelling_of Unbind = codes "unbind"
 
 abbrev pub all_words : List CommandWord
 all_words =
-    AddBan ∷ AddHost ∷ AddUser ∷ Bind ∷ Bot ∷ Chan ∷ Compact ∷ DelBan ∷ DelHost ∷ DelUser ∷ Die ∷ Global ∷ Info ∷ Jump ∷ Say ∷ Show ∷
-    Status ∷ Sticky ∷ Unbind ∷ []
+    AddBan ∷ AddHost ∷ AddUser ∷ Bind ∷ Bot ∷ Chan ∷ Compact ∷ DelBan ∷ DelHost ∷ DelUser ∷ Die ∷ Global ∷ Info ∷ Jump ∷ Renew ∷ Say ∷
+    Show ∷ Status ∷ Sticky ∷ Trust ∷ Unbind ∷ []
 
 -- the word with this spelling: no two are spelled alike
 abbrev pub word_named : List ℕ → Option CommandWord

@@ -22,6 +22,11 @@ pub enum AdminCommand {
     Compact,
     /// To leave the server for the next.
     Jump,
+    /// At a hub: to disconnect the leaf of this number, from 1, and to let it come back from another folder. Nothing has
+    /// checked that the net has such a leaf.
+    Renew(u16),
+    /// At a hub: to count its own records as the net's, though a leaf has shown newer or other ones.
+    Trust,
     /// To end, and to send the server this text, which may be empty.
     Die(Text),
 }

@@ -29,7 +29,7 @@ impl Display for CommandAdvice {
             ),
             CommandAdvice::Unknown => f.write_str(
                 "begin with addban, addhost, adduser, bind, bot, chan, compact, delban, delhost, deluser, die, global, \
-                 info, jump, say, show, status, sticky or unbind",
+                 info, jump, renew, say, show, status, sticky, trust-this-copy or unbind",
             ),
             CommandAdvice::Form(word) => f.write_str(form_of(word)),
         }
@@ -56,11 +56,13 @@ fn form_of(word: CommandWord) -> &'static str {
         CommandWord::Global => "say global HANDLE FLAGS, as in global alice o",
         CommandWord::Info => "say info HANDLE TEXT, as in info alice I keep the eggs",
         CommandWord::Jump => "say jump alone",
+        CommandWord::Renew => "say renew N, with N a leaf's number from 1, as in renew 3",
         CommandWord::Say => "say say LINE, of at most 510 bytes, as in say PRIVMSG #egg :hello",
         CommandWord::Show => "say show alone",
         CommandWord::Status => "say status alone",
         CommandWord::Sticky =>
             "say sticky CHANNEL MASK N, with N 1 or 0, as in sticky #egg *!*@spam.example 1",
+        CommandWord::Trust => "say trust-this-copy alone",
         CommandWord::Unbind => "say unbind TYPE PROC MASK, as in unbind pub echo !echo",
     }
 }

@@ -78,7 +78,9 @@ fn is_die(command: &AdminCommand) -> bool {
         | AdminCommand::Unbind(_)
         | AdminCommand::Say(_)
         | AdminCommand::Compact
-        | AdminCommand::Jump => false,
+        | AdminCommand::Jump
+        | AdminCommand::Renew(_)
+        | AdminCommand::Trust => false,
     }
 }
 

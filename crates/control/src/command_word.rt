@@ -33,6 +33,8 @@ pub enum CommandWord {
     Info,
     /// The bot leaves its server for the next.
     Jump,
+    /// A leaf may come back from another folder.
+    Renew,
     /// The bot sends the server a line.
     Say,
     /// The records are shown.
@@ -41,12 +43,14 @@ pub enum CommandWord {
     Status,
     /// A ban is made sticky, or no longer sticky.
     Sticky,
+    /// The hub's records count, though a leaf has others.
+    Trust,
     /// A bind is removed.
     Unbind,
 }
 
 // Every word.
-const ALL: [CommandWord; 19] = [
+const ALL: [CommandWord; 21] = [
     CommandWord::AddBan,
     CommandWord::AddHost,
     CommandWord::AddUser,
@@ -61,10 +65,12 @@ const ALL: [CommandWord; 19] = [
     CommandWord::Global,
     CommandWord::Info,
     CommandWord::Jump,
+    CommandWord::Renew,
     CommandWord::Say,
     CommandWord::Show,
     CommandWord::Status,
     CommandWord::Sticky,
+    CommandWord::Trust,
     CommandWord::Unbind,
 ];
 
@@ -88,10 +94,12 @@ impl CommandWord {
             CommandWord::Global => "global",
             CommandWord::Info => "info",
             CommandWord::Jump => "jump",
+            CommandWord::Renew => "renew",
             CommandWord::Say => "say",
             CommandWord::Show => "show",
             CommandWord::Status => "status",
             CommandWord::Sticky => "sticky",
+            CommandWord::Trust => "trust-this-copy",
             CommandWord::Unbind => "unbind",
         }
     }

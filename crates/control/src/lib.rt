@@ -25,6 +25,8 @@
 //! | `say LINE` | sends the server this line, of 1 to 510 bytes |
 //! | `compact` | rewrites the journal |
 //! | `jump` | leaves this server for the next |
+//! | `renew` number | a hub: disconnects this leaf, and lets it come back from another folder |
+//! | `trust-this-copy` | a hub: counts its records as the net's, though a leaf has shown newer or other ones |
 //! | `die TEXT` | ends, and sends the server the TEXT, which may be left out |
 //!
 //! [`AdminCommand::read`] returns what a line asks for, or what to say instead. Only the bot, when it is asked, decides

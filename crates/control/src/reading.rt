@@ -2,7 +2,7 @@
 ghost use Rattle.std.specs.Prelude.{◌≡◌, ◌∷◌, map, IfOk};
 ghost use Rattle.std.specs.List.{list_any};
 ghost use Rattle.control.specs.Reading.{Answers, alone, bind_said, bound, command_by_words, die_said, die_text, is_bare};
-ghost use Rattle.control.specs.Reading.{said, say_said, unbind_said, unbound};
+ghost use Rattle.control.specs.Reading.{renew_said, renewed, said, say_said, unbind_said, unbound};
 
 use crate::admin_command::{AdminCommand, UnbindWords};
 use crate::advice::{CommandAdvice, CommandError};
@@ -10,7 +10,7 @@ use crate::command_word::CommandWord;
 use crate::{MAX_COMMAND, MAX_LINE};
 use bytetext::{Failure, Text};
 use recordtext::{change_named, pieces_of, rest_of};
-use settings::BindWords;
+use settings::{BindWords, value_of_digits};
 use std::alloc::Global;
 
 impl AdminCommand {
@@ -85,9 +85,11 @@ fn command_by_words(alloc: Global, words: &[&[u8]]) -> Result<AdminCommand, Comm
         CommandWord::Compact => alone(word, words, AdminCommand::Compact),
         CommandWord::Die => die_said(alloc, words),
         CommandWord::Jump => alone(word, words, AdminCommand::Jump),
+        CommandWord::Renew => renew_said(words),
         CommandWord::Say => say_said(alloc, words),
         CommandWord::Show => alone(word, words, AdminCommand::Show),
         CommandWord::Status => alone(word, words, AdminCommand::Status),
+        CommandWord::Trust => alone(word, words, AdminCommand::Trust),
         CommandWord::Unbind => unbind_said(alloc, words),
     }
 }
@@ -132,6 +134,26 @@ fn unbind_said(alloc: Global, words: &[&[u8]]) -> Result<AdminCommand, CommandEr
     match words {
         [kind, proc, mask, rest @ ..] => unbound(alloc, kind, proc, rest_of(alloc, mask, rest)?),
         [] | [_] | [_, _] => Err(Failure::Refused(CommandAdvice::Form(CommandWord::Unbind))),
+    }
+}
+
+// A leaf's number.
+fn renew_said(words: &[&[u8]]) -> Result<AdminCommand, CommandError>
+    ensures { Answers (renew_said (map (λ word. word.now) words.now)) result }
+{
+    match words {
+        [number] => renewed(value_of_digits(number)),
+        [] | [_, _, ..] => Err(Failure::Refused(CommandAdvice::Form(CommandWord::Renew))),
+    }
+}
+
+// The leaf of this number, if it is from 1.
+fn renewed(number: Option<u16>) -> Result<AdminCommand, CommandError>
+    ensures { Answers (renewed number) result }
+{
+    match number {
+        Some(0) | None => Err(Failure::Refused(CommandAdvice::Form(CommandWord::Renew))),
+        Some(leaf) => Ok(AdminCommand::Renew(leaf)),
     }
 }
 

@@ -3,7 +3,8 @@
 //! `eggnet run CONFIG` runs the bot of a configuration file, until it is asked to end. `eggnet check CONFIG` reads the
 //! file and ends; it opens nothing else. `eggnet tell FOLDER WORDS..` gives a command to the bot that runs on this
 //! folder, and prints its answer. `eggnet show FOLDER` prints the version and the records of a bot, whether it runs or
-//! not.
+//! not. `eggnet key SECRETFILE N` prints the secret file of leaf N, by the net's secret in SECRETFILE. A leaf that has
+//! this file alone can't speak as another one.
 //!
 //! `eggnet replay` reads a script from standard input or a named file, runs its commands with a botnet in memory, and
 //! prints the transcript. `eggnet picture` draws such a script's run, as SVG. `eggnet live` reads a live script from
@@ -16,19 +17,21 @@
 //!
 //! Binds may call the procs of `eggprocs`, whose first page lists them.
 //!
-//! The program ends with status 0 when all is done; 1 for a faulty configuration, another bot's journal, a command that
-//! a bot refuses or does not understand, and a script that breaks a rule; 2 for a command line that is not understood;
+//! The program ends with status 0 when all is done; 1 for a faulty configuration, another bot's journal, a file without
+//! the secret of a net, a command that a bot refuses or does not understand, and a script that breaks a rule; 2 for a command line that is not understood;
 //! 3 if reading, writing, a folder, a disk or a socket fails, if no bot runs, or if a live botnet stalls; 4 if memory
 //! runs out. Standard error says which.
 #![tactic(auto)]
 
 mod configuration;
+mod leaf_key;
 mod scripts;
 mod serve;
 mod talk;
 mod words;
 
 use crate::configuration::{check_file, run_file};
+use crate::leaf_key::print_leaf_key;
 use crate::scripts::live_script;
 use crate::serve::serve_port;
 use crate::talk::print_answer;
@@ -58,6 +61,7 @@ fn main(rt: HostRuntime) -> ExitCode {
         Task::Check(file) => check_file(&rt, &store, file),
         Task::Tell(folder, line) => print_answer(&rt, folder, ask(&rt, folder, line.as_slice())),
         Task::Show(folder) => print_answer(&rt, folder, show(&rt, folder)),
+        Task::Key(file, leaf) => print_leaf_key(&rt, file, *leaf),
         Task::Replay(Some(file)) => replay_file(&rt, store, file),
         Task::Replay(None) => replay_input(&rt, store),
         Task::Picture(file) => picture_script(&rt, store, *file),

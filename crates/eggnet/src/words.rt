@@ -3,6 +3,7 @@ use botjournal::LAYOUT;
 use clap::error::ErrorKind;
 use clap::{Arg, Command, Error, value_parser};
 use replaying::{USAGE, not_written, out_of_memory};
+use settings::MAX_LEAVES;
 use std::alloc::{AllocError, Global};
 
 /// The program's version.
@@ -27,6 +28,8 @@ pub enum Task<'a> {
     Tell(&'a str, Vec<u8>),
     /// Print the version and the records of this folder's bot.
     Show(&'a str),
+    /// Print the secret file of the leaf of this number, by the net's secret in this file.
+    Key(&'a str, u16),
 }
 
 /// Prints `error`: what clap says of a command line that it rejects, its help, or the version. Returns the exit status.
@@ -67,6 +70,10 @@ pub fn task_of<'a>(
             said.get_str("FOLDER").unwrap_or(""),
             joined(alloc, said.get_strs("WORDS").unwrap_or(&[]))?,
         )),
+        Some(("key", said)) => Ok(Task::Key(
+            said.get_str("SECRETFILE").unwrap_or(""),
+            said.get_one("N").unwrap_or(0),
+        )),
         Some(("serve", said)) => Ok(Task::Serve(said.get_one("PORT").unwrap_or(0))),
         Some(("replay", said)) => Ok(Task::Replay(said.get_str("FILE"))),
         Some(("picture", said)) => Ok(Task::Picture(said.get_str("FILE"))),
@@ -96,6 +103,7 @@ fn command<'a>(alloc: Global, version: &'a str) -> Result<Command<'a>, AllocErro
         .subcommand(check_command(alloc)?)?
         .subcommand(tell_command(alloc)?)?
         .subcommand(show_command(alloc)?)?
+        .subcommand(key_command(alloc)?)?
         .subcommand(replay_command(alloc)?)?
         .subcommand(picture_command(alloc)?)?
         .subcommand(live_command(alloc))?
@@ -137,6 +145,20 @@ fn show_command<'a>(alloc: Global) -> Result<Command<'a>, AllocError> {
     Command::new(alloc, "show")
         .about("Print the version and the records of a folder's bot, whether it runs or not")
         .arg(folder_word(alloc))
+}
+
+fn key_command<'a>(alloc: Global) -> Result<Command<'a>, AllocError> {
+    let file = Arg::new(alloc, "SECRETFILE")
+        .help("The file of the net's secret, as the hub's configuration names it")
+        .required(true);
+    let leaf = Arg::new(alloc, "N")
+        .help("The leaf's number, from 1")
+        .required(true)
+        .value_parser(value_parser!(u16).range(1..=i64::from(MAX_LEAVES)));
+    Command::new(alloc, "key")
+        .about("Print the secret file of one leaf, with which it can speak as that leaf alone")
+        .arg(file)?
+        .arg(leaf)
 }
 
 fn folder_word<'a>(alloc: Global) -> Arg<'a> {

@@ -9,6 +9,8 @@ use Rattle.std.proofs.lemmas.Slice.Eq.{bytes_eq-Decides}
 use Rattle.std.specs.List.{list_all, list_any, filter_map, cons_option}
 use Rattle.std.specs.Option.{option_map}
 use Rattle.flagexpr.specs.Letters.{has_letter}
+use Rattle.loosemask.specs.declared.looseness.Looseness.{Looseness}
+use Rattle.loosemask.specs.Loose.{looseness_of}
 use Rattle.userfile.specs.declared.change.Change.{Change}
 use Rattle.userfile.specs.declared.error.ChangeFault.{ChangeFault}
 use Rattle.userfile.specs.declared.ban.Ban.{Ban}
@@ -41,7 +43,8 @@ use Rattle.eggprocs.specs.Infos.{info_by, set_by, asked_by_known, greeting}
 use Rattle.eggprocs.specs.Laws.{Lacks, DoesNothing, AsksNoChange, is_ask, is_ask_for_owners, is_own, IsOnlyWithInfo, is_due_to, is_due, GivesWhatIsDue, KeepsChannelsApart}
 use Rattle.eggprocs.specs.Lines.{privmsg, mode, who}
 use Rattle.eggprocs.specs.Marks.{stick, unstick, left_out, told_ban, told_bans, asked_by_bans}
-use Rattle.eggprocs.specs.People.{told, for_owners, is_for_owners, asked_unless, asked_by_master, asked_by_command, plus_user, minus_user, plus_host, minus_host, chattr, asked_by_whois}
+use Rattle.eggprocs.specs.Outcomes.{mask_added}
+use Rattle.eggprocs.specs.People.{told, warned, for_owners, is_for_owners, asked_unless, asked_by_master, asked_by_command, plus_user, minus_user, plus_host, minus_host, chattr, asked_by_whois}
 use Rattle.eggprocs.specs.Procs.{name_of, actions_by, actions_if, ours}
 use Rattle.eggprocs.specs.Rights.{has_flag, flags_by, is_bot_op, is_from_op, is_from_voice, is_join, is_pub, is_msg, global_by, is_owner, is_master, standing_if, standing_of}
 use Rattle.eggprocs.specs.Whereabouts.{sought, shared, known_text, whereabouts_if}
@@ -235,9 +238,17 @@ bans-asks call seen = bans-no-ask (is_msg call.kind) (is_master call seen) call 
 
 -- ---- info lines
 
+-- a warning asks for nothing
+own-warned : (call : Call) (loose : Option Looseness) → list_all (is_own call) (warned call loose) ≡ true
+own-warned call None = refl
+own-warned call (Some looseness) = refl
+
 -- a change of who calls, or none where it is refused, is of who calls
 own-unless : (fault : Option ChangeFault) (call : Call) → list_all (is_own call) (asked_unless fault call (set_by call)) ≡ true
-own-unless None call = ap (λ (own : Bool). own && true) ((bytes_eq-Decides (handle_of call) (handle_of call)).1 refl)
+own-unless None call =
+    ap (λ (own : Bool). own && list_all (is_own call) (warned call (looseness_of (mask_added (set_by call)))))
+    ((bytes_eq-Decides (handle_of call) (handle_of call)).1 refl)
+    ∙ own-warned call (looseness_of (mask_added (set_by call)))
 own-unless (Some fault) call = refl
 
 own-known : (call : Call) (seen : Seen) (asks : Bool) → list_all (is_own call)
@@ -397,6 +408,11 @@ seen-law call one other same none-one none-other = λ a b kept-a kept-b.
 
 -- ---- what is for owners alone
 
+spared-warned : (call : Call) (seen : Seen) (loose : Option Looseness)
+    → list_any (is_ask_for_owners seen) (warned call loose) ≡ false
+spared-warned call seen None = refl
+spared-warned call seen (Some looseness) = refl
+
 -- who is no owner has no change asked for that is for owners
 spared : (change : Change) (call : Call) (seen : Seen) (mine theirs : Bool) → is_owner call seen ≡ mine → mine ≡ false → is_for_owners change seen ≡ theirs
     → list_any (is_ask_for_owners seen)
@@ -406,7 +422,9 @@ spared change call seen mine true own none is = ap (λ (m : Bool). list_any (is_
 spared change call seen mine false own none is = by (refusal seen.sight.records change)
   where
     by : (fault : Option ChangeFault) → list_any (is_ask_for_owners seen) (asked_unless fault call change) ≡ false
-    by None = ap (λ (b : Bool). b || false) is
+    by None =
+        ap (λ (b : Bool). b || list_any (is_ask_for_owners seen) (warned call (looseness_of (mask_added change)))) is
+        ∙ spared-warned call seen (looseness_of (mask_added change))
     by (Some fault) = refl
 
 spared-wish : (wish : Option Change) (call : Call) (seen : Seen) (usage : List ℕ) → is_owner call seen ≡ false
@@ -465,7 +483,9 @@ unstick-is call seen = refl
 -- the info line of who is no owner is of no owner
 spared-unless : (call : Call) (seen : Seen) (fault : Option ChangeFault) → is_owner call seen ≡ false
     → list_any (is_ask_for_owners seen) (asked_unless fault call (set_by call)) ≡ false
-spared-unless call seen None none = ap (λ (b : Bool). b || false) none
+spared-unless call seen None none =
+    ap (λ (b : Bool). b || list_any (is_ask_for_owners seen) (warned call (looseness_of (mask_added (set_by call))))) none
+    ∙ spared-warned call seen (looseness_of (mask_added (set_by call)))
 spared-unless call seen (Some fault) none = refl
 
 spared-known : (call : Call) (seen : Seen) (asks : Bool) → is_owner call seen ≡ false → list_any (is_ask_for_owners seen)

@@ -1,7 +1,5 @@
--- What the NOTICEs say of changes that are refused or asked for.
-use Rattle.std.specs.Prelude.{ℕ, List, [], ◌++◌, codes, Option, Some, None}
-use Rattle.loosemask.specs.declared.looseness.Looseness.{Looseness}
-use Rattle.loosemask.specs.Loose.{looseness_of, warning_of}
+-- What the NOTICEs say of changes that are refused, and which hostmask a change adds.
+use Rattle.std.specs.Prelude.{ℕ, List, [], ◌++◌, codes}
 use Rattle.userfile.specs.declared.change.Change.{Change}
 use Rattle.userfile.specs.declared.change.Change.TheVariants.{AddUser, DelUser, AddHost, DelHost, SetGlobal, SetChan, SetBot, AddBan, DelBan, SetInfo, SetSticky}
 use Rattle.userfile.specs.declared.error.ChangeFault.{ChangeFault}
@@ -43,11 +41,3 @@ mask_added (AddBan channel mask creator expires comment) = []
 mask_added (DelBan channel mask) = []
 mask_added (SetInfo handle info) = []
 mask_added (SetSticky channel mask on) = []
-
-abbrev pub warned : Option Looseness → List ℕ
-warned None = []
-warned (Some looseness) = codes "; " ++ warning_of looseness
-
--- the hub decides on a change that is asked for
-abbrev pub queued_text : Change → List ℕ
-queued_text change = codes "queued: the hub has not answered yet" ++ warned (looseness_of (mask_added change))

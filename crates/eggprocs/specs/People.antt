@@ -4,6 +4,8 @@ use Rattle.std.specs.List.{flat_map}
 use Rattle.flagexpr.specs.declared.fault.FlagFault.{FlagFault}
 use Rattle.flagexpr.specs.Faults.{flags_fault}
 use Rattle.flagexpr.specs.Letters.{has_letter, set_of, spelling}
+use Rattle.loosemask.specs.declared.looseness.Looseness.{Looseness}
+use Rattle.loosemask.specs.Loose.{looseness_of, warning_of}
 use Rattle.userfile.specs.declared.change.Change.{Change}
 use Rattle.userfile.specs.declared.change.Change.TheVariants.{AddUser, DelUser, AddHost, DelHost, SetGlobal, SetChan, SetBot, AddBan, DelBan, SetInfo, SetSticky}
 use Rattle.userfile.specs.declared.error.ChangeFault.{ChangeFault}
@@ -23,7 +25,7 @@ use Rattle.eggprocs.specs.declared.rights.Requester.TheVariants.{Elsewhere, Stra
 use Rattle.eggprocs.specs.Args.{nick_of, told_of, has_word}
 use Rattle.eggprocs.specs.Channel.{put}
 use Rattle.eggprocs.specs.Lines.{notice}
-use Rattle.eggprocs.specs.Outcomes.{queued_text, refusal_text}
+use Rattle.eggprocs.specs.Outcomes.{mask_added, refusal_text}
 use Rattle.eggprocs.specs.Rights.{is_owner}
 
 -- a NOTICE to the caller
@@ -34,9 +36,14 @@ told call words = put Help (notice (nick_of call) words)
 abbrev pub for_masters : List ℕ
 for_masters = codes "only masters and owners may do that"
 
--- the request of a change, or a NOTICE of why the userfile refuses it
+-- a NOTICE of why a hostmask is loose, if it is
+abbrev pub warned : Call → Option Looseness → List Action
+warned call None = []
+warned call (Some looseness) = told call (warning_of looseness) ∷ []
+
+-- the request of a change, with a warning if it adds a loose hostmask, or a NOTICE of why the userfile refuses it
 abbrev pub asked_unless : Option ChangeFault → Call → Change → List Action
-asked_unless None call change = Ask change ∷ told call (queued_text change) ∷ []
+asked_unless None call change = Ask change ∷ warned call (looseness_of (mask_added change))
 asked_unless (Some fault) call change = told call (refusal_text fault) ∷ []
 
 -- ---- what only owners may do

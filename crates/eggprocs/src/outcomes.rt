@@ -1,9 +1,8 @@
-// What the NOTICEs say of changes that are refused or asked for.
+// What the NOTICEs say of changes that are refused, and which hostmask a change adds.
 ghost use Rattle.std.specs.Prelude.{◌≡◌, IfOk};
-ghost use Rattle.eggprocs.specs.Outcomes.{mask_added, queued_text, refusal_text, refusal_words};
+ghost use Rattle.eggprocs.specs.Outcomes.{mask_added, refusal_text, refusal_words};
 
 use bytetext::{NoMemory, Text};
-use loosemask::looseness_of;
 use std::alloc::Global;
 use userfile::{Change, ChangeFault};
 
@@ -36,20 +35,8 @@ fn refusal_words(fault: ChangeFault) -> &'static [u8]
     }
 }
 
-// That a change is asked for, with a warning if it adds a loose hostmask.
-pub(crate) fn queued_text(alloc: Global, change: &Change) -> Result<Text, NoMemory>
-    ensures { IfOk result (λ text. text ≡ queued_text change.now) }
-{
-    let mut text = Vec::from_slice(alloc, b"queued: the hub has not answered yet")?;
-    if let Some(looseness) = looseness_of(mask_added(change)) {
-        text.extend_from_slice(b"; ")?;
-        text.extend_from_slice(looseness.warning().as_bytes())?;
-    }
-    Ok(Text::new(text))
-}
-
 // The hostmask that a change adds to a user, or the empty text if it adds none.
-fn mask_added(change: &Change) -> &[u8]
+pub(crate) fn mask_added(change: &Change) -> &[u8]
     ensures { result.now ≡ mask_added change.now }
 {
     match change {

@@ -10,11 +10,12 @@ ghost use Rattle.userfile.specs.Held.{user_of};
 
 use crate::args::{nick_of, told_of};
 use crate::lines::notice;
-use crate::outcomes::{queued_text, refusal_text};
+use crate::outcomes::{mask_added, refusal_text};
 use crate::pairs::two;
 use crate::rights::{OWNER, Requester, is_owner, standing_of};
 use bytetext::{NoMemory, Text, after_word, first_word};
 use flagexpr::Flags;
+use loosemask::looseness_of;
 use outqueue::Queue;
 use procs::{Action, Actions, Call, PutWish, View, starts_with_word};
 use std::alloc::Global;
@@ -134,7 +135,7 @@ fn handle_in(change: &Change) -> &[u8]
     }
 }
 
-// The request of a change, or a NOTICE of why the userfile refuses it.
+// The request of a change, with a warning if it adds a loose hostmask, or a NOTICE of why the userfile refuses it.
 pub(crate) fn asked_unless(
     alloc: Global,
     fault: Option<ChangeFault>,
@@ -148,11 +149,13 @@ pub(crate) fn asked_unless(
             let words = refusal_text(alloc, fault)?;
             only_told(alloc, call, words.as_bytes())
         }
-        None => {
-            let words = queued_text(alloc, &change)?;
-            let answer = told(alloc, call, words.as_bytes())?;
-            two(alloc, Action::Ask(change), answer)
-        }
+        None => match looseness_of(mask_added(&change)) {
+            Some(looseness) => {
+                let warning = told(alloc, call, looseness.warning().as_bytes())?;
+                two(alloc, Action::Ask(change), warning)
+            }
+            None => Actions::one(alloc, Action::Ask(change)),
+        },
     }
 }
 

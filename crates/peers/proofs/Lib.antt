@@ -1,6 +1,15 @@
 pub mod StreamLemmas
-mod CodeLemmas
-mod KeyLemmas
+pub mod WordLemmas
+pub mod HashLemmas
+pub mod TextLemmas
+pub mod BookLemmas
+pub mod ShownLemmas
+pub mod SecretLemmas
+pub mod MeetingLemmas
 pub mod WaitingLemmas
-pub mod JoiningLemmas
 pub mod SpeakerLemmas
+pub mod BeatLemmas
+pub mod SealLemmas
+pub mod PickingLemmas
+pub mod HearingLemmas
+mod JoiningLemmas

@@ -4,30 +4,25 @@ use Rattle.std.specs.List.{list_any}
 use Rattle.std.specs.declared.net.ip_addr.IpAddr.{IpAddr}
 use Rattle.std.specs.Net.Grammar.{IsIpText}
 use Rattle.settings.specs.declared.settings.Address.{Address}
+use Rattle.peers.specs.declared.hub_connection.Hub.{Hub as HubState}
+use Rattle.peers.specs.declared.hub_connection.Hub.TheVariants.{Meets, Linked}
 use Rattle.peers.specs.declared.hub_connection.HubConnection.{HubConnection}
 use Rattle.peers.specs.declared.hub_links.HubLinks.{HubLinks}
 use Rattle.peers.specs.declared.links.Links.{Links}
 use Rattle.peers.specs.declared.links.Links.TheVariants.{Alone, Hub, Leaf}
-use Rattle.peers.specs.declared.meeting.Stage.{Stage}
-use Rattle.peers.specs.declared.meeting.Stage.TheVariants.{Meets, Knows, Linked}
 use Rattle.peers.specs.declared.seat.Seat.{Seat}
-use Rattle.peers.specs.declared.meeting.Hub.{Hub as Meeting}
 
 -- packets go to and come from the hub
-abbrev pub IsLinked : Option Meeting → Type 0
+abbrev pub IsLinked : Option HubState → Type 0
 IsLinked None = ⊥
-IsLinked (Some hub) = hub.stage ≡ Linked
+IsLinked (Some (Meets meeting)) = ⊥
+IsLinked (Some (Linked link)) = Unit {0}
 
--- the leaf reads from the hub at this stage: not while it has still to save the number of its net
-abbrev pub IsHeardAt : Stage → Type 0
-IsHeardAt Meets = Unit {0}
-IsHeardAt (Knows net) = ⊥
-IsHeardAt Linked = Unit {0}
-
--- the leaf reads from the hub
-abbrev pub IsHeard : Option Meeting → Type 0
+-- The leaf reads from the hub: not once the hub has shown its code and the leaf has still to save something.
+abbrev pub IsHeard : Option HubState → Type 0
 IsHeard None = ⊥
-IsHeard (Some hub) = IsHeardAt hub.stage
+IsHeard (Some (Meets meeting)) = meeting.joined ≡ None
+IsHeard (Some (Linked link)) = Unit {0}
 
 -- a linked leaf has this place
 abbrev pub IsTaken : Option (Option Seat) → Type 0
@@ -41,9 +36,9 @@ Reaches to Alone = ⊥
 Reaches to (Hub hub) = IsTaken (slice_get hub.seats.items to)
 Reaches to (Leaf leaf) = IsLinked leaf.hub
 
--- somebody is connected to the hub: a guest that has shown no code yet, or a leaf
+-- somebody is connected to the hub: a guest that is not welcomed yet, or a leaf
 abbrev pub has_somebody : HubLinks → Bool
-has_somebody hub = not (length hub.guests.items == 0) || list_any is_some hub.seats.items
+has_somebody hub = not (length hub.guests.list.items == 0) || list_any is_some hub.seats.items
 
 -- a hub to which somebody is connected, or a leaf that reads from its hub
 abbrev pub Hears : Links → Type 0

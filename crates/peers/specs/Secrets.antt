@@ -1,8 +1,19 @@
 -- The line of a secret, and what the errors of Linux mean for its file.
-use Rattle.std.specs.Prelude.{ℕ, List, [], ◌∷◌, ◌-◌, if◌then◌else◌, ◌==◌, Option, Some, None, position, take, drop, length}
+use Rattle.std.specs.Prelude.{ℕ, List, [], ◌∷◌, ◌++◌, ◌-◌, if◌then◌else◌, ◌==◌, ◌||◌, nat_lt, Option, Some, None, Result, Ok, Err}
+use Rattle.std.specs.Prelude.{position, take, drop, length, codes, decimal}
 use Rattle.std.specs.Str.{bytes_eq}
+use Rattle.hex.specs.Hex.{encode_lower, decode_sized}
+use Rattle.hex.specs.declared.error.FromHexError.{FromHexError}
+use Rattle.sealing.specs.Hmac.{block_of, hmac_of}
+use Rattle.peers.specs.declared.secret.Secret.{Secret}
+use Rattle.peers.specs.declared.secret.Secret.TheVariants.{Net, Leaf}
 use Rattle.peers.specs.declared.secret.SecretFault.{SecretFault}
-use Rattle.peers.specs.declared.secret.SecretFault.TheVariants.{Unreadable, ProcessFiles, MachineFiles, NoMemory, DiskFails}
+use Rattle.peers.specs.declared.secret.SecretFault.TheVariants.{Unreadable, ProcessFiles, MachineFiles, NoMemory, DiskFails, Length, BadLeafKey}
+use Rattle.peers.specs.Digits.{are_digits}
+use Rattle.peers.specs.Keys.{leaf_key_text}
+use Rattle.peers.specs.Lines.{line_feed}
+use Rattle.peers.specs.Numbers.{leaf_in}
+use Rattle.peers.specs.Reading.{word_of, rest_of}
 
 -- EIO, ENOMEM, ENFILE, EMFILE
 abbrev pub secret_causes : List (ℕ × SecretFault)
@@ -27,3 +38,40 @@ line_to (Some end) bytes = without_cr (take end bytes)
 -- the first line of these bytes, without the LF or CR LF that ends it
 abbrev pub secret_line : List ℕ → List ℕ
 secret_line bytes = line_to (position (λ b. b == 10) bytes) bytes
+
+-- ---- leaf-key N KEY: a leaf's key
+
+abbrev pub line_of_digits : ℕ → List ℕ → List ℕ
+line_of_digits leaf digits = codes "leaf-key " ++ decimal leaf ++ codes " " ++ digits ++ line_feed
+
+-- the HMAC that the leaf's key is made of, as digits
+abbrev pub leaf_file_line : List ℕ → ℕ → List ℕ
+leaf_file_line secret leaf = line_of_digits leaf (encode_lower (hmac_of secret (leaf_key_text leaf)))
+
+abbrev pub decoded : Result (List ℕ) FromHexError → Option (List ℕ)
+decoded (Ok bytes) = Some bytes
+decoded (Err error) = None
+
+-- 64 digits as 32 bytes
+abbrev pub raw_key_in : List ℕ → Option (List ℕ)
+raw_key_in word = if are_digits 64 word then decoded (decode_sized word 32) else None
+
+abbrev pub leaf_secret : Option ℕ → Option (List ℕ) → Result Secret SecretFault
+leaf_secret (Some leaf) (Some key) = Ok (Leaf leaf (block_of key))
+leaf_secret (Some leaf) None = Err BadLeafKey
+leaf_secret None key = Err BadLeafKey
+
+-- the words after the first
+abbrev pub leaf_secret_in : List ℕ → Result Secret SecretFault
+leaf_secret_in words = leaf_secret (leaf_in (word_of words)) (raw_key_in (rest_of words))
+
+-- ---- every other line is the net's secret
+
+abbrev pub net_secret_in : List ℕ → Result Secret SecretFault
+net_secret_in line = if nat_lt (length line) 16 || nat_lt 200 (length line) then Err Length else Ok (Net (block_of line))
+
+abbrev pub secret_in_line : List ℕ → Result Secret SecretFault
+secret_in_line line = if bytes_eq (take 9 line) (codes "leaf-key ") then leaf_secret_in (drop 9 line) else net_secret_in line
+
+abbrev pub secret_in : List ℕ → Result Secret SecretFault
+secret_in bytes = secret_in_line (secret_line bytes)

@@ -10,17 +10,17 @@ use std::net::SocketAddr;
 #[derive(Drop)]
 pub(crate) enum Entry<'a> {
     // A leaf is linked.
-    Joined(u16),
+    Joined(u16, SocketAddr),
     // A leaf is disconnected.
-    LeafGone(u16, Gone),
-    // A guest is disconnected: a connection that has not shown a code.
-    GuestGone(Gone),
+    LeafGone(u16, SocketAddr, Gone),
+    // A connection that was not welcomed is closed; the number of the leaf, if it has shown its code.
+    GuestGone(Option<u16>, SocketAddr, Gone),
     // The leaf begins to connect to the hub.
     Dialled(&'a [u8], SocketAddr),
     // An attempt to connect to the hub could not begin; the second at which the next one is due.
     NotDialled(&'a [u8], DialFault, u64),
     // The hub is linked.
-    Linked,
+    Linked(SocketAddr),
     // The hub is disconnected; the second at which the next attempt is due.
     HubGone(Gone, u64),
 }
@@ -28,9 +28,16 @@ pub(crate) enum Entry<'a> {
 impl Display for Entry<'_> {
     fn fmt<W: fmt::Write>(&self, f: &mut fmt::Formatter<W>) -> fmt::Result {
         match *self {
-            Entry::Joined(leaf) => write!(f, "leaf {leaf} linked"),
-            Entry::LeafGone(leaf, gone) => write!(f, "leaf {leaf} gone: {gone}"),
-            Entry::GuestGone(gone) => write!(f, "a connection closed: {gone}"),
+            Entry::Joined(leaf, address) => write!(f, "leaf {leaf} linked from {address}"),
+            Entry::LeafGone(leaf, address, gone) => {
+                write!(f, "leaf {leaf} at {address} gone: {gone}")
+            }
+            Entry::GuestGone(Some(leaf), address, gone) => {
+                write!(f, "leaf {leaf} at {address} refused: {gone}")
+            }
+            Entry::GuestGone(None, address, gone) => {
+                write!(f, "a connection from {address} closed: {gone}")
+            }
             Entry::Dialled(host, address) => {
                 write!(
                     f,
@@ -45,7 +52,7 @@ impl Display for Entry<'_> {
                     host.escape_bytes()
                 )
             }
-            Entry::Linked => f.write_str("linked to the hub"),
+            Entry::Linked(address) => write!(f, "linked to the hub at {address}"),
             Entry::HubGone(gone, due) => write!(f, "hub lost: {gone}; next try at {due}"),
         }
     }

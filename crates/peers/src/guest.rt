@@ -1,32 +1,58 @@
-// A connection to the hub that has not shown a code.
-ghost use Rattle.std.specs.Prelude.{◌≡◌, List, ℕ, IfOk};
-ghost use Rattle.peers.specs.Joining.{IsInTime, IsShown};
+// A connection to the hub that has not been welcomed.
+ghost use Rattle.std.specs.Prelude.{◌≡◌, ◌≤◌};
+ghost use Rattle.peers.specs.declared.link_wire.TheConstants.{MAX_SEALED};
+ghost use Rattle.peers.specs.Shown.{HasShown};
 
+use crate::book::Book;
+use crate::frame_reader::FrameReader;
 use crate::gone::Gone;
+use crate::guest_stage::{Asked, GuestStage};
 use crate::handshake_fault::HandshakeFault;
+use crate::handshake_refusal::HandshakeRefusal;
+use crate::home::Home;
 use crate::hub_side::{HubHears, HubSide};
 use crate::late::is_late;
-use crate::link_wire::LinkWire;
+use crate::link_wire::{LinkWire, WireKeys};
+use crate::own::{HeldParts, Own};
+use crate::seat::Seat;
+use crate::verdict::{Verdict, verdict_at};
+use crate::welcome::Welcome;
 use bytetext::NoMemory;
+use net::{Connection, TcpSocket};
+use std::alloc::Global;
+use std::net::SocketAddr;
 
-// A connection that has not shown a code.
+// A connection that has not been welcomed.
 pub(crate) struct Guest {
-    pub(crate) wire: LinkWire,
+    pub(crate) connection: Connection<TcpSocket>,
     pub(crate) side: HubSide,
+    pub(crate) stage: GuestStage,
     // The second of the monotonic clock at which it arrived.
     pub(crate) began: u64,
     // Which of the hub's tokens names it.
     pub(crate) slot: usize,
+    pub(crate) address: SocketAddr,
+    pub(crate) home: Home,
+    // How many guests are of its home, with itself.
+    pub(crate) crowd: usize,
+    // A guest that asks has shown its code on this connection.
+    pub(crate) ghost shown: { ∥ HasShown side connection.heard.items stage ∥₁ },
+    // There is room for all that will be sealed.
+    pub(crate) ghost wide: { MAX_SEALED ≤ connection.bounds.unsent },
 }
 
 // Written by hand, so that the drop is proved once, and not in each function that drops one.
 impl Drop for Guest {
     fn drop(self) {
         let Guest {
-            wire: _,
+            connection: _,
             side: _,
+            stage: _,
             began: _,
             slot: _,
+            address: _,
+            home: _,
+            crowd: _,
         } = self;
     }
 }
@@ -36,59 +62,160 @@ impl Drop for Guest {
 pub(crate) enum Heeded {
     // The guest has to send more. Whether a byte arrived.
     Waits(bool),
-    // The guest is this leaf.
-    Joins(u16),
+    // The guest has shown its code.
+    Asks,
     // The guest is to be disconnected.
     Goes(Gone),
 }
 
 impl Guest {
-    // Reads from the guest, and answers it, when the monotonic clock shows second `steady`.
+    ghost use Rattle.std.specs.Prelude.{◌≡◌, IfOk};
+    ghost use Rattle.peers.specs.Joining.{IsInTime, IsOfBook, Takes, asked_of, verdict_of};
+    ghost use Rattle.peers.specs.declared.verdict.Verdict.TheVariants.{Joins};
+    ghost use Rattle.peers.specs.declared.guest_stage.GuestStage.TheVariants.{Meets};
+
+    // Reads from the guest when the monotonic clock shows second `steady`.
     pub(crate) fn heed(&mut self, steady: u64) -> Result<Heeded, NoMemory>
-        // A guest that is a leaf has shown its code on this connection.
-        ensures shown { IfOk result (λ heeded. IsShown self.old.side self.old.wire.connection.heard.items heeded
-            self.new.wire.connection.heard.items) }
-        ensures side { self.new.side ≡ self.old.side }
         ensures in_time { IfOk result (IsInTime self.old.began steady) }
+        ensures side { self.new.side ≡ self.old.side }
+        ensures home { self.new.home ≡ self.old.home }
+        ensures crowd { self.new.crowd ≡ self.old.crowd }
     {
-        let came = self.wire.connection.read(1)?;
-        match self.side.hear(self.wire.connection.heard.as_slice()) {
-            HubHears::More => Ok(self.wait(came, steady)),
-            HubHears::Welcome { leaf, used, line } => {
-                let _fits = self.wire.connection.tell(line.as_bytes(), b"")?;
-                self.wire.connection.take_front(used);
-                Ok(Heeded::Joins(leaf))
-            }
-            HubHears::Refused { fault, line } => {
-                let _fits = self.wire.connection.tell(line.as_bytes(), b"")?;
-                let _sent = self.wire.connection.send();
-                Ok(Heeded::Goes(Gone::Handshake(fault)))
-            }
+        match self.stage {
+            GuestStage::Meets => self.meet(steady),
+            GuestStage::Asks(_) | GuestStage::Enters(_) => Ok(self.wait(false, steady)),
         }
     }
 
-    // Returns the guest's connection, and which token names it.
-    pub(crate) fn into_parts(self) -> (LinkWire, usize) {
+    // Reads from a guest that has not shown a code.
+    fn meet(&mut self, steady: u64) -> Result<Heeded, NoMemory>
+        requires meets { self.old.stage ≡ Meets }
+        ensures in_time { IfOk result (IsInTime self.old.began steady) }
+        ensures side { self.new.side ≡ self.old.side }
+        ensures home { self.new.home ≡ self.old.home }
+        ensures crowd { self.new.crowd ≡ self.old.crowd }
+    {
+        let came = self.connection.read(1)?;
+        match self.side.hear(self.connection.heard.as_slice()) {
+            HubHears::More => Ok(self.wait(came, steady)),
+            HubHears::Asks { used, ask } => {
+                self.stage = GuestStage::Asks(Asked { used, ask });
+                Ok(Heeded::Asks)
+            }
+            HubHears::Refused(fault) => Ok(Heeded::Goes(Gone::Handshake(fault))),
+        }
+    }
+
+    // The guest has not sent a whole line yet, or waits to be welcomed.
+    fn wait(&self, came: bool, steady: u64) -> Heeded
+        ensures { IsInTime self.now.began steady result }
+    {
+        if self.connection.is_over {
+            Heeded::Goes(self.left())
+        } else if is_late(self.began, steady) {
+            Heeded::Goes(Gone::Handshake(HandshakeFault::TooLate))
+        } else {
+            Heeded::Waits(came)
+        }
+    }
+
+    // Why a connection that is over ended.
+    fn left(&self) -> Gone {
+        if self.connection.heard.is_empty() {
+            Gone::Left
+        } else {
+            Gone::Ended
+        }
+    }
+
+    // What a guest that has shown its code asks.
+    pub(crate) fn asked(&self) -> Option<Asked>
+        ensures { result ≡ asked_of self.now.stage }
+    {
+        match self.stage {
+            GuestStage::Meets => None,
+            GuestStage::Asks(asked) | GuestStage::Enters(asked) => Some(asked),
+        }
+    }
+
+    // Whether the guest is being entered in the book as this leaf.
+    pub(crate) fn is_entering(&self, leaf: u16) -> bool {
+        match self.stage {
+            GuestStage::Enters(asked) => asked.ask.words.leaf == leaf,
+            GuestStage::Meets | GuestStage::Asks(_) => false,
+        }
+    }
+
+    // What is to be done with the guest, by the hub's book and what is known of the hub.
+    #[tactic(auto, using(crate::proofs::JoiningLemmas::joins_in_book))]
+    pub(crate) fn verdict(&self, book: &Book, own: &Own) -> Verdict
+        ensures verdict { result ≡ verdict_of self.now.side book.now own.now self.now.stage }
+        // Only a guest whose folder is in the book joins.
+        ensures in_book { result ≡ Joins → IsOfBook book.now self.now.stage }
+    {
+        let Some(asked) = self.asked() else {
+            return Verdict::Waits;
+        };
+        let words = &asked.ask.words;
+        let place = book.place(words.leaf, &words.made);
+        match self
+            .side
+            .judge(&asked.ask, place, &own.progress_for(words.leaf))
+        {
+            Some(refusal) => Verdict::Refuses(refusal),
+            None => verdict_at(place),
+        }
+    }
+
+    // Tells a guest that has shown its code why it is refused, and offers the socket the line.
+    pub(crate) fn refuse(&mut self, refusal: HandshakeRefusal) -> Result<(), NoMemory> {
+        if let Some(asked) = self.asked() {
+            let line = self.side.refuse(&asked.ask, refusal);
+            let _fits = self.connection.tell(line.as_bytes(), b"")?;
+            let _sent = self.connection.send();
+        }
+        Ok(())
+    }
+
+    // Queues the line that welcomes a guest which has shown its code, and makes its connection a seat. Returns `None` if
+    // the guest has shown none.
+    pub(crate) fn into_seat(
+        self,
+        alloc: Global,
+        welcome: &Welcome,
+    ) -> Result<Option<Seat>, NoMemory>
+        // Only a leaf that has shown its code on this connection takes its seat.
+        ensures takes { IfOk result (Takes self welcome.now) }
+    {
+        let Some(asked) = self.asked() else {
+            return Ok(None);
+        };
         let Guest {
-            wire,
-            side: _,
+            mut connection,
+            side,
+            stage: _,
             began: _,
             slot,
+            address,
+            home: _,
+            crowd: _,
         } = self;
-        (wire, slot)
-    }
-
-    // The guest has not sent a whole line yet.
-    fn wait(&self, came: bool, steady: u64) -> Heeded
-        ensures shown { (before rest : List ℕ) → IsShown self.now.side before result rest }
-        ensures in_time { IsInTime self.now.began steady result }
-    {
-        match self.wire.gone() {
-            Some(gone) => Heeded::Goes(gone),
-            None if is_late(self.began, steady) => {
-                Heeded::Goes(Gone::Handshake(HandshakeFault::TooLate))
-            }
-            None => Heeded::Waits(came),
-        }
+        let line = side.welcome(&asked.ask, &welcome.own, welcome.may);
+        let _fits = connection.tell(line.as_bytes(), b"")?;
+        connection.take_front(asked.used);
+        let keys = WireKeys::of_hub(&side.keys(&asked.ask, &welcome.own, welcome.may));
+        Ok(Some(Seat {
+            wire: LinkWire::new(alloc, connection, &keys, welcome.steady),
+            reader: FrameReader::new(alloc),
+            leaf: asked.ask.words.leaf,
+            made: asked.ask.words.made,
+            may: welcome.may,
+            version: asked.ask.words.progress.version,
+            held: HeldParts::nothing(),
+            beat: None,
+            slot,
+            address,
+            since: welcome.since,
+        }))
     }
 }

@@ -2,11 +2,11 @@
 ghost use Rattle.std.specs.Prelude.{◌≡◌, ◌<◌, ◌≤◌, decimal, drop, length, take, IfSome};
 ghost use Rattle.std.specs.List.{prefix_len};
 ghost use Rattle.std.specs.Str.{bytes_eq};
-ghost use Rattle.peers.specs.Reading.{as_written, is_letter, line_len, number_in, rest_of, word_of};
+ghost use Rattle.peers.specs.Numbers.{as_written, digit_onto, leaf_in, number_in, wide_from, wide_in};
+ghost use Rattle.peers.specs.Reading.{is_letter, line_len, rest_of, word_of};
 
 use crate::MAX_LINE;
 use itoa::Buffer;
-use settings::value_of_digits;
 
 /// Returns the length of the first line of `heard` without its line feed, if the first 200 bytes contain that line
 /// feed.
@@ -61,8 +61,8 @@ fn word_len(words: &[u8]) -> usize
     words.iter().take_while(|byte| **byte != b' ').count()
 }
 
-// All bytes but the first.
-fn after_one(bytes: &[u8]) -> &[u8]
+/// Returns all bytes but the first.
+pub(crate) fn after_one(bytes: &[u8]) -> &[u8]
     ensures { result.now ≡ drop 1 bytes.now }
 {
     match bytes {
@@ -75,11 +75,31 @@ fn after_one(bytes: &[u8]) -> &[u8]
 pub fn number_in(word: &[u8]) -> Option<u16>
     ensures { result ≡ number_in word.now }
 {
-    as_written(word, value_of_digits(word))
+    match wide_in(word) {
+        Some(value) if value < 65_536 => Some(value as u16),
+        Some(_) | None => None,
+    }
+}
+
+/// Parses `word` as the number of a leaf, from 1.
+pub(crate) fn leaf_in(word: &[u8]) -> Option<u16>
+    ensures { result ≡ leaf_in word.now }
+{
+    match number_in(word) {
+        Some(0) | None => None,
+        Some(leaf) => Some(leaf),
+    }
+}
+
+/// Parses `word` as a number below 4,294,967,296 without leading zeros.
+pub fn wide_in(word: &[u8]) -> Option<u32>
+    ensures { result ≡ wide_in word.now }
+{
+    as_written(word, value_of(word))
 }
 
 // The number, if the word is how it is written.
-fn as_written(word: &[u8], value: Option<u16>) -> Option<u16>
+fn as_written(word: &[u8], value: Option<u32>) -> Option<u32>
     ensures { result ≡ as_written word.now value }
 {
     let value = value?;
@@ -91,9 +111,35 @@ fn as_written(word: &[u8], value: Option<u16>) -> Option<u16>
 }
 
 // Whether a number is written as this word.
-fn is_written(word: &[u8], value: u16) -> bool
+fn is_written(word: &[u8], value: u32) -> bool
     ensures { result ≡ bytes_eq (decimal value) word.now }
 {
     let mut buffer = Buffer::new();
     buffer.format(value).as_bytes() == word
+}
+
+// The number that the digits of `word` stand for, if it is below 4,294,967,296. An empty `word` stands for 0.
+fn value_of(word: &[u8]) -> Option<u32>
+    ensures { result ≡ wide_from 0 word.now }
+{
+    let mut value: u32 = 0;
+    for byte in word {
+        value = digit_onto(value, *byte)?;
+    }
+    Some(value)
+}
+
+// The number that one more digit makes of `value`, if it is below 4,294,967,296.
+fn digit_onto(value: u32, byte: u8) -> Option<u32>
+    ensures { result ≡ digit_onto value byte }
+{
+    if byte < 48 || byte > 57 {
+        return None;
+    }
+    let longer = u64::from(value) * 10 + u64::from(byte - 48);
+    if longer < 4_294_967_296 {
+        Some(longer as u32)
+    } else {
+        None
+    }
 }

@@ -1,23 +1,27 @@
 // A leaf's connection to its hub.
-ghost use Rattle.std.specs.Prelude.{◌≡◌, ◌<◌, ◌↔◌, Some, IsTrue, IfErr, OnOk, OnErr};
+ghost use Rattle.std.specs.Prelude.{◌≡◌, ◌<◌, ◌↔◌, None, Some, IsTrue, IfErr, IfOk, OnOk, OnErr};
+ghost use Rattle.bytetext.specs.declared.moment.TheConstants.{MOMENTS_END};
+ghost use Rattle.sharelink.specs.Shapes.{HasGoodRecords};
 ghost use Rattle.sharewire.specs.Frames.{CanBeWritten};
 ghost use Rattle.peers.specs.Linked.{IsHeard, IsLinked, IsName, LooksUp};
 ghost use Rattle.peers.specs.Tells.{TellsHub};
-ghost use Rattle.bytetext.specs.declared.moment.TheConstants.{MOMENTS_END};
-ghost use Rattle.sharelink.specs.Shapes.{HasGoodRecords};
 
+use crate::beat::Beat;
+use crate::drawn_number::DrawnNumber;
 use crate::entry::Entry;
 use crate::gone::Gone;
+use crate::handshake_progress::{LeafRights, Progress};
+use crate::hub_link::HubLink;
 use crate::inbox::Inbox;
-use crate::key::Key;
 use crate::leaf_side::LeafSide;
-use crate::link_wire::LinkWire;
-use crate::meeting::{Hub, Stage};
-use crate::net_number::NetNumber;
+use crate::link_wire::BOUNDS;
+use crate::meeting::Meeting;
 use crate::nonce::Nonce;
+use crate::own::Own;
 use crate::pumps::Pumps;
+use crate::stations::LeafStation;
 use bytetext::{Failure, NoMemory};
-use net::{DialTokens, Dialled, Dialling, Log, Registry};
+use net::{Connection, DialTokens, Dialled, Dialling, Log, Registry};
 use settings::Address;
 use sharewire::Packet;
 use std::alloc::Global;
@@ -35,70 +39,75 @@ const TOKEN: usize = 5;
 // The token under which the lookup of the hub's name is watched.
 const LOOKUP: usize = 7;
 
+// A connection to the hub.
+#[derive(Drop)]
+pub(crate) enum Hub {
+    // Before the first record.
+    Meets(Meeting),
+    // Packets go both ways.
+    Linked(HubLink),
+}
+
 /// A leaf's connection to its hub, if there is one, and what outlasts a connection.
 pub struct HubConnection {
-    key: Key,
-    leaf: u16,
-    // The number of the leaf's net, once the leaf knows it.
-    pub(crate) net: Option<NetNumber>,
+    alloc: Global,
+    pub(crate) station: LeafStation,
     pub(crate) dialling: Dialling,
     pub(crate) hub: Option<Hub>,
     pub(crate) inbox: Inbox,
     /// When the leaf is to say hello.
     pub pumps: Pumps,
+    // What the leaf may do, as its hub said last.
+    pub(crate) may: LeafRights,
     // The second of this turn by the monotonic clock.
-    steady: u64,
+    pub(crate) steady: u64,
 }
 
 // Written by hand, so that the drop is proved once, and not in each function that drops one.
 impl Drop for HubConnection {
     fn drop(self) {
         let HubConnection {
-            key: _,
-            leaf: _,
-            net: _,
+            alloc: _,
+            station: _,
             dialling: _,
             hub: _,
             inbox: _,
             pumps: _,
+            may: _,
             steady: _,
         } = self;
     }
 }
 
 impl HubConnection {
-    /// Creates the link of the leaf numbered `leaf`, which knows the secret of `key`. There is no connection yet, and
-    /// an attempt to connect is due at once. `net` is the number of the net that the leaf keeps, if it keeps one.
+    /// Creates the link of the leaf of `station`. There is no connection yet, and an attempt to connect is due at once.
     ///
     /// # Errors
     /// `NoMemory` if an allocation fails.
-    pub fn new(
-        alloc: Global,
-        leaf: u16,
-        key: Key,
-        net: Option<NetNumber>,
-    ) -> Result<HubConnection, NoMemory> {
+    pub fn new(alloc: Global, station: LeafStation) -> Result<HubConnection, NoMemory> {
         Ok(HubConnection {
-            key,
-            leaf,
-            net,
-            dialling: Dialling::new(leaf, LONGEST_WAIT, 1),
+            alloc,
+            station,
+            dialling: Dialling::new(station.leaf, LONGEST_WAIT, 1),
             hub: None,
             inbox: Inbox::new(alloc, 1)?,
             pumps: Pumps::new(),
+            may: LeafRights::Asks,
             steady: 0,
         })
     }
 
-    /// Begins a turn at second `steady` of the monotonic clock, by which the handshake's time limit is measured. Notes
-    /// that the connection may have something to read if `tokens`, those of a wait, name it.
+    /// Begins a turn at second `steady` of the monotonic clock, by which the time limits are measured. Notes that the
+    /// connection may have something to read if `tokens`, those of a wait, name it.
     pub fn wake(&mut self, tokens: &[usize], steady: u64)
         ensures steady { self.new.steady ≡ steady }
     {
         self.steady = steady;
-        if let Some(hub) = &mut self.hub {
-            if tokens.contains(&TOKEN) {
-                hub.wire.connection.wake();
+        if tokens.contains(&TOKEN) {
+            match &mut self.hub {
+                Some(Hub::Meets(meeting)) => meeting.connection.wake(),
+                Some(Hub::Linked(link)) => link.wire.connection.wake(),
+                None => {}
             }
         }
     }
@@ -176,18 +185,55 @@ impl HubConnection {
             self.dialling.lost(now);
             return false;
         };
-        let Dialled { socket, address: _ } = dialled;
-        let wire = LinkWire::new(rt.alloc(), socket);
-        let side = LeafSide::new(self.key, self.leaf, self.net, nonce);
-        self.hub = Some(Hub::new(rt.alloc(), wire, side, self.steady));
+        let Dialled { socket, address } = dialled;
+        let connection = Connection::new(rt.alloc(), socket, BOUNDS);
+        let side = self.side(nonce);
+        self.hub = Some(Hub::Meets(Meeting::new(connection, side, address, self.steady)));
         true
+    }
+
+    // The leaf's side of a new connection. The process has still to tell how far the leaf has come.
+    fn side(&self, nonce: Nonce) -> LeafSide {
+        LeafSide {
+            key: self.station.key,
+            leaf: self.station.leaf,
+            leaves: self.station.leaves,
+            net: self.station.net,
+            made: self.station.made,
+            own: Progress {
+                version: 0,
+                sum: [b'0'; 16],
+                last: 0,
+            },
+            nonce,
+            greeted: None,
+        }
+    }
+
+    /// Whether the process is to tell what it knows of its bot in this turn: the leaf is to answer the hub's greeting,
+    /// has begun another journal, or a beat is due.
+    pub fn wants_own(&self) -> bool {
+        match &self.hub {
+            Some(Hub::Meets(meeting)) => meeting.wants_own(),
+            Some(Hub::Linked(link)) => link.wire.wants_beat(self.steady),
+            None => false,
+        }
+    }
+
+    /// The process tells what it knows of its bot.
+    pub fn tell_own(&mut self, own: Own) {
+        match &mut self.hub {
+            Some(Hub::Meets(meeting)) => meeting.tell_own(&own),
+            Some(Hub::Linked(link)) => link.say_if_due(Beat::of(&own), self.steady),
+            None => {}
+        }
     }
 
     /// Reads from the hub at second `now`. Returns whether there may be more at once.
     ///
     /// # Errors
-    /// `NoMemory` if an allocation fails: never without a connection, nor while the leaf has still to save the number
-    /// of the hub's net.
+    /// `NoMemory` if an allocation fails: never without a connection, nor once the hub has shown its code and the leaf has
+    /// still to save something.
     pub fn read<R: AllocGlobal>(
         &mut self,
         rt: &R,
@@ -196,75 +242,93 @@ impl HubConnection {
     ) -> Result<bool, NoMemory>
         ensures memory { IfErr result (λ _. IsHeard self.old.hub) }
     {
-        let net = self.net;
         let steady = self.steady;
-        let Some(hub) = &mut self.hub else {
-            return Ok(false);
-        };
-        match hub.stage {
-            Stage::Meets => {
-                let came = hub.meet(steady)?;
-                self.join(log, net.is_some(), now);
+        match &mut self.hub {
+            Some(Hub::Meets(meeting)) => {
+                let came = meeting.meet(steady)?;
+                self.link_if_ready(log, now);
                 Ok(came)
             }
-            Stage::Knows(_) => Ok(false),
-            Stage::Linked => self.hear(rt.alloc()),
-        }
-    }
-
-    // Links the hub if it has just shown its code, and the leaf keeps the number of its net already.
-    fn join(&mut self, log: &mut Log, keeps: bool, now: u64) {
-        if keeps && self.found().is_some() {
-            self.link(log, now);
+            Some(Hub::Linked(_)) => self.hear(rt.alloc()),
+            None => Ok(false),
         }
     }
 
     /// Returns the number of the hub's net if the hub has just shown its code, and the leaf keeps no number yet. Save
     /// the number, and then call [`HubConnection::keep`].
-    pub fn to_keep(&self) -> Option<NetNumber> {
-        match self.net {
+    pub fn to_keep(&self) -> Option<DrawnNumber> {
+        match self.station.net {
             Some(_) => None,
             None => self.found(),
         }
     }
 
     // The number of the hub's net, if the hub has just shown its code.
-    fn found(&self) -> Option<NetNumber> {
+    fn found(&self) -> Option<DrawnNumber> {
         match &self.hub {
-            Some(hub) => match hub.stage {
-                Stage::Knows(net) => Some(net),
-                Stage::Meets | Stage::Linked => None,
+            Some(Hub::Meets(meeting)) => match meeting.joined {
+                Some(joined) => Some(joined.answer.net),
+                None => None,
             },
-            None => None,
+            Some(Hub::Linked(_)) | None => None,
         }
     }
 
-    /// Notes that `net`, the number of the hub's net, is saved. The hub is linked at second `now`.
-    pub fn keep(&mut self, log: &mut Log, net: NetNumber, now: u64) {
-        self.net = Some(net);
-        self.link(log, now);
+    /// Notes that `net`, the number of the hub's net, is saved. The hub is linked at second `now`, unless the leaf has to
+    /// begin another journal first.
+    pub fn keep(&mut self, log: &mut Log, net: DrawnNumber, now: u64) {
+        self.station.net = Some(net);
+        self.link_if_ready(log, now);
     }
 
-    // Links the hub: the connection was a good one, and a hello is due.
-    fn link(&mut self, log: &mut Log, now: u64) {
-        if let Some(hub) = &mut self.hub {
-            hub.stage = Stage::Linked;
+    /// Returns the number of the last request that the hub replied to, if the hub has just shown its code, and the leaf
+    /// does not know that request.
+    pub fn to_begin_after(&self) -> Option<u32> {
+        match &self.hub {
+            Some(Hub::Meets(meeting)) => meeting.to_begin_after(),
+            Some(Hub::Linked(_)) | None => None,
         }
+    }
+
+    // Links the hub if it has shown its code, the leaf keeps the number of its net, and its journal is not to be begun
+    // above another request.
+    fn link_if_ready(&mut self, log: &mut Log, now: u64) {
+        if self.station.net.is_none() || self.to_begin_after().is_some() {
+            return;
+        }
+        match self.hub.take() {
+            Some(Hub::Meets(meeting)) => self.link(log, meeting, now),
+            Some(Hub::Linked(link)) => self.hub = Some(Hub::Linked(link)),
+            None => {}
+        }
+    }
+
+    // Links the hub if it has shown its code: the connection was a good one, and a hello is due.
+    fn link(&mut self, log: &mut Log, meeting: Meeting, now: u64) {
+        let (Some(said), Some(joined)) = (meeting.said, meeting.joined) else {
+            self.hub = Some(Hub::Meets(meeting));
+            return;
+        };
+        let link = meeting.into_link(self.alloc, &said, &joined, self.steady, now);
+        log.note(now, &Entry::Linked(link.address));
+        self.hub = Some(Hub::Linked(link));
+        self.may = joined.answer.may;
         self.dialling.good();
         self.pumps.go_on();
-        log.note(now, &Entry::Linked);
     }
 
     // Reads from the hub, unless packets of it wait. Returns whether there may be more at once.
     fn hear(&mut self, alloc: Global) -> Result<bool, NoMemory> {
-        if self.inbox.stream_count() == 0 || self.inbox.count(0) > 0 {
-            return Ok(false);
-        }
-        let Some(hub) = &mut self.hub else {
+        let steady = self.steady;
+        let Some(Hub::Linked(link)) = &mut self.hub else {
             return Ok(false);
         };
-        let packets = hub.hear(alloc)?;
-        let busy = hub.is_busy();
+        if self.inbox.stream_count() == 0 || self.inbox.count(0) > 0 {
+            link.wire.rest(steady);
+            return Ok(false);
+        }
+        let packets = link.hear(alloc, steady)?;
+        let busy = link.is_busy();
         self.inbox.put(0, packets)?;
         Ok(busy)
     }
@@ -274,11 +338,8 @@ impl HubConnection {
         ensures { IsTrue result ↔ IsLinked self.now.hub }
     {
         match &self.hub {
-            Some(hub) => match hub.stage {
-                Stage::Linked => true,
-                Stage::Meets | Stage::Knows(_) => false,
-            },
-            None => false,
+            Some(Hub::Linked(_)) => true,
+            Some(Hub::Meets(_)) | None => false,
         }
     }
 
@@ -287,14 +348,6 @@ impl HubConnection {
         ensures { result ≡ self.now.dialling.waits.due }
     {
         self.dialling.due()
-    }
-
-    /// Returns the number of unsent bytes for the hub.
-    pub fn unsent(&self) -> usize {
-        match &self.hub {
-            Some(hub) => hub.wire.connection.unsent.len(),
-            None => 0,
-        }
     }
 
     /// Queues `packet` for the hub. If the hub is not linked, the packet is lost. A hello counts as said at second
@@ -312,15 +365,30 @@ impl HubConnection {
             self.pumps.say(*version, now);
         }
         match &mut self.hub {
-            Some(hub) => hub.tell(alloc, packet),
-            None => Ok(()),
+            Some(Hub::Linked(link)) => link.wire.tell(alloc, packet),
+            Some(Hub::Meets(_)) | None => Ok(()),
         }
     }
 
-    /// Disconnects the hub at second `now`, if its connection is over.
+    /// Seals what waits for the hub, and offers the connection its unsent bytes. Returns whether it took a byte.
+    ///
+    /// # Errors
+    /// `NoMemory` if an allocation fails: never if the hub is not linked. Nothing is lost.
+    pub fn send(&mut self) -> Result<bool, NoMemory> {
+        match &mut self.hub {
+            Some(Hub::Meets(meeting)) => Ok(meeting.connection.send()),
+            Some(Hub::Linked(link)) => link.wire.send(&None, self.steady),
+            None => Ok(false),
+        }
+    }
+
+    /// Disconnects the hub at second `now`, if its connection is over or silent.
     pub fn let_go(&mut self, log: &mut Log, now: u64)
         requires moment { now < MOMENTS_END }
     {
+        if let Some(Hub::Linked(link)) = &mut self.hub {
+            link.wire.end_if_silent(self.steady);
+        }
         if let Some(gone) = self.gone() {
             self.lose(log, gone, now);
         }
@@ -328,7 +396,8 @@ impl HubConnection {
 
     fn gone(&self) -> Option<Gone> {
         match &self.hub {
-            Some(hub) => hub.wire.gone(),
+            Some(Hub::Meets(meeting)) => meeting.gone(),
+            Some(Hub::Linked(link)) => link.wire.gone(),
             None => None,
         }
     }

@@ -1,30 +1,34 @@
 // The hub's connections to its leaves.
-ghost use Rattle.std.specs.Prelude.{◌≡◌, ◌≢◌, ℕ, OnOk, OnErr, slice_get};
+ghost use Rattle.std.specs.Prelude.{◌≡◌, ◌≢◌, ℕ, None, not, IfOk, OnOk, OnErr, slice_get};
+ghost use Rattle.std.specs.List.{AllByRecursion, filter};
 ghost use Rattle.sharewire.specs.Frames.{CanBeWritten};
-ghost use Rattle.peers.specs.Linked.{IsTaken};
-ghost use Rattle.peers.specs.Tells.{TellsPlace};
 ghost use Rattle.sharelink.specs.Shapes.{HasGoodRecords};
+ghost use Rattle.peers.specs.Linked.{IsTaken};
+ghost use Rattle.peers.specs.Picking.{is_request};
+ghost use Rattle.peers.specs.Tells.{TakesGranted, TellsPlace, granted, in_doubt};
 
-use crate::entry::Entry;
-use crate::gone::Gone;
+use crate::beat::Beat;
+use crate::book::Book;
+use crate::doubt::Doubted;
+use crate::drawn_number::DrawnNumber;
 use crate::guest::Guest;
-use crate::hub_side::HubSide;
+use crate::guests::Guests;
+use crate::handshake_progress::LeafRights;
 use crate::inbox::Inbox;
-use crate::key::Key;
-use crate::link_wire::LinkWire;
 use crate::links::FIRST_TOKEN;
-use crate::net_number::NetNumber;
-use crate::nonce::Nonce;
+use crate::own::Own;
+use crate::picking::is_request;
 use crate::seat::Seat;
+use crate::stations::HubStation;
 use bytetext::NoMemory;
-use net::{DoorFault, Log, Registry, TcpDoor, TcpSocket};
+use net::{DoorFault, Registry, TcpDoor};
+use sealing::Key;
 use sharewire::Packet;
 use std::alloc::Global;
 use std::net::{Net, SocketAddr};
-use std::random::RandomSource;
 
-/// The most connections that have not shown a code.
-pub const MAX_GUESTS: usize = 64;
+/// The most connections that have not been welcomed.
+pub const MAX_GUESTS: usize = 1_024;
 
 // The token under which the door is watched.
 const DOOR: usize = 4;
@@ -36,24 +40,35 @@ pub(crate) enum Who {
     Leaf(u16),
 }
 
-/// The hub's connections: a seat for each leaf, and the guests, which have not shown a code.
+/// The hub's connections: a seat for each leaf, and the guests, which have not been welcomed.
 pub struct HubLinks {
-    door: TcpDoor,
-    key: Key,
-    net: NetNumber,
+    pub(crate) door: TcpDoor,
+    pub(crate) key: Key,
+    pub(crate) net: DrawnNumber,
     pub(crate) leaves: u16,
-    // In the order in which they arrived.
-    pub(crate) guests: Vec<Guest>,
+    // Which folder is which leaf, as the book on the disk says.
+    pub(crate) book: Book,
+    pub(crate) guests: Guests,
     // By the leaf's number; no leaf has the number 0.
     pub(crate) seats: Vec<Option<Seat>>,
+    // By the leaf's number.
+    pub(crate) rights: Vec<LeafRights>,
     // By token.
     pub(crate) slots: Vec<Option<Who>>,
     // By the leaf's number.
     pub(crate) inbox: Inbox,
+    // Which leaves are ahead of the hub, or differ from it, by the leaf's number.
+    pub(crate) doubts: Vec<Option<Doubted>>,
+    // Whether the first of them is on the disk.
+    pub(crate) is_doubt_kept: bool,
+    // What the process has told about its bot in this turn.
+    pub(crate) own: Option<Own>,
     // The last second at which a guest was logged.
     pub(crate) told: u64,
     // The second of this turn by the monotonic clock.
     pub(crate) steady: u64,
+    // The last second of that clock at which no leaf was read, since too much waited.
+    pub(crate) rested: u64,
 }
 
 // Written by hand, so that the drop is proved once, and not in each function that drops one.
@@ -64,12 +79,18 @@ impl Drop for HubLinks {
             key: _,
             net: _,
             leaves: _,
+            book: _,
             guests: _,
             seats: _,
+            rights: _,
             slots: _,
             inbox: _,
+            doubts: _,
+            is_doubt_kept: _,
+            own: _,
             told: _,
             steady: _,
+            rested: _,
         } = self;
     }
 }
@@ -90,8 +111,7 @@ impl From<NoMemory> for ListenFault {
 }
 
 impl HubLinks {
-    /// Listens at `address` for the `leaves` leaves of `net`, which know the secret of `key`. `registry` watches the
-    /// door and the connections.
+    /// Listens at `address` for the leaves of the net of `station`. `registry` watches the door and the connections.
     ///
     /// # Errors
     /// `Door` if the system refuses, and `NoMemory` if an allocation fails.
@@ -99,13 +119,21 @@ impl HubLinks {
         rt: &R,
         registry: &Registry,
         address: SocketAddr,
-        leaves: u16,
-        key: Key,
-        net: NetNumber,
+        station: HubStation,
     ) -> Result<HubLinks, ListenFault> {
         let alloc = rt.alloc();
+        let HubStation {
+            key,
+            net,
+            leaves,
+            readers,
+            book,
+            doubt,
+        } = station;
         let places = usize::from(leaves) + 1;
+        let rights = rights_of(alloc, places, readers.as_slice())?;
         let seats = no_seats(alloc, places)?;
+        let doubts = first_doubts(alloc, places, doubt)?;
         let slots = no_slots(alloc, places + MAX_GUESTS)?;
         let inbox = Inbox::new(alloc, places)?;
         match TcpDoor::open(rt, registry, DOOR, address) {
@@ -114,27 +142,36 @@ impl HubLinks {
                 key,
                 net,
                 leaves,
-                guests: Vec::new(alloc),
+                book,
+                guests: Guests::new(alloc),
                 seats,
+                rights,
                 slots,
                 inbox,
+                doubts,
+                is_doubt_kept: doubt.is_some(),
+                own: None,
                 told: 0,
                 steady: 0,
+                rested: 0,
             }),
             Err(fault) => Err(ListenFault::Door(fault)),
         }
     }
 
-    /// Begins a turn at second `steady` of the monotonic clock, by which the time limit of a handshake is measured. Notes
-    /// that the connections that `tokens`, those of a wait, name may have something to read.
+    /// Begins a turn at second `steady` of the monotonic clock, by which the time limits are measured. Notes that the
+    /// connections that `tokens`, those of a wait, name may have something to read. Nothing is known of the hub's bot
+    /// until the process tells it.
     pub fn wake(&mut self, tokens: &[usize], steady: u64)
         ensures steady { self.new.steady ≡ steady }
+        ensures own { self.new.own ≡ None }
     {
         for token in tokens {
             if *token >= FIRST_TOKEN {
                 self.wake_slot(*token - FIRST_TOKEN);
             }
         }
+        self.own = None;
         self.steady = steady;
     }
 
@@ -153,95 +190,34 @@ impl HubLinks {
     }
 
     fn wake_guest(&mut self, slot: usize) {
-        for guest in self.guests.iter_mut() {
+        for guest in self.guests.list.iter_mut() {
             if guest.slot == slot {
-                guest.wire.connection.wake();
+                guest.connection.wake();
             }
         }
     }
 
-    /// Accepts the connections that wait at second `now`, and greets them. If 64 guests have not shown a code, the
-    /// oldest of them is disconnected for each new one. `registry` watches the connections.
+    /// Whether the process is to tell what it knows of its bot in this turn: a guest has shown its code, a leaf's beat is
+    /// to be compared, or a beat is due.
+    pub fn wants_own(&self) -> bool {
+        has_asking(self.guests.list.as_slice()) || has_due(self.seats.as_slice(), self.steady)
+    }
+
+    /// Returns the packets of one turn: while the hub may be an older copy of itself, no requests.
     ///
     /// # Errors
     /// `NoMemory` if an allocation fails.
-    pub fn let_in<R: AllocGlobal + Net + RandomSource>(
-        &mut self,
-        rt: &R,
-        log: &mut Log,
-        registry: &Registry,
-        now: u64,
-    ) -> Result<(), NoMemory> {
-        for _guest in 0..MAX_GUESTS {
-            let Some(slot) = free_slot(self.slots.as_slice()) else {
-                return Ok(());
-            };
-            let Some(arrival) = self.door.let_in(registry, FIRST_TOKEN.saturating_add(slot)) else {
-                return Ok(());
-            };
-            self.make_way(log, now);
-            self.greet(rt, arrival.socket, slot)?;
-        }
-        Ok(())
+    pub fn take_packets(&mut self, alloc: Global) -> Result<Vec<Packet>, NoMemory>
+        ensures good { IfOk result (λ packets. AllByRecursion HasGoodRecords packets.items) }
+        ensures takes { IfOk result (λ packets. TakesGranted self.old packets.items self.new) }
+    {
+        let is_in_doubt = self.is_in_doubt();
+        let packets = self.inbox.take(alloc)?;
+        Ok(granted(packets, is_in_doubt))
     }
 
-    // Greets a new guest. If the system gives no random bytes, it is disconnected.
-    fn greet<R: AllocGlobal + RandomSource>(
-        &mut self,
-        rt: &R,
-        socket: TcpSocket,
-        slot: usize,
-    ) -> Result<(), NoMemory> {
-        let Ok(nonce) = Nonce::draw(rt) else {
-            return Ok(());
-        };
-        let side = HubSide {
-            key: self.key,
-            net: self.net,
-            leaves: self.leaves,
-            nonce,
-        };
-        let mut wire = LinkWire::new(rt.alloc(), socket);
-        let _fits = wire.connection.tell(side.greeting().as_bytes(), b"")?;
-        self.guests.push(Guest {
-            wire,
-            side,
-            began: self.steady,
-            slot,
-        })?;
-        self.name(slot, Some(Who::Guest));
-        Ok(())
-    }
-
-    // Disconnects the oldest guest if there is no room for another.
-    fn make_way(&mut self, log: &mut Log, now: u64) {
-        if self.guests.len() >= MAX_GUESTS {
-            self.drop_guest(log, 0, Gone::Crowded, now);
-        }
-    }
-
-    // Disconnects the guest at `place`. At most one a second is logged, so that nobody can fill the log; but each guest
-    // that knows the secret and belongs to another net is logged.
-    pub(crate) fn drop_guest(&mut self, log: &mut Log, place: usize, gone: Gone, now: u64) {
-        if place >= self.guests.len() {
-            return;
-        }
-        let guest = self.guests.remove(place);
-        self.name(guest.slot, None);
-        if self.told != now || gone.is_of_other_net() {
-            self.told = now;
-            log.note(now, &Entry::GuestGone(gone));
-        }
-    }
-
-    // Makes the token of `slot` name another connection from now on, or none.
-    pub(crate) fn name(&mut self, slot: usize, who: Option<Who>) {
-        if let Some(named) = self.slots.get_mut(slot) {
-            *named = who;
-        }
-    }
-
-    /// Queues `packet` for the leaf numbered `leaf`. If that leaf is not linked, the packet is lost.
+    /// Queues `packet` for the leaf numbered `leaf`. If that leaf is not linked, or says that it holds the part of a
+    /// snapshot that the packet is, the packet is lost.
     ///
     /// # Errors
     /// `NoMemory` if an allocation fails: never if the leaf is not linked, nor if the packet has no frame.
@@ -256,27 +232,66 @@ impl HubLinks {
             return Ok(());
         };
         match place {
-            Some(seat) => seat.wire.tell(alloc, packet),
+            Some(seat) => seat.tell(alloc, packet),
             None => Ok(()),
         }
     }
 
-    /// Offers each connection its unsent bytes. Returns whether one took a byte.
-    pub fn send(&mut self) -> bool {
-        let guests = send_guests(self.guests.as_mut_slice());
-        let seats = send_seats(self.seats.as_mut_slice());
-        guests || seats
+    /// Seals what waits for each leaf, and offers each connection its unsent bytes. Returns whether one took a byte.
+    ///
+    /// # Errors
+    /// `NoMemory` if an allocation fails: never if no leaf is linked. Nothing is lost.
+    pub fn send(&mut self) -> Result<bool, NoMemory> {
+        let guests = send_guests(self.guests.list.as_mut_slice());
+        let beat = beat_of(&self.own);
+        let seats = send_seats(self.seats.as_mut_slice(), &beat, self.steady)?;
+        Ok(guests || seats)
     }
 
     /// Returns the number of linked leaves.
     pub fn linked(&self) -> usize {
         self.seats.iter().filter(|seat| seat.is_some()).count()
     }
+
+    // Makes the token of `slot` name another connection from now on, or none.
+    pub(crate) fn name(&mut self, slot: usize, who: Option<Who>) {
+        if let Some(named) = self.slots.get_mut(slot) {
+            *named = who;
+        }
+    }
 }
 
-// The first token that names no connection.
-fn free_slot(slots: &[Option<Who>]) -> Option<usize> {
-    slots.iter().position(|who| who.is_none())
+// The packets of a turn that are handed on: in doubt no requests.
+fn granted(packets: Vec<Packet>, is_in_doubt: bool) -> Vec<Packet>
+    ensures { result.items ≡ granted is_in_doubt packets.items }
+{
+    let mut packets = packets;
+    if is_in_doubt {
+        packets.retain(|packet| !is_request(packet));
+    }
+    packets
+}
+
+// What the bot says of itself in a beat, if the process has told it.
+fn beat_of(own: &Option<Own>) -> Option<Beat> {
+    match own {
+        Some(own) => Some(Beat::of(own)),
+        None => None,
+    }
+}
+
+// What each leaf may do, by its number.
+fn rights_of(alloc: Global, places: usize, readers: &[u16]) -> Result<Vec<LeafRights>, NoMemory> {
+    let mut rights = Vec::new(alloc);
+    for _place in 0..places {
+        rights.push(LeafRights::Asks)?;
+    }
+    for leaf in readers {
+        if let Some(right) = rights.get_mut(usize::from(*leaf)) {
+            *right = LeafRights::Reads;
+        }
+    }
+    Ok(rights)
 }
 
 // Creates `places` empty seats.
@@ -288,6 +303,30 @@ fn no_seats(alloc: Global, places: usize) -> Result<Vec<Option<Seat>>, NoMemory>
     Ok(seats)
 }
 
+// At most this leaf is in doubt.
+fn first_doubts(
+    alloc: Global,
+    places: usize,
+    doubt: Option<Doubted>,
+) -> Result<Vec<Option<Doubted>>, NoMemory> {
+    let mut doubts = no_doubts(alloc, places)?;
+    if let Some(doubted) = doubt {
+        if let Some(place) = doubts.get_mut(usize::from(doubted.doubt.leaf)) {
+            *place = Some(doubted);
+        }
+    }
+    Ok(doubts)
+}
+
+// No leaf is in doubt.
+fn no_doubts(alloc: Global, places: usize) -> Result<Vec<Option<Doubted>>, NoMemory> {
+    let mut doubts = Vec::new(alloc);
+    for _place in 0..places {
+        doubts.push(None)?;
+    }
+    Ok(doubts)
+}
+
 // Creates `places` tokens that name no connection.
 fn no_slots(alloc: Global, places: usize) -> Result<Vec<Option<Who>>, NoMemory> {
     let mut slots = Vec::new(alloc);
@@ -297,24 +336,41 @@ fn no_slots(alloc: Global, places: usize) -> Result<Vec<Option<Who>>, NoMemory> 
     Ok(slots)
 }
 
+// Whether a guest has shown its code.
+fn has_asking(guests: &[Guest]) -> bool {
+    guests.iter().any(|guest| guest.asked().is_some())
+}
+
+// Whether a leaf's beat is to be compared, or a beat is due to a leaf.
+fn has_due(seats: &[Option<Seat>], steady: u64) -> bool {
+    seats.iter().any(|place| match place {
+        Some(seat) => seat.beat.is_some() || seat.wire.wants_beat(steady),
+        None => false,
+    })
+}
+
 fn send_guests(guests: &mut [Guest]) -> bool {
     let mut moved = false;
     for guest in guests.iter_mut() {
-        if guest.wire.connection.send() {
+        if guest.connection.send() {
             moved = true;
         }
     }
     moved
 }
 
-fn send_seats(seats: &mut [Option<Seat>]) -> bool {
+fn send_seats(
+    seats: &mut [Option<Seat>],
+    beat: &Option<Beat>,
+    steady: u64,
+) -> Result<bool, NoMemory> {
     let mut moved = false;
     for place in seats.iter_mut() {
         if let Some(seat) = place {
-            if seat.wire.connection.send() {
+            if seat.wire.send(beat, steady)? {
                 moved = true;
             }
         }
     }
-    moved
+    Ok(moved)
 }

@@ -1,24 +1,30 @@
 // The hub's side.
-ghost use Rattle.std.specs.Prelude.{◌≡◌, []};
+ghost use Rattle.std.specs.Prelude.{◌≡◌};
+ghost use Rattle.peers.specs.Judging.{is_older, is_other, is_same};
+ghost use Rattle.peers.specs.Sides.{leaf_line_fault};
 
 use crate::MAX_LINE;
+use crate::book::Place;
+use crate::drawn_number::{DrawnNumber, may_be_of};
 use crate::handshake_codes::is_same_code;
 use crate::handshake_fault::HandshakeFault;
+use crate::handshake_keys::{LinkKeys, leaf_key, link_keys};
 use crate::handshake_line::HandshakeLine;
-use crate::handshake_reading::{Ask, ask_in};
-use crate::handshake_sides::{Meeting, Speaker};
+use crate::handshake_progress::{LeafRights, Progress};
+use crate::handshake_reading::{Ask, ask_in, is_old_leaf};
+use crate::handshake_refusal::HandshakeRefusal;
+use crate::handshake_sides::{HubAnswer, no_line};
 use crate::handshake_words::line_len;
-use crate::key::Key;
-use crate::net_number::{NetNumber, may_be_of};
 use crate::nonce::Nonce;
+use sealing::Key;
 
-/// The hub's side of one connection, before the first frame.
+/// The hub's side of one connection, before the first record.
 #[derive(Drop)]
 pub struct HubSide {
-    /// The secret that both sides know, as a key.
+    /// The net's secret, as a key.
     pub key: Key,
     /// The hub's net.
-    pub net: NetNumber,
+    pub net: DrawnNumber,
     /// The number of leaves of the net.
     pub leaves: u16,
     /// The nonce that the hub drew for this connection.
@@ -26,39 +32,36 @@ pub struct HubSide {
 }
 
 /// What the bytes that a hub has read mean.
-#[derive(Drop)]
+#[derive(Clone, Copy)]
 pub enum HubHears {
     /// There is no whole line yet: read more.
     More,
-    /// A leaf showed the right code: send the line, and then frames.
-    Welcome {
-        /// The leaf's number, from 1.
-        leaf: u16,
-        /// The length of the leaf's line, in bytes. The bytes after it are the leaf's first frames.
+    /// A leaf of the net showed the right code: [`HubSide::judge`] says whether it may join.
+    Asks {
+        /// The length of the leaf's line, in bytes. The bytes after it are the leaf's first records.
         used: usize,
-        /// The line to send.
-        line: HandshakeLine,
+        /// What the line says.
+        ask: Ask,
     },
-    /// Disconnect the other side.
-    Refused {
-        /// The reason.
-        fault: HandshakeFault,
-        /// The line to send first. It is empty, except for a leaf of another net, which learns that from the line.
-        line: HandshakeLine,
-    },
+    /// Disconnect the other side, and send it nothing.
+    Refused(HandshakeFault),
 }
 
 impl HubSide {
     ghost use Rattle.std.specs.Prelude.{◌≡◌};
     ghost use Rattle.peers.specs.Lines.{greeting};
-    ghost use Rattle.peers.specs.Sides.{hub_hears, hub_judges, own_meeting, shows_code, told_meeting};
+    ghost use Rattle.peers.specs.Keys.{leaf_key};
+    ghost use Rattle.peers.specs.Judging.{judged};
+    ghost use Rattle.peers.specs.Reading.{ask_in};
+    ghost use Rattle.peers.specs.Sides.{IsShown, hub_answer, hub_hears, hub_hears_ask, hub_keys};
+    ghost use Rattle.peers.specs.Sides.{refusal_line, shows_code, welcome_line};
 
     /// Returns the line that the hub sends first.
     pub fn greeting(&self) -> HandshakeLine
         ensures { result ≡ greeting self.now.nonce }
     {
         let mut line = HandshakeLine::empty();
-        line.put(b"eggnet 1 ");
+        line.put(b"eggnet 2 ");
         line.put(self.nonce.as_bytes());
         line.put(b"\n");
         line
@@ -66,79 +69,150 @@ impl HubSide {
 
     /// Returns what `heard`, all bytes read so far, means. More bytes after a line change nothing.
     pub fn hear(&self, heard: &[u8]) -> HubHears
-        ensures { result ≡ hub_hears self.now heard.now }
+        ensures hears { result ≡ hub_hears self.now heard.now }
+        // Only a leaf that showed the code under its own key asks.
+        ensures shown { IsShown self.now heard.now result }
     {
         match line_len(heard) {
-            Some(len) => self.judge(len + 1, ask_in(&heard[..len])),
-            None if heard.len() >= MAX_LINE => refused(HandshakeFault::TooLong),
+            Some(len) => self.hear_line(len + 1, &heard[..len]),
+            None if heard.len() >= MAX_LINE => HubHears::Refused(HandshakeFault::TooLong),
             None => HubHears::More,
         }
     }
 
-    // Returns what a line means that has `used` bytes with its line feed and was parsed as `ask`.
-    fn judge(&self, used: usize, ask: Option<Ask>) -> HubHears
-        ensures { result ≡ hub_judges self.now used ask }
+    // Returns what a line means that has `used` bytes with its line feed.
+    fn hear_line(&self, used: usize, line: &[u8]) -> HubHears
+        ensures { result ≡ hub_hears_ask self.now used line.now (ask_in line.now) }
     {
-        let Some(ask) = ask else {
-            return refused(HandshakeFault::NoLeafLine);
+        let Some(ask) = ask_in(line) else {
+            return HubHears::Refused(leaf_line_fault(line));
         };
-        if ask.leaf < 1 || ask.leaf > self.leaves {
-            return refused(HandshakeFault::NoSuchLeaf);
+        if ask.words.leaf < 1 || ask.words.leaf > self.leaves {
+            return HubHears::Refused(HandshakeFault::NoSuchLeaf);
         }
         if !self.shows_code(&ask) {
-            return refused(HandshakeFault::WrongCode);
+            return HubHears::Refused(HandshakeFault::WrongCode);
         }
-        let line = self.own_meeting(&ask).hub_line(&self.key);
-        if !may_be_of(&self.net, &ask.net) {
-            return HubHears::Refused {
-                fault: HandshakeFault::OtherNet,
-                line,
-            };
-        }
-        HubHears::Welcome {
-            leaf: ask.leaf,
-            used,
-            line,
-        }
+        HubHears::Asks { used, ask }
     }
 
-    // Whether a leaf shows the right code.
+    // Whether a leaf shows the code under its own key.
     fn shows_code(&self, ask: &Ask) -> bool
         ensures { result ≡ shows_code self.now ask.now }
     {
-        let told = self.told_meeting(ask);
-        is_same_code(&ask.code, &told.code(&self.key, Speaker::Leaf))
+        is_same_code(&ask.code, &ask.words.code(&self.key_of(ask), &self.nonce))
     }
 
-    // The connection as the leaf knows it.
-    fn told_meeting(&self, ask: &Ask) -> Meeting
-        ensures { result ≡ told_meeting self.now ask.now }
+    /// Returns why the leaf that asks may not join, or `None` if it may. `place` is what the hub's book says of the
+    /// leaf and its folder. `own` is how far the hub's records have come; its `last` is the number of the last request
+    /// of this leaf that the hub replied to.
+    pub fn judge(&self, ask: &Ask, place: Place, own: &Progress) -> Option<HandshakeRefusal>
+        ensures { result ≡ judged self.now ask.now.words place own.now }
     {
-        Meeting {
-            leaf: ask.leaf,
-            net: ask.net,
-            leaf_nonce: ask.nonce,
-            hub_nonce: self.nonce,
+        let words = &ask.words;
+        if !may_be_of(&self.net, &words.net) {
+            return Some(HandshakeRefusal::Net);
         }
+        if words.leaves != self.leaves {
+            return Some(HandshakeRefusal::Count);
+        }
+        if is_other(place) {
+            return Some(HandshakeRefusal::Other);
+        }
+        if words.progress.version > own.version {
+            return Some(HandshakeRefusal::Ahead);
+        }
+        if words.progress.version == own.version && words.progress.sum != own.sum {
+            return Some(HandshakeRefusal::Records);
+        }
+        if is_older(&words.progress, place, own) {
+            return Some(HandshakeRefusal::Older);
+        }
+        None
     }
 
-    // The connection as the hub knows it.
-    fn own_meeting(&self, ask: &Ask) -> Meeting
-        ensures { result ≡ own_meeting self.now ask.now }
+    /// Returns the line that welcomes a leaf that may join. `own` is as for [`HubSide::judge`], and `may` is what the
+    /// leaf may do.
+    pub fn welcome(&self, ask: &Ask, own: &Progress, may: LeafRights) -> HandshakeLine
+        ensures { result ≡ welcome_line self.now ask.now own.now may }
     {
-        Meeting {
-            net: Some(self.net),
-            ..self.told_meeting(ask)
+        self.answer(own, may)
+            .line(&self.key_of(ask), &ask.words.nonce, &self.nonce)
+    }
+
+    /// Returns the line that refuses a leaf, with a code under the leaf's key.
+    pub fn refuse(&self, ask: &Ask, refusal: HandshakeRefusal) -> HandshakeLine
+        ensures { result ≡ refusal_line self.now ask.now refusal }
+    {
+        no_line(&self.key_of(ask), refusal, &ask.words.nonce, &self.nonce)
+    }
+
+    /// Returns the keys of the records on this connection, if the hub sent the line of [`HubSide::welcome`] for the
+    /// same arguments.
+    pub fn keys(&self, ask: &Ask, own: &Progress, may: LeafRights) -> LinkKeys
+        ensures { result ≡ hub_keys self.now ask.now own.now may }
+    {
+        let key = self.key_of(ask);
+        let hub_code = self
+            .answer(own, may)
+            .code(&key, &ask.words.nonce, &self.nonce);
+        link_keys(&key, &ask.code, &hub_code)
+    }
+
+    // The key of the leaf that asks.
+    fn key_of(&self, ask: &Ask) -> Key
+        ensures { result ≡ leaf_key self.now.key ask.now.words.leaf }
+    {
+        leaf_key(&self.key, ask.words.leaf)
+    }
+
+    // What the hub says of itself.
+    fn answer(&self, own: &Progress, may: LeafRights) -> HubAnswer
+        ensures { result ≡ hub_answer self.now own.now may }
+    {
+        HubAnswer {
+            net: self.net,
+            progress: *own,
+            may,
         }
     }
 }
 
-// Disconnect without sending anything.
-fn refused(fault: HandshakeFault) -> HubHears
-    ensures { result ≡ HubHears.Refused fault [] }
+// Why a line is not a leaf's.
+fn leaf_line_fault(line: &[u8]) -> HandshakeFault
+    ensures { result ≡ leaf_line_fault line.now }
 {
-    HubHears::Refused {
-        fault,
-        line: HandshakeLine::empty(),
+    if is_old_leaf(line) {
+        HandshakeFault::OldLeaf
+    } else {
+        HandshakeFault::NoLeafLine
+    }
+}
+
+// Whether another folder is the leaf, or this one never joins again.
+fn is_other(place: Place) -> bool
+    ensures { result ≡ is_other place }
+{
+    match place {
+        Place::Free | Place::Same => false,
+        Place::Taken | Place::Barred => true,
+    }
+}
+
+// Whether the hub has replied to a request that the leaf does not know. A leaf without records that knows of no request
+// begins anew: a crash while its journal was made again may have left it so.
+fn is_older(leaf: &Progress, place: Place, hub: &Progress) -> bool
+    ensures { result ≡ is_older leaf.now place hub.now }
+{
+    leaf.last < hub.last && (leaf.version > 0 || (is_same(place) && leaf.last > 0))
+}
+
+// Whether this folder is the leaf.
+fn is_same(place: Place) -> bool
+    ensures { result ≡ is_same place }
+{
+    match place {
+        Place::Same => true,
+        Place::Free | Place::Taken | Place::Barred => false,
     }
 }

@@ -3,25 +3,34 @@ ghost use Rattle.std.specs.Prelude.{◌≡◌};
 ghost use Rattle.peers.specs.Sides.{greeting_fault};
 
 use crate::MAX_LINE;
+use crate::drawn_number::{DrawnNumber, may_be_of};
 use crate::handshake_codes::is_same_code;
 use crate::handshake_fault::HandshakeFault;
+use crate::handshake_keys::{LinkKeys, link_keys};
 use crate::handshake_line::HandshakeLine;
-use crate::handshake_reading::{HubCodeLine, answer_in, greeting_in};
-use crate::handshake_sides::{Meeting, Speaker};
+use crate::handshake_progress::Progress;
+use crate::handshake_reading::{HubSaid, greeting_in, hub_said_in};
+use crate::handshake_refusal::HandshakeRefusal;
+use crate::handshake_sides::{HubAnswer, LeafWords, no_code};
 use crate::handshake_words::line_len;
-use crate::key::Key;
-use crate::net_number::{NetNumber, may_be_of};
 use crate::nonce::Nonce;
+use sealing::Key;
 
-/// A leaf's side of one connection, before the first frame.
+/// A leaf's side of one connection, before the first record.
 #[derive(Drop)]
 pub struct LeafSide {
-    /// The secret that both sides know, as a key.
+    /// The leaf's key.
     pub key: Key,
     /// The leaf's number, from 1.
     pub leaf: u16,
+    /// The leaf's number of leaves.
+    pub leaves: u16,
     /// The number of the leaf's net, if the leaf keeps it already.
-    pub net: Option<NetNumber>,
+    pub net: Option<DrawnNumber>,
+    /// The number of the leaf's folder.
+    pub made: DrawnNumber,
+    /// How far the leaf's records have come. It stays the same from the greeting on.
+    pub own: Progress,
     /// The nonce that the leaf drew for this connection.
     pub nonce: Nonce,
     /// The nonce that the hub drew for it, once the leaf has read its greeting.
@@ -40,35 +49,23 @@ pub enum LeafHears {
         /// The line to send.
         line: HandshakeLine,
     },
-    /// The hub showed the right code: send frames, after saving the number of its net if the leaf keeps none.
+    /// The hub showed the right code: send records, after saving the number of its net if the leaf keeps none.
     Joined {
-        /// The length of the hub's line, in bytes. The bytes after it are the hub's first frames.
+        /// The length of the hub's line, in bytes. The bytes after it are the hub's first records.
         used: usize,
-        /// The hub's net.
-        net: NetNumber,
+        /// What the hub says of itself.
+        answer: HubAnswer,
+        /// The keys of the records.
+        keys: LinkKeys,
     },
     /// Disconnect the hub.
     Refused(HandshakeFault),
 }
 
 impl LeafSide {
-    ghost use Rattle.std.specs.Prelude.{◌≡◌, None, Some};
-    ghost use Rattle.peers.specs.Sides.{hears_answer, hears_greeting, leaf_after, leaf_hears, leaf_judges, leaf_meeting, nonce_after};
-
-    /// Creates the leaf's side of a connection on which nothing was read yet. The leaf's number is `leaf`, and both
-    /// sides know the secret of `key`. `nonce` is drawn for this connection. `net` is the number of the leaf's net, if
-    /// it keeps one.
-    pub fn new(key: Key, leaf: u16, net: Option<NetNumber>, nonce: Nonce) -> LeafSide
-        ensures { result ≡ record { key = key; leaf = leaf; net = net; nonce = nonce; greeted = None } }
-    {
-        LeafSide {
-            key,
-            leaf,
-            net,
-            nonce,
-            greeted: None,
-        }
-    }
+    ghost use Rattle.std.specs.Prelude.{◌≡◌};
+    ghost use Rattle.peers.specs.Sides.{hears_greeting, hears_hub, hears_welcome, leaf_after, leaf_hears, leaf_hears_next};
+    ghost use Rattle.peers.specs.Sides.{leaf_keys, leaf_words, nonce_after, refusal_fault};
 
     /// Returns what `heard`, all bytes read and not used so far, means. More bytes after a line change nothing.
     pub fn hear(&mut self, heard: &[u8]) -> LeafHears
@@ -76,19 +73,19 @@ impl LeafSide {
         ensures after { self.new ≡ leaf_after self.old heard.now }
     {
         match line_len(heard) {
-            Some(len) => self.judge(len + 1, &heard[..len]),
+            Some(len) => self.hear_line(len + 1, &heard[..len]),
             None if heard.len() >= MAX_LINE => LeafHears::Refused(HandshakeFault::TooLong),
             None => LeafHears::More,
         }
     }
 
     // Returns what a line means that has `used` bytes with its line feed.
-    fn judge(&mut self, used: usize, line: &[u8]) -> LeafHears
-        ensures hears { result ≡ leaf_judges self.old used line.now self.old.greeted }
+    fn hear_line(&mut self, used: usize, line: &[u8]) -> LeafHears
+        ensures hears { result ≡ leaf_hears_next self.old used line.now self.old.greeted }
         ensures after { self.new ≡ record self.old { greeted = nonce_after self.old.greeted line.now } }
     {
         match self.greeted {
-            Some(hub_nonce) => self.hear_answer(used, &hub_nonce, answer_in(line)),
+            Some(hub_nonce) => self.hear_hub(used, &hub_nonce, hub_said_in(line)),
             None => {
                 self.greeted = greeting_in(line);
                 self.hear_greeting(used, line)
@@ -103,21 +100,38 @@ impl LeafSide {
         match self.greeted {
             Some(hub_nonce) => LeafHears::Answers {
                 used,
-                line: self.meeting(self.net, &hub_nonce).leaf_line(&self.key),
+                line: self.words().line(&self.key, &hub_nonce),
             },
             None => LeafHears::Refused(greeting_fault(line)),
         }
     }
 
-    // Returns what the hub's answer means.
-    fn hear_answer(&self, used: usize, hub_nonce: &Nonce, answer: Option<HubCodeLine>) -> LeafHears
-        ensures { result ≡ hears_answer self.now used hub_nonce.now answer }
+    // Returns what the hub's second line means.
+    fn hear_hub(&self, used: usize, hub_nonce: &Nonce, said: Option<HubSaid>) -> LeafHears
+        ensures { result ≡ hears_hub self.now used hub_nonce.now said }
     {
-        let Some(answer) = answer else {
-            return LeafHears::Refused(HandshakeFault::NoHubLine);
-        };
-        let meeting = self.meeting(Some(answer.net), hub_nonce);
-        if !is_same_code(&answer.code, &meeting.code(&self.key, Speaker::Hub)) {
+        match said {
+            Some(HubSaid::Welcome { answer, code }) => {
+                self.hear_welcome(used, hub_nonce, &answer, &code)
+            }
+            Some(HubSaid::No { refusal, code }) => {
+                LeafHears::Refused(self.refusal_fault(hub_nonce, refusal, &code))
+            }
+            None => LeafHears::Refused(HandshakeFault::NoHubLine),
+        }
+    }
+
+    // Returns what a welcome means.
+    fn hear_welcome(
+        &self,
+        used: usize,
+        hub_nonce: &Nonce,
+        answer: &HubAnswer,
+        code: &[u8; 64],
+    ) -> LeafHears
+        ensures { result ≡ hears_welcome self.now used hub_nonce.now answer.now code.now }
+    {
+        if !is_same_code(code, &answer.code(&self.key, &self.nonce, hub_nonce)) {
             return LeafHears::Refused(HandshakeFault::WrongCode);
         }
         if !may_be_of(&answer.net, &self.net) {
@@ -125,19 +139,46 @@ impl LeafSide {
         }
         LeafHears::Joined {
             used,
-            net: answer.net,
+            answer: *answer,
+            keys: self.keys(hub_nonce, code),
         }
     }
 
-    // The connection as the leaf knows it, if `net` is its net.
-    fn meeting(&self, net: Option<NetNumber>, hub_nonce: &Nonce) -> Meeting
-        ensures { result ≡ leaf_meeting self.now net hub_nonce.now }
+    // The keys of the records, if the hub shows this code.
+    fn keys(&self, hub_nonce: &Nonce, code: &[u8; 64]) -> LinkKeys
+        ensures { result ≡ leaf_keys self.now hub_nonce.now code.now }
     {
-        Meeting {
+        let leaf_code = self.words().code(&self.key, hub_nonce);
+        link_keys(&self.key, &leaf_code, code)
+    }
+
+    // Returns what a refusal with this code means.
+    fn refusal_fault(
+        &self,
+        hub_nonce: &Nonce,
+        refusal: HandshakeRefusal,
+        code: &[u8; 64],
+    ) -> HandshakeFault
+        ensures { result ≡ refusal_fault self.now hub_nonce.now refusal code.now }
+    {
+        if is_same_code(code, &no_code(&self.key, refusal, &self.nonce, hub_nonce)) {
+            HandshakeFault::Told(refusal)
+        } else {
+            HandshakeFault::WrongCode
+        }
+    }
+
+    // What the leaf says of itself.
+    fn words(&self) -> LeafWords
+        ensures { result ≡ leaf_words self.now }
+    {
+        LeafWords {
             leaf: self.leaf,
-            net,
-            leaf_nonce: self.nonce,
-            hub_nonce: *hub_nonce,
+            leaves: self.leaves,
+            net: self.net,
+            made: self.made,
+            progress: self.own,
+            nonce: self.nonce,
         }
     }
 }
@@ -146,7 +187,7 @@ impl LeafSide {
 fn greeting_fault(line: &[u8]) -> HandshakeFault
     ensures { result ≡ greeting_fault line.now }
 {
-    if line.starts_with(b"eggnet 1 ") {
+    if line.starts_with(b"eggnet 2 ") {
         HandshakeFault::NoGreeting
     } else if line.starts_with(b"eggnet ") {
         HandshakeFault::OtherVersion

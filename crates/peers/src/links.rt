@@ -9,9 +9,13 @@ ghost use Rattle.peers.specs.Tells.{TakesPackets, TellsOne};
 ghost use Rattle.peers.specs.declared.links.Links.TheVariants.{Alone};
 ghost use Rattle.sharelink.specs.Shapes.{HasGoodRecords};
 
+use crate::doubt::Doubt;
+use crate::drawn_number::DrawnNumber;
+use crate::handshake_line::HandshakeLine;
+use crate::handshake_progress::LeafRights;
 use crate::hub_connection::HubConnection;
 use crate::hub_links::HubLinks;
-use crate::net_number::NetNumber;
+use crate::own::Own;
 use bytetext::NoMemory;
 use net::{Log, Registry};
 use settings::Settings;
@@ -118,7 +122,7 @@ impl Links {
     {
         match self {
             Links::Alone => Ok(Vec::new(alloc)),
-            Links::Hub(hub) => hub.inbox.take(alloc),
+            Links::Hub(hub) => hub.take_packets(alloc),
             Links::Leaf(leaf) => leaf.inbox.take(alloc),
         }
     }
@@ -177,15 +181,15 @@ impl Links {
         }
     }
 
-    /// Offers each connection its unsent bytes. Returns whether one took a byte.
-    pub fn send(&mut self) -> bool {
+    /// Seals what waits for each connection, and offers the connection its unsent bytes. Returns whether one took a byte.
+    ///
+    /// # Errors
+    /// `NoMemory` if an allocation fails: never if nobody is connected. Nothing is lost; call it again.
+    pub fn send(&mut self) -> Result<bool, NoMemory> {
         match self {
-            Links::Alone => false,
+            Links::Alone => Ok(false),
             Links::Hub(hub) => hub.send(),
-            Links::Leaf(leaf) => match &mut leaf.hub {
-                Some(hub) => hub.wire.connection.send(),
-                None => false,
-            },
+            Links::Leaf(leaf) => leaf.send(),
         }
     }
 
@@ -202,7 +206,7 @@ impl Links {
 
     /// Returns the number of the hub's net that a leaf has to save before it goes on, if there is one. Save it, and
     /// then call [`Links::keep`].
-    pub fn to_keep(&self) -> Option<NetNumber> {
+    pub fn to_keep(&self) -> Option<DrawnNumber> {
         match self {
             Links::Alone | Links::Hub(_) => None,
             Links::Leaf(leaf) => leaf.to_keep(),
@@ -210,10 +214,135 @@ impl Links {
     }
 
     /// Notes that `net`, the number of the hub's net, is saved. The hub is linked at second `now`.
-    pub fn keep(&mut self, log: &mut Log, net: NetNumber, now: u64) {
+    pub fn keep(&mut self, log: &mut Log, net: DrawnNumber, now: u64) {
         match self {
             Links::Alone | Links::Hub(_) => {}
             Links::Leaf(leaf) => leaf.keep(log, net, now),
+        }
+    }
+
+    /// Whether the connections need to know of the bot in this turn: a leaf that has shown its code is to be answered, a
+    /// hub's greeting is to be answered, a beat is due, or one has to be compared. Call [`Links::tell_own`] then, after
+    /// [`Links::connect`] and before [`Links::read`].
+    pub fn wants_own(&self) -> bool {
+        match self {
+            Links::Alone => false,
+            Links::Hub(hub) => hub.wants_own(),
+            Links::Leaf(leaf) => leaf.wants_own(),
+        }
+    }
+
+    /// Passes what the process knows of its own bot, for this turn: until the next [`Links::wake`].
+    pub fn tell_own(&mut self, own: Own) {
+        match self {
+            Links::Alone => {}
+            Links::Hub(hub) => hub.own = Some(own),
+            Links::Leaf(leaf) => leaf.tell_own(own),
+        }
+    }
+
+    /// At a hub, returns the lines for the file `leaves` that have to be on the disk before the leaves that they name are
+    /// welcomed; empty if there are none. Append them, and then call [`Links::entered`] in the same turn.
+    ///
+    /// # Errors
+    /// `NoMemory` if an allocation fails: never if there are none.
+    pub fn to_enter(&self, alloc: Global) -> Result<Vec<u8>, NoMemory> {
+        match self {
+            Links::Alone | Links::Leaf(_) => Ok(Vec::new(alloc)),
+            Links::Hub(hub) => hub.to_enter(alloc),
+        }
+    }
+
+    /// Notes that the lines that [`Links::to_enter`] returned in this turn are on the disk, and welcomes the leaves that
+    /// they name, at second `now`.
+    ///
+    /// # Errors
+    /// `NoMemory` if an allocation fails: never if there were none.
+    pub fn entered<R: AllocGlobal>(
+        &mut self,
+        rt: &R,
+        log: &mut Log,
+        now: u64,
+    ) -> Result<(), NoMemory> {
+        match self {
+            Links::Alone | Links::Leaf(_) => Ok(()),
+            Links::Hub(hub) => hub.entered(rt, log, now),
+        }
+    }
+
+    /// At a leaf whose folder is new, returns the number of the last request of an earlier folder that the hub replied
+    /// to: begin a new journal whose requests are numbered above it, before the number of the net is saved. The hub is
+    /// linked once [`Links::tell_own`] has passed that number as the leaf's last.
+    pub fn to_begin_after(&self) -> Option<u32> {
+        match self {
+            Links::Alone | Links::Hub(_) => None,
+            Links::Leaf(leaf) => leaf.to_begin_after(),
+        }
+    }
+
+    /// At a hub, whether it may be an older copy of itself: a leaf is ahead of it, or differs from it. Until
+    /// [`Links::trust`] it takes no request, and the process is to refuse its own changes.
+    pub fn doubt(&self) -> Option<Doubt> {
+        match self {
+            Links::Alone | Links::Leaf(_) => None,
+            Links::Hub(hub) => hub.doubt(),
+        }
+    }
+
+    /// At a hub, returns the line for the file `doubt` if the hub may be an older copy of itself, and that is not kept yet:
+    /// write it before anything else.
+    pub fn doubt_to_keep(&self) -> Option<HandshakeLine> {
+        match self {
+            Links::Alone | Links::Leaf(_) => None,
+            Links::Hub(hub) => hub.doubt_to_keep(),
+        }
+    }
+
+    /// Notes that the line of [`Links::doubt_to_keep`] is on the disk.
+    pub fn keep_doubt(&mut self) {
+        match self {
+            Links::Alone | Links::Leaf(_) => {}
+            Links::Hub(hub) => hub.keep_doubt(),
+        }
+    }
+
+    /// At a hub, decides that this copy counts: bars the folders of the leaves that were found ahead of it or different,
+    /// and ends the doubt. Returns the lines for the file `leaves`: append them before anything else, and
+    /// then remove the file `doubt`. Empty if there is no doubt.
+    ///
+    /// # Errors
+    /// `NoMemory` if an allocation fails: never if there is no doubt. Nothing is barred then.
+    pub fn trust(&mut self, alloc: Global) -> Result<Vec<u8>, NoMemory> {
+        match self {
+            Links::Alone | Links::Leaf(_) => Ok(Vec::new(alloc)),
+            Links::Hub(hub) => hub.trust(alloc),
+        }
+    }
+
+    /// At a hub, frees the number `leaf`, so that the next folder that shows it takes it: disconnects the leaf at second
+    /// `now`, and drops its packets. Returns the line for the file `leaves`: append it before anything else. Returns
+    /// `None` if this bot has no such leaf.
+    ///
+    /// # Errors
+    /// `NoMemory` if an allocation fails. Nothing is done then.
+    pub fn renew(
+        &mut self,
+        alloc: Global,
+        log: &mut Log,
+        leaf: u16,
+        now: u64,
+    ) -> Result<Option<Vec<u8>>, NoMemory> {
+        match self {
+            Links::Alone | Links::Leaf(_) => Ok(None),
+            Links::Hub(hub) => hub.renew(alloc, log, leaf, now),
+        }
+    }
+
+    /// Whether this bot may ask for changes: false at a leaf that may only read, as its hub said last.
+    pub fn may_ask(&self) -> bool {
+        match self {
+            Links::Alone | Links::Hub(_) => true,
+            Links::Leaf(leaf) => leaf.may == LeafRights::Asks,
         }
     }
 }

@@ -1,72 +1,115 @@
-// One connection of a leaf to its hub.
-ghost use Rattle.std.specs.Prelude.{◌≡◌, IfOk, OnOk, OnErr};
-ghost use Rattle.std.specs.List.{AllByRecursion};
-ghost use Rattle.sharewire.specs.Frames.{CanBeWritten};
-ghost use Rattle.peers.specs.declared.meeting.Stage.TheVariants.{Linked};
-ghost use Rattle.peers.specs.Tells.{Tells};
-ghost use Rattle.sharelink.specs.Shapes.{HasGoodRecords};
+// A leaf's connection to its hub before the first record.
+ghost use Rattle.std.specs.Prelude.{◌≡◌, ◌≤◌, None, OnErr};
+ghost use Rattle.peers.specs.declared.link_wire.TheConstants.{MAX_SEALED};
 
-use crate::frame_reader::FrameReader;
+use crate::beat::Beat;
 use crate::gone::Gone;
 use crate::handshake_fault::HandshakeFault;
+use crate::handshake_keys::LinkKeys;
+use crate::handshake_sides::HubAnswer;
+use crate::hub_link::HubLink;
 use crate::late::is_late;
 use crate::leaf_side::{LeafHears, LeafSide};
-use crate::link_wire::LinkWire;
-use crate::net_number::NetNumber;
+use crate::link_wire::{LinkWire, WireKeys};
+use crate::own::Own;
 use bytetext::NoMemory;
-use sharewire::Packet;
+use net::{Connection, TcpSocket};
 use std::alloc::Global;
+use std::net::SocketAddr;
 
-// The stage of a connection to the hub.
-#[derive(Clone, Copy)]
-pub(crate) enum Stage {
-    // The hub has still to show its code.
-    Meets,
-    // The hub has shown its code, and belongs to this net.
-    Knows(NetNumber),
-    // Packets go both ways.
-    Linked,
-}
-
-// A connection to the hub.
-pub(crate) struct Hub {
-    pub(crate) wire: LinkWire,
+// A connection to the hub before the first record.
+pub(crate) struct Meeting {
+    pub(crate) connection: Connection<TcpSocket>,
     side: LeafSide,
-    reader: FrameReader,
-    pub(crate) stage: Stage,
+    // What the process has told about the leaf, if it has.
+    pub(crate) said: Option<Said>,
+    // The hub's answer, once the hub has shown its code.
+    pub(crate) joined: Option<Joined>,
+    // Why the connection is to be closed, if it is.
+    gone: Option<Gone>,
     // The second of the monotonic clock at which the connection began.
     began: u64,
+    address: SocketAddr,
+    // There is room for all that will be sealed.
+    ghost wide: { MAX_SEALED ≤ connection.bounds.unsent },
 }
 
 // Written by hand, so that the drop is proved once, and not in each function that drops one.
-impl Drop for Hub {
+impl Drop for Meeting {
     fn drop(self) {
-        let Hub {
-            wire: _,
+        let Meeting {
+            connection: _,
             side: _,
-            reader: _,
-            stage: _,
+            said: _,
+            joined: _,
+            gone: _,
             began: _,
+            address: _,
         } = self;
     }
 }
 
-impl Hub {
-    // A connection that begins when the monotonic clock shows second `steady`. Allocates nothing.
-    pub(crate) fn new(alloc: Global, wire: LinkWire, side: LeafSide, steady: u64) -> Hub {
-        Hub {
-            wire,
+// What a leaf says of itself: what stands in its beats, and the number of its last request.
+#[derive(Clone, Copy)]
+pub(crate) struct Said {
+    pub(crate) beat: Beat,
+    pub(crate) last: u32,
+}
+
+// What a leaf learns from the hub's answer.
+#[derive(Clone, Copy)]
+pub(crate) struct Joined {
+    pub(crate) answer: HubAnswer,
+    keys: LinkKeys,
+}
+
+impl Meeting {
+    // A connection that begins when the monotonic clock shows second `steady`. `side` is to be told how far the leaf has
+    // come. Allocates nothing.
+    pub(crate) fn new(
+        connection: Connection<TcpSocket>,
+        side: LeafSide,
+        address: SocketAddr,
+        steady: u64,
+    ) -> Meeting
+        requires wide { MAX_SEALED ≤ connection.bounds.unsent }
+    {
+        Meeting {
+            connection,
             side,
-            reader: FrameReader::new(alloc),
-            stage: Stage::Meets,
+            said: None,
+            joined: None,
+            gone: None,
             began: steady,
+            address,
         }
     }
 
-    // Reads from the hub before its first frame, and answers it, when the monotonic clock shows second `steady`. Returns
-    // whether a byte arrived.
-    pub(crate) fn meet(&mut self, steady: u64) -> Result<bool, NoMemory> {
-        let came = self.wire.connection.read(1)?;
+    // Whether the process is to tell how far the leaf has come: before it answers the greeting, and after it has begun
+    // another journal.
+    pub(crate) fn wants_own(&self) -> bool {
+        self.said.is_none() || self.to_begin_after().is_some()
+    }
+
+    // The process tells how far the leaf has come.
+    pub(crate) fn tell_own(&mut self, own: &Own) {
+        if self.side.greeted.is_none() {
+            self.side.own = own.progress_for(0);
+        }
+        self.said = Some(Said {
+            beat: Beat::of(own),
+            last: own.last(0),
+        });
+    }
+
+    // Reads from the hub, and answers it, when the monotonic clock shows second `steady`. Returns whether a byte arrived.
+    pub(crate) fn meet(&mut self, steady: u64) -> Result<bool, NoMemory>
+        ensures memory { OnErr result (self.old.joined ≡ None) }
+    {
+        if self.joined.is_some() {
+            return Ok(false);
+        }
+        let came = self.connection.read(1)?;
         for _line in 0..2 {
             if !self.meet_line(steady)? {
                 break;
@@ -75,63 +118,89 @@ impl Hub {
         Ok(came)
     }
 
-    // Reads a line of the hub's. Returns whether there may be another.
+    // Reads a line of the hub's, once the process has told how far the leaf has come. Returns whether there may be another.
     fn meet_line(&mut self, steady: u64) -> Result<bool, NoMemory> {
-        match self.side.hear(self.wire.connection.heard.as_slice()) {
+        if self.said.is_none() {
+            self.end_if_late(steady);
+            return Ok(false);
+        }
+        match self.side.hear(self.connection.heard.as_slice()) {
             LeafHears::More => {
-                if is_late(self.began, steady) {
-                    self.wire.end(Gone::Handshake(HandshakeFault::TooLate));
-                }
+                self.end_if_late(steady);
                 Ok(false)
             }
             LeafHears::Answers { used, line } => {
-                self.wire.connection.take_front(used);
-                let _fits = self.wire.connection.tell(line.as_bytes(), b"")?;
+                self.connection.take_front(used);
+                let _fits = self.connection.tell(line.as_bytes(), b"")?;
                 Ok(true)
             }
-            LeafHears::Joined { used, net } => {
-                self.wire.connection.take_front(used);
-                self.stage = Stage::Knows(net);
+            LeafHears::Joined { used, answer, keys } => {
+                self.connection.take_front(used);
+                self.joined = Some(Joined { answer, keys });
                 Ok(false)
             }
             LeafHears::Refused(fault) => {
-                self.wire.end(Gone::Handshake(fault));
+                self.gone = Some(Gone::Handshake(fault));
                 Ok(false)
             }
         }
     }
 
-    // Reads a piece, and returns the packets that are whole now. Bytes that are no frames end the connection.
-    pub(crate) fn hear(&mut self, alloc: Global) -> Result<Vec<Packet>, NoMemory>
-        ensures good { IfOk result (λ packets. AllByRecursion HasGoodRecords packets.items) }
-    {
-        let _came = self.wire.connection.read(1)?;
-        let bytes = self.wire.connection.take_heard(alloc);
-        if bytes.is_empty() {
-            return Ok(Vec::new(alloc));
+    // Marks the connection as one to close if the handshake takes too long.
+    fn end_if_late(&mut self, steady: u64) {
+        if is_late(self.began, steady) {
+            self.gone = Some(Gone::Handshake(HandshakeFault::TooLate));
         }
-        let feed = self.reader.feed(alloc, bytes.as_slice())?;
-        if let Some(fault) = feed.fault {
-            self.wire.end(Gone::NoFrames(fault));
-        }
-        Ok(feed.packets.into_vec())
     }
 
-    // Whether the hub may have more to read at once.
-    pub(crate) fn is_busy(&self) -> bool {
-        self.wire.connection.may_give() && self.wire.gone().is_none()
+    // The number of the last request that the hub replied to, if it has shown its code, and the leaf does not know that
+    // request.
+    pub(crate) fn to_begin_after(&self) -> Option<u32> {
+        let (Some(joined), Some(said)) = (self.joined, self.said) else {
+            return None;
+        };
+        let last = joined.answer.progress.last;
+        if said.last < last { Some(last) } else { None }
     }
 
-    // Queues a packet for the hub, as its frame, if the hub is linked. A packet that has no frame is lost.
-    pub(crate) fn tell(&mut self, alloc: Global, packet: &Packet) -> Result<(), NoMemory>
-        requires good { HasGoodRecords packet.now }
-        ensures memory { OnErr result (self.old.stage ≡ Linked) }
-        ensures frame { OnErr result (CanBeWritten packet.now) }
-        ensures told { OnOk result (self.old.stage ≡ Linked → Tells packet.now self.old.wire self.new.wire) }
-    {
-        match self.stage {
-            Stage::Linked => self.wire.tell(alloc, packet),
-            Stage::Meets | Stage::Knows(_) => Ok(()),
+    // Why the connection is to be closed, if it is.
+    pub(crate) fn gone(&self) -> Option<Gone> {
+        match self.gone {
+            Some(gone) => Some(gone),
+            None if self.connection.is_over => Some(Gone::Ended),
+            None => None,
         }
+    }
+
+    // The link after the handshake, which begins at second `now`, and at second `steady` of the monotonic clock. Its first
+    // record is a beat. Allocates nothing.
+    pub(crate) fn into_link(
+        self,
+        alloc: Global,
+        said: &Said,
+        joined: &Joined,
+        steady: u64,
+        now: u64,
+    ) -> HubLink {
+        let Meeting {
+            connection,
+            side: _,
+            said: _,
+            joined: _,
+            gone: _,
+            began: _,
+            address,
+        } = self;
+        let keys = WireKeys::of_leaf(&joined.keys);
+        let mut wire = LinkWire::new(alloc, connection, &keys, steady);
+        wire.put_beat(said.beat);
+        HubLink::new(
+            alloc,
+            wire,
+            said.beat,
+            joined.answer.progress.version,
+            address,
+            now,
+        )
     }
 }

@@ -1,26 +1,48 @@
 // A linked leaf of the hub.
-ghost use Rattle.std.specs.Prelude.{◌≡◌, true, IfOk};
-ghost use Rattle.std.specs.List.{AllByRecursion, list_all};
-ghost use Rattle.peers.specs.Speakers.{is_own};
+ghost use Rattle.std.specs.Prelude.{◌≡◌, ◌≤◌, true, [], IfOk, OnOk, OnErr, not, ◌&&◌, ◌||◌, is_some};
+ghost use Rattle.std.specs.List.{AllByRecursion, count_by, list_all};
 ghost use Rattle.sharelink.specs.Shapes.{HasGoodRecords};
+ghost use Rattle.sharewire.specs.Frames.{CanBeWritten};
+ghost use Rattle.peers.specs.declared.handshake_progress.LeafRights.TheVariants.{Reads};
+ghost use Rattle.peers.specs.Hearing.{HandsOn, HeedsBeats, ReadsFrames};
+ghost use Rattle.peers.specs.Picking.{is_hello, is_request};
+ghost use Rattle.peers.specs.Speakers.{is_own};
+ghost use Rattle.peers.specs.Tells.{TellsLeaf, is_held};
 
+use crate::beat::{Beat, Beats, last_of};
+use crate::drawn_number::DrawnNumber;
 use crate::frame_reader::FrameReader;
 use crate::gone::Gone;
+use crate::handshake_progress::LeafRights;
 use crate::link_wire::LinkWire;
+use crate::own::HeldParts;
+use crate::picking::picked;
 use crate::speaker::is_said_by;
 use bytetext::NoMemory;
 use sharewire::Packet;
 use std::alloc::Global;
+use std::net::SocketAddr;
 
 // A linked leaf.
 pub(crate) struct Seat {
     pub(crate) wire: LinkWire,
-    reader: FrameReader,
-    leaf: u16,
-    // The version in its last hello.
+    pub(crate) reader: FrameReader,
+    pub(crate) leaf: u16,
+    // The number of its folder.
+    pub(crate) made: DrawnNumber,
+    pub(crate) may: LeafRights,
+    // The version that it said last.
     pub(crate) version: u32,
+    // The parts of a snapshot that it holds, as its last beat says.
+    pub(crate) held: HeldParts,
+    // Its last beat, if the hub has not compared it with its own records yet.
+    pub(crate) beat: Option<Beat>,
     // Which of the hub's tokens names it.
     pub(crate) slot: usize,
+    // Its address.
+    pub(crate) address: SocketAddr,
+    // The second at which it was linked.
+    pub(crate) since: u64,
 }
 
 // Written by hand, so that the drop is proved once, and not in each function that drops one.
@@ -30,60 +52,127 @@ impl Drop for Seat {
             wire: _,
             reader: _,
             leaf: _,
+            made: _,
+            may: _,
             version: _,
+            held: _,
+            beat: _,
             slot: _,
+            address: _,
+            since: _,
         } = self;
     }
 }
 
 impl Seat {
-    // A leaf that has shown its code on this connection. Allocates nothing.
-    pub(crate) fn new(alloc: Global, wire: LinkWire, leaf: u16, slot: usize) -> Seat {
-        Seat {
-            wire,
-            reader: FrameReader::new(alloc),
-            leaf,
-            version: 0,
-            slot,
-        }
-    }
-
-    // Reads a piece, unless too much is unsent, and returns the packets that are whole now. Notes the version of the
-    // last hello among them. Bytes that are no frames, or a packet that this leaf may not send, end the connection;
-    // after such a packet it returns none.
-    pub(crate) fn hear(&mut self, alloc: Global) -> Result<Vec<Packet>, NoMemory>
+    // Reads a piece at second `steady` of the monotonic clock, unless too much waits for the leaf, and returns the packets
+    // that are whole now and are handed on. Bytes that are no records or no frames, or a packet that this leaf may not
+    // send, end the connection; after such a packet it returns none.
+    pub(crate) fn hear(&mut self, alloc: Global, steady: u64) -> Result<Vec<Packet>, NoMemory>
         ensures good { IfOk result (λ packets. AllByRecursion HasGoodRecords packets.items) }
         // A leaf speaks for itself alone.
         ensures own { IfOk result (λ packets. list_all (is_own self.old.leaf) packets.items ≡ true) }
+        // Of the hellos only the last, and no request of a leaf that may only read.
+        ensures hello { IfOk result (λ packets. count_by is_hello packets.items ≤ 1) }
+        ensures reads { IfOk result (λ packets. self.old.may ≡ Reads → count_by is_request packets.items ≡ 0) }
+        // Only what was checked.
+        ensures checked { IfOk result (λ packets. HandsOn self.old packets.items self.new) }
     {
         if self.wire.is_slow() || self.wire.gone().is_some() {
+            self.wire.rest(steady);
             return Ok(Vec::new(alloc));
         }
-        let _came = self.wire.connection.read(1)?;
-        let bytes = self.wire.connection.take_heard(alloc);
-        if bytes.is_empty() {
-            return Ok(Vec::new(alloc));
+        let opened = self.wire.open(alloc, steady)?;
+        self.heed_beats(opened.beats.as_slice());
+        self.read_frames(alloc, opened.frames.as_slice())
+    }
+
+    // Notes what the last of these beats says.
+    fn heed_beats(&mut self, contents: &[u8])
+        ensures heeds { HeedsBeats contents.now self.old self.new }
+        ensures wire { self.new.wire ≡ record self.old.wire { gone = self.new.wire.gone } }
+        ensures reader { self.new.reader ≡ self.old.reader }
+        ensures leaf { self.new.leaf ≡ self.old.leaf }
+        ensures may { self.new.may ≡ self.old.may }
+    {
+        match last_of(contents) {
+            Beats::Nothing => {}
+            Beats::Last(beat) => {
+                self.version = beat.version;
+                self.held = beat.held;
+                self.beat = Some(beat);
+            }
+            Beats::Bad => self.wire.end(Gone::BadBeat),
         }
-        let feed = self.reader.feed(alloc, bytes.as_slice())?;
-        if let Some(fault) = feed.fault {
-            self.wire.end(Gone::NoFrames(fault));
-        }
+    }
+
+    // Reads frames.
+    fn read_frames(&mut self, alloc: Global, frames: &[u8]) -> Result<Vec<Packet>, NoMemory>
+        ensures good { IfOk result (λ packets. AllByRecursion HasGoodRecords packets.items) }
+        ensures reads { IfOk result (λ packets. ReadsFrames frames.now self.old packets.items self.new) }
+    {
+        let may = self.may;
+        let feed = self.reader.feed(alloc, frames)?;
+        self.wire.end_at(feed.fault);
         if !are_said_by(feed.packets.as_slice(), self.leaf) {
             self.wire.end(Gone::OtherSpeaker);
             return Ok(Vec::new(alloc));
         }
-        for packet in feed.packets.as_slice() {
-            if let Packet::Hello { version, .. } = packet {
-                self.version = *version;
-            }
+        self.note_version(feed.packets.as_slice());
+        picked(alloc, feed.packets.into_vec(), may)
+    }
+
+    // Notes the version in the last hello among these packets.
+    fn note_version(&mut self, packets: &[Packet])
+        ensures same { self.new ≡ record self.old { version = self.new.version } }
+    {
+        if let Some(version) = version_in(packets) {
+            self.version = version;
         }
-        Ok(feed.packets.into_vec())
+    }
+
+    // Queues a packet for the leaf, unless it is a part that the leaf holds.
+    pub(crate) fn tell(&mut self, alloc: Global, packet: &Packet) -> Result<(), NoMemory>
+        requires good { HasGoodRecords packet.now }
+        ensures frame { OnErr result (CanBeWritten packet.now) }
+        ensures told { OnOk result (TellsLeaf packet.now self.old self.new) }
+    {
+        if is_held(&self.held, packet) {
+            return Ok(());
+        }
+        self.wire.tell(alloc, packet)
     }
 
     // Whether the leaf may have more to read at once.
     pub(crate) fn is_busy(&self) -> bool {
         self.wire.connection.may_give() && !self.wire.is_slow() && self.wire.gone().is_none()
     }
+}
+
+// Whether a packet is a part of a snapshot that a leaf holds.
+fn is_held(held: &HeldParts, packet: &Packet) -> bool
+    ensures { result ≡ is_held held.now packet.now }
+{
+    match packet {
+        Packet::Part { version, part, .. } => held.has(*version, *part),
+        Packet::Hello { .. }
+        | Packet::Change { .. }
+        | Packet::Request { .. }
+        | Packet::Accepted { .. }
+        | Packet::Refused { .. }
+        | Packet::BotText { .. } => false,
+    }
+}
+
+// The version in the last hello among these packets.
+fn version_in(packets: &[Packet]) -> Option<u32> {
+    let mut last = None;
+    for packet in packets {
+        if let Packet::Hello { version, .. } = packet {
+            last = Some(*version);
+        }
+    }
+    last
 }
 
 // Whether all packets name this leaf as their sender.

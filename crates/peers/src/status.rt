@@ -2,55 +2,101 @@
 ghost use Rattle.std.specs.Prelude.{◌≢◌, OnErr};
 ghost use Rattle.peers.specs.declared.links.Links.TheVariants.{Alone};
 
-use crate::hub_connection::HubConnection;
+use crate::hub_connection::{Hub, HubConnection};
+use crate::hub_link::HubLink;
 use crate::hub_links::HubLinks;
 use crate::links::Links;
 use crate::seat::Seat;
 use bytetext::NoMemory;
 use itoa::Buffer;
+use std::fmt::Display;
 
-/// Appends to `text` the lines that say which bots of `links` are linked. At a hub they say how many leaves are linked,
-/// and for each of them the version in its last hello and the number of unsent bytes. At a leaf they say whether the
-/// hub is linked, or when the next attempt to connect is due.
+/// Appends to `text` the lines that say which bots of `links` are linked. `version` is the version of this bot's records.
+///
+/// - At a hub: how many leaves are linked. For each of them the version that it said last, by how many versions it is
+///   behind the hub, the number of bytes that wait for it, since which second it is linked, and its address. While the
+///   hub may be an older copy of itself, also why.
+/// - At a leaf: the same of its hub, which is ahead by some versions, or when the next attempt to connect is due.
 ///
 /// # Errors
 /// `NoMemory` if an allocation fails: never for a bot that is alone.
-pub fn put_status(text: &mut Vec<u8>, links: &Links) -> Result<(), NoMemory>
+pub fn put_status(text: &mut Vec<u8>, links: &Links, version: u32) -> Result<(), NoMemory>
     ensures memory { OnErr result (links.now ≢ Alone) }
 {
     match links {
         Links::Alone => Ok(()),
-        Links::Hub(hub) => put_hub(text, hub),
-        Links::Leaf(leaf) => put_leaf(text, leaf),
+        Links::Hub(hub) => put_hub(text, hub, version),
+        Links::Leaf(leaf) => put_leaf(text, leaf, version),
     }
 }
 
-fn put_hub(text: &mut Vec<u8>, hub: &HubLinks) -> Result<(), NoMemory> {
+fn put_hub(text: &mut Vec<u8>, hub: &HubLinks, version: u32) -> Result<(), NoMemory> {
     put_count(text, b"linked leaves ", hub.linked() as u64)?;
     put(text, b"\n")?;
     for (leaf, place) in hub.seats.iter().enumerate() {
         if let Some(seat) = place {
-            put_seat(text, leaf, seat)?;
+            put_seat(text, leaf, seat, version)?;
         }
     }
-    Ok(())
+    put_doubt(text, hub)
 }
 
-fn put_seat(text: &mut Vec<u8>, leaf: usize, seat: &Seat) -> Result<(), NoMemory> {
+fn put_seat(text: &mut Vec<u8>, leaf: usize, seat: &Seat, version: u32) -> Result<(), NoMemory> {
     put_count(text, b"leaf ", leaf as u64)?;
     put_count(text, b" version ", u64::from(seat.version))?;
-    put_count(text, b" unsent ", seat.wire.connection.unsent.len() as u64)?;
+    put_count(
+        text,
+        b" behind ",
+        u64::from(version.saturating_sub(seat.version)),
+    )?;
+    put_count(text, b" unsent ", seat.wire.waiting() as u64)?;
+    put_count(text, b" since ", seat.since)?;
+    put(text, b" address ")?;
+    put_text(text, &seat.address)?;
     put(text, b"\n")
 }
 
-fn put_leaf(text: &mut Vec<u8>, leaf: &HubConnection) -> Result<(), NoMemory> {
-    if leaf.is_linked() {
-        put_count(text, b"linked to the hub, unsent ", leaf.unsent() as u64)?;
-    } else if leaf.hub.is_some() {
-        put(text, b"connecting to the hub")?;
-    } else {
-        put_count(text, b"no hub, next try at ", leaf.due())?;
+// Why the hub may be an older copy of itself, if it may.
+fn put_doubt(text: &mut Vec<u8>, hub: &HubLinks) -> Result<(), NoMemory> {
+    let Some(doubt) = hub.doubt() else {
+        return Ok(());
+    };
+    put_count(
+        text,
+        b"in doubt, so no change is taken: leaf ",
+        u64::from(doubt.leaf),
+    )?;
+    put(text, b": ")?;
+    put_text(text, &doubt.refusal)?;
+    put(text, b"\n")
+}
+
+fn put_leaf(text: &mut Vec<u8>, leaf: &HubConnection, version: u32) -> Result<(), NoMemory> {
+    match &leaf.hub {
+        Some(Hub::Linked(link)) => put_link(text, link, version),
+        Some(Hub::Meets(_)) => put(text, b"connecting to the hub\n"),
+        None => {
+            put_count(text, b"no hub, next try at ", leaf.due())?;
+            put(text, b"\n")
+        }
     }
+}
+
+fn put_link(text: &mut Vec<u8>, link: &HubLink, version: u32) -> Result<(), NoMemory> {
+    put_count(
+        text,
+        b"linked to the hub, version ",
+        u64::from(link.version),
+    )?;
+    put_count(
+        text,
+        b" ahead ",
+        u64::from(link.version.saturating_sub(version)),
+    )?;
+    put_count(text, b" unsent ", link.wire.waiting() as u64)?;
+    put_count(text, b" since ", link.since)?;
+    put(text, b" address ")?;
+    put_text(text, &link.address)?;
     put(text, b"\n")
 }
 
@@ -58,6 +104,11 @@ fn put_count(text: &mut Vec<u8>, word: &[u8], count: u64) -> Result<(), NoMemory
     let mut buffer = Buffer::new();
     put(text, word)?;
     put(text, buffer.format(count).as_bytes())
+}
+
+fn put_text<T: Display>(text: &mut Vec<u8>, value: &T) -> Result<(), NoMemory> {
+    let written = format!(in *text.allocator(); "{value}")?;
+    put(text, written.as_bytes())
 }
 
 fn put(text: &mut Vec<u8>, bytes: &[u8]) -> Result<(), NoMemory> {

@@ -1,15 +1,20 @@
 -- Lines read one after another.
-use Rattle.std.proofs.Common.{◌≡◌, ◌∙◌, ℕ, suc, ◌+◌, ◌<◌, ◌≤◌, List, [], ◌∷◌, length, map, drop, get_or, ap, sym, refl, None, Some, Result, Ok, Err, add-one}
+use Rattle.std.proofs.Common.{◌≡◌, ◌∙◌, ℕ, suc, ◌+◌, ◌<◌, ◌≤◌, Bool, if◌then◌else◌, List, [], ◌∷◌, length, map, drop, get_or, ap, sym, refl, None, Some, Result, Ok, Err, add-one}
 use Rattle.std.specs.Borrow.{Bor}
+use Rattle.std.proofs.lemmas.Bool.{le-ltb}
 use Rattle.std.proofs.lemmas.List.{drop_more, drop_all, length-map, get_or-map}
+use Rattle.bytetext.specs.declared.failure.Failure.{Failure}
+use Rattle.bytetext.specs.declared.failure.Failure.TheVariants.{Refused, NoMemory}
+use Rattle.settings.specs.declared.TheConstants.{MAX_FILE}
+use Rattle.settings.specs.declared.settings.Settings.{Settings}
 use Rattle.settings.specs.declared.advice.SettingAdvice.{SettingAdvice}
 use Rattle.settings.specs.declared.fault.SettingsFault.{SettingsFault}
-use Rattle.settings.specs.declared.fault.SettingsFault.TheVariants.{Line}
+use Rattle.settings.specs.declared.fault.SettingsFault.TheVariants.{TooLong, Line}
 use Rattle.settings.specs.declared.draft.Draft.{Draft}
 use Rattle.settings.specs.declared.saying.SettingSaying.{SettingSaying}
 use Rattle.settings.specs.Grammar.{saying_of}
 use Rattle.settings.specs.Drafts.{refusal_of, added}
-use Rattle.settings.specs.Reading.{read_from, unless}
+use Rattle.settings.specs.Reading.{read_from, unless, lines_of, lines_read, said_by, said_together, settings_in, Answers, ReadsAs}
 
 -- the lines of a slice of lines
 abbrev pub now_of : List (Bor (List ℕ)) → List (List ℕ)
@@ -67,3 +72,18 @@ pub read_from-all : (draft : Draft) (lines : List (Bor (List ℕ))) (i : ℕ) (s
 read_from-all draft lines i said over so_far =
     let none : length (now_of lines) ≤ i = rw length-map over in
     sym so_far ∙ ap (read_from draft (i + 1)) (drop_all i (now_of lines) none) ∙ read_from-none draft (i + 1)
+
+-- ---- a whole file
+
+settings_in-said : (bytes : List ℕ) (lines : List (Bor (List ℕ))) (draft : Draft)
+    → length bytes ≤ MAX_FILE → now_of lines ≡ lines_of bytes → lines_read (now_of lines) ≡ Ok draft → settings_in bytes ≡ said_by draft
+settings_in-said bytes lines draft short same read =
+    ap (λ (b : Bool). if b then Err TooLong else said_together (lines_read (lines_of bytes))) (le-ltb MAX_FILE (length bytes) short)
+    ∙ ap said_together (ap lines_read (sym same) ∙ read)
+
+pub reads-as : (bytes : List ℕ) (lines : List (Bor (List ℕ))) (draft : Draft) (result : Result Settings (Failure SettingsFault))
+    → length bytes ≤ MAX_FILE → now_of lines ≡ lines_of bytes → lines_read (now_of lines) ≡ Ok draft
+    → Answers (said_by draft) result → ReadsAs bytes result
+reads-as bytes lines draft (Ok settings) short same read said = settings_in-said bytes lines draft short same read ∙ said
+reads-as bytes lines draft (Err (Refused fault)) short same read said = settings_in-said bytes lines draft short same read ∙ said
+reads-as bytes lines draft (Err NoMemory) short same read said = short

@@ -1,14 +1,16 @@
 -- What the lines of a file say together: which of them is refused after those before it, and what it adds.
-use Rattle.std.specs.Prelude.{ℕ, Bool, true, false, is_some, [], ◌∷◌, ◌++◌, Option, None, Some}
+use Rattle.std.specs.Prelude.{ℕ, ◌==◌, Bool, true, false, is_some, List, [], ◌∷◌, ◌++◌, Option, None, Some}
+use Rattle.std.specs.List.{list_any}
 use Rattle.settings.specs.declared.setting_word.SettingWord.{SettingWord}
 use Rattle.settings.specs.declared.setting_word.SettingWord.TheVariants.{Account as account_word, Bot as bot_word, Data as data_word}
 use Rattle.settings.specs.declared.setting_word.SettingWord.TheVariants.{Exclusive as exclusive_word, Hub as hub_word, Listen as listen_word}
 use Rattle.settings.specs.declared.setting_word.SettingWord.TheVariants.{Log as log_word, Nick as nick_word, Secret as secret_word, Zone as zone_word}
 use Rattle.settings.specs.declared.advice.SettingAdvice.{SettingAdvice}
-use Rattle.settings.specs.declared.advice.SettingAdvice.TheVariants.{Once}
+use Rattle.settings.specs.declared.advice.SettingAdvice.TheVariants.{Again, Once}
 use Rattle.settings.specs.declared.saying.SettingSaying.{SettingSaying}
-use Rattle.settings.specs.declared.saying.SettingSaying.TheVariants.{Nothing, Wrong, Account, Bind, Bot, Channel, Data, Exclusive, Hub, Listen}
+use Rattle.settings.specs.declared.saying.SettingSaying.TheVariants.{Nothing, Wrong, Account, Bind, Bot, Channel, Data, Exclusive, Hub, Leaf, Listen}
 use Rattle.settings.specs.declared.saying.SettingSaying.TheVariants.{LogLines, Nick, Perform, Secret, Server, Zone}
+use Rattle.settings.specs.declared.settings.LeafLine.{LeafLine}
 use Rattle.settings.specs.declared.draft.Draft.{Draft}
 
 -- no line is read
@@ -21,6 +23,7 @@ no_line = record {
   servers = [];
   hub = None;
   listen = None;
+  reads = [];
   secret = None;
   account = None;
   zone = None;
@@ -35,6 +38,14 @@ abbrev pub once : SettingWord → Bool → Option SettingAdvice
 once word false = None
 once word true = Some (Once word)
 
+-- so is a line of a leaf that another one is of
+abbrev pub is_said_of : ℕ → List LeafLine → Bool
+is_said_of leaf lines = list_any (λ line. line.leaf == leaf) lines
+
+abbrev pub again : Bool → Option SettingAdvice
+again false = None
+again true = Some Again
+
 -- why a line is refused after these
 abbrev pub refusal_of : Draft → SettingSaying → Option SettingAdvice
 refusal_of draft Nothing = None
@@ -46,6 +57,7 @@ refusal_of draft (Channel name) = None
 refusal_of draft (Data folder) = once data_word (is_some draft.folder)
 refusal_of draft Exclusive = once exclusive_word draft.exclusive
 refusal_of draft (Hub address) = once hub_word (is_some draft.hub)
+refusal_of draft (Leaf leaf) = again (is_said_of leaf draft.reads)
 refusal_of draft (Listen address) = once listen_word (is_some draft.listen)
 refusal_of draft LogLines = once log_word draft.log_lines
 refusal_of draft (Nick nick) = once nick_word (is_some draft.nick)
@@ -65,6 +77,7 @@ added line draft (Channel name) = record draft { channels = draft.channels ++ na
 added line draft (Data folder) = record draft { folder = Some folder }
 added line draft Exclusive = record draft { exclusive = true }
 added line draft (Hub address) = record draft { hub = Some address }
+added line draft (Leaf leaf) = record draft { reads = draft.reads ++ record { line = line; leaf = leaf } ∷ [] }
 added line draft (Listen address) = record draft { listen = Some address }
 added line draft LogLines = record draft { log_lines = true }
 added line draft (Nick nick) = record draft { nick = Some nick }

@@ -7,14 +7,15 @@ use Rattle.bottimers.specs.Zones.{TzText, rule_in}
 use Rattle.settings.specs.declared.TheConstants.{MAX_LEAVES, MAX_LINE}
 use Rattle.settings.specs.declared.setting_word.SettingWord.{SettingWord}
 use Rattle.settings.specs.declared.setting_word.SettingWord.TheVariants.{Account as account_word, Bind as bind_word, Bot as bot_word, Channel as channel_word}
-use Rattle.settings.specs.declared.setting_word.SettingWord.TheVariants.{Data as data_word, Exclusive as exclusive_word, Hub as hub_word, Listen as listen_word}
-use Rattle.settings.specs.declared.setting_word.SettingWord.TheVariants.{Log as log_word, Nick as nick_word, Perform as perform_word}
+use Rattle.settings.specs.declared.setting_word.SettingWord.TheVariants.{Data as data_word, Exclusive as exclusive_word, Hub as hub_word, Leaf as leaf_word}
+use Rattle.settings.specs.declared.setting_word.SettingWord.TheVariants.{Listen as listen_word, Log as log_word, Nick as nick_word, Perform as perform_word}
 use Rattle.settings.specs.declared.setting_word.SettingWord.TheVariants.{Secret as secret_word, Server as server_word, Zone as zone_word}
-use Rattle.settings.specs.declared.advice.SettingAdvice.TheVariants.{Form, Leaves, Port, Unknown, CarriageReturn, Control, ByteOrderMark}
+use Rattle.settings.specs.declared.advice.SettingAdvice.TheVariants.{Form, Leaves, Address, Port, Unknown, CarriageReturn, Control, ByteOrderMark}
 use Rattle.settings.specs.declared.saying.SettingSaying.{SettingSaying}
-use Rattle.settings.specs.declared.saying.SettingSaying.TheVariants.{Nothing, Wrong, Account, Bind, Bot, Channel, Data, Exclusive, Hub, Listen}
+use Rattle.settings.specs.declared.saying.SettingSaying.TheVariants.{Nothing, Wrong, Account, Bind, Bot, Channel, Data, Exclusive, Hub, Leaf, Listen}
 use Rattle.settings.specs.declared.saying.SettingSaying.TheVariants.{LogLines, Nick, Perform, Secret, Server, Zone}
 use Rattle.settings.specs.Names.{is_nick}
+use Rattle.settings.specs.Addresses.{is_address}
 use Rattle.settings.specs.Words.{word_of, rest_of, after_spaces, number_of, port_of}
 use Rattle.settings.specs.Vocabulary.{word_named}
 
@@ -72,7 +73,7 @@ bot_of number rest =
 abbrev pub bot_said : List ℕ → SettingSaying
 bot_said rest = bot_of (word_of rest) (rest_of rest)
 
--- hub HOST PORT, and listen HOST PORT
+-- hub HOST PORT
 abbrev pub hub_found : List ℕ → Option ℕ → SettingSaying
 hub_found host None = Wrong Port
 hub_found host (Some port) = Hub (record { host = host; port = port })
@@ -82,14 +83,25 @@ hub_said rest =
     if is_empty (rest_of rest) || not (is_empty (rest_of (rest_of rest))) then Wrong (Form hub_word)
     else hub_found (word_of rest) (port_of (word_of (rest_of rest)))
 
+-- listen ADDRESS PORT
 abbrev pub listen_found : List ℕ → Option ℕ → SettingSaying
 listen_found host None = Wrong Port
-listen_found host (Some port) = Listen (record { host = host; port = port })
+listen_found host (Some port) = if is_address host then Listen (record { host = host; port = port }) else Wrong Address
 
 abbrev pub listen_said : List ℕ → SettingSaying
 listen_said rest =
     if is_empty (rest_of rest) || not (is_empty (rest_of (rest_of rest))) then Wrong (Form listen_word)
     else listen_found (word_of rest) (port_of (word_of (rest_of rest)))
+
+-- leaf N reads
+abbrev pub leaf_found : Option ℕ → SettingSaying
+leaf_found None = Wrong (Form leaf_word)
+leaf_found (Some leaf) = Leaf leaf
+
+abbrev pub leaf_said : List ℕ → SettingSaying
+leaf_said rest =
+    if bytes_eq (word_of (rest_of rest)) (codes "reads") && is_empty (rest_of (rest_of rest)) then leaf_found (number_of (word_of rest))
+    else Wrong (Form leaf_word)
 
 -- server HOST PORT PASS; the PASS may be left out
 abbrev pub pass_of : List ℕ → Option (List ℕ)
@@ -134,6 +146,7 @@ said_of (Some channel_word) rest = channel_said rest
 said_of (Some data_word) rest = data_said rest
 said_of (Some exclusive_word) rest = exclusive_said rest
 said_of (Some hub_word) rest = hub_said rest
+said_of (Some leaf_word) rest = leaf_said rest
 said_of (Some listen_word) rest = listen_said rest
 said_of (Some log_word) rest = log_said rest
 said_of (Some nick_word) rest = nick_said rest

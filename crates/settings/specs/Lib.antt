@@ -1,5 +1,6 @@
 pub mod Words
 pub mod Names
+pub mod Addresses
 pub mod Vocabulary
 pub mod Grammar
 pub mod Drafts

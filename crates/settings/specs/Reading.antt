@@ -1,5 +1,5 @@
 -- What a file says, or why it is refused.
-use Rattle.std.specs.Prelude.{◌≡◌, ℕ, suc, ◌==◌, ◌≤◌, Bool, true, false, is_some, List, [], ◌∷◌, length, nat_lt, Option, None, Some, Result, Ok, Err}
+use Rattle.std.specs.Prelude.{◌≡◌, ℕ, suc, ◌==◌, ◌≤◌, ◌&&◌, not, Bool, true, false, is_some, find, List, [], ◌∷◌, length, nat_le, nat_lt, Option, None, Some, Result, Ok, Err}
 use Rattle.std.specs.Prelude.{if◌then◌else◌, unwrap_or, pos}
 use Rattle.std.specs.List.{slice_split}
 use Rattle.bottimers.specs.Zones.{TzText, fixed_rule}
@@ -7,11 +7,13 @@ use Rattle.bytetext.specs.declared.failure.Failure.{Failure}
 use Rattle.bytetext.specs.declared.failure.Failure.TheVariants.{Refused, NoMemory}
 use Rattle.settings.specs.declared.TheConstants.{MAX_FILE}
 use Rattle.settings.specs.declared.advice.SettingAdvice.{SettingAdvice}
+use Rattle.settings.specs.declared.advice.SettingAdvice.TheVariants.{NoLeaf, HubAlone}
 use Rattle.settings.specs.declared.fault.SettingsFault.{SettingsFault}
 use Rattle.settings.specs.declared.fault.SettingsFault.TheVariants.{TooLong, Line, Lacks}
 use Rattle.settings.specs.declared.fault.Lack.{Lack}
 use Rattle.settings.specs.declared.fault.Lack.TheVariants.{Data, Nick, Server, Hub, LeafListens, Listen, HubOfHub, Secret}
 use Rattle.settings.specs.declared.settings.Settings.{Settings}
+use Rattle.settings.specs.declared.settings.LeafLine.{LeafLine}
 use Rattle.settings.specs.declared.settings.Station.{Station}
 use Rattle.settings.specs.declared.draft.Draft.{Draft}
 use Rattle.settings.specs.Grammar.{saying_of}
@@ -42,6 +44,20 @@ lines_read lines = read_from no_line 1 lines
 -- a hub without leaves
 abbrev pub alone : Station
 alone = record { number = 0; leaves = 0 }
+
+-- which bot right lines are of
+abbrev pub station_of : Draft → Station
+station_of draft = unwrap_or draft.station alone
+
+-- a line leaf is for a hub, and of one of its leaves
+abbrev pub is_placed : Station → LeafLine → Bool
+is_placed station line = station.number == 0 && (nat_le 1 line.leaf && nat_le line.leaf station.leaves)
+
+abbrev pub misplaced : Draft → Option LeafLine
+misplaced draft = find (λ line. not (is_placed (station_of draft) line)) draft.reads
+
+abbrev pub misplacing : Station → SettingAdvice
+misplacing station = if station.number == 0 then NoLeaf else HubAlone
 
 -- a clock that shows UTC
 abbrev pub utc : TzText
@@ -76,18 +92,19 @@ lack_of draft =
     first_of_two (needs (is_some draft.folder) Data)
     (first_of_two (needs (is_some draft.nick) Nick)
     (first_of_two (needs (nat_lt 0 (length draft.servers)) Server)
-    (role_lack (unwrap_or draft.station alone) (is_some draft.hub) (is_some draft.listen) (is_some draft.secret))))
+    (role_lack (station_of draft) (is_some draft.hub) (is_some draft.listen) (is_some draft.secret))))
 
 -- what lines say that lack nothing
 abbrev pub settings_of : Draft → Settings
 settings_of draft = record {
   folder = unwrap_or draft.folder [];
-  station = unwrap_or draft.station alone;
+  station = station_of draft;
   nick = unwrap_or draft.nick [];
   channels = draft.channels;
   servers = draft.servers;
   hub = draft.hub;
   listen = draft.listen;
+  reads = draft.reads;
   secret = draft.secret;
   account = draft.account;
   zone = unwrap_or draft.zone utc;
@@ -97,12 +114,18 @@ settings_of draft = record {
   binds = draft.binds;
 }
 
-abbrev pub completed : Option Lack → Draft → Result Settings SettingsFault
-completed None draft = Ok (settings_of draft)
-completed (Some lack) draft = Err (Lacks lack)
+-- right lines may not fit the bot, and then may lack something
+abbrev pub completed : Option LeafLine → Option Lack → Draft → Result Settings SettingsFault
+completed (Some misplaced) lack draft = Err (Line misplaced.line (misplacing (station_of draft)))
+completed None (Some lack) draft = Err (Lacks lack)
+completed None None draft = Ok (settings_of draft)
+
+-- what right lines say together
+unfoldable pub said_by : Draft → Result Settings SettingsFault
+said_by draft = completed (misplaced draft) (lack_of draft) draft
 
 abbrev pub said_together : Result Draft SettingsFault → Result Settings SettingsFault
-said_together (Ok draft) = completed (lack_of draft) draft
+said_together (Ok draft) = said_by draft
 said_together (Err fault) = Err fault
 
 -- what these bytes say as a file

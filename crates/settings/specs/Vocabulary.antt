@@ -2,7 +2,7 @@
 use Rattle.std.specs.Prelude.{ℕ, List, [], ◌∷◌, Option, find, codes}
 use Rattle.std.specs.Str.{bytes_eq}
 use Rattle.settings.specs.declared.setting_word.SettingWord.{SettingWord}
-use Rattle.settings.specs.declared.setting_word.SettingWord.TheVariants.{Account, Bind, Bot, Channel, Data, Exclusive, Hub, Listen, Log, Nick}
+use Rattle.settings.specs.declared.setting_word.SettingWord.TheVariants.{Account, Bind, Bot, Channel, Data, Exclusive, Hub, Leaf, Listen, Log, Nick}
 use Rattle.settings.specs.declared.setting_word.SettingWord.TheVariants.{Perform, Secret, Server, Zone}
 
 abbrev pub spelling_of : SettingWord → List ℕ
@@ -13,6 +13,7 @@ spelling_of Channel = codes "channel"
 spelling_of Data = codes "data"
 spelling_of Exclusive = codes "exclusive"
 spelling_of Hub = codes "hub"
+spelling_of Leaf = codes "leaf"
 spelling_of Listen = codes "listen"
 spelling_of Log = codes "log"
 spelling_of Nick = codes "nick"
@@ -23,7 +24,7 @@ spelling_of Zone = codes "zone"
 
 abbrev pub all_words : List SettingWord
 all_words =
-    Account ∷ Bind ∷ Bot ∷ Channel ∷ Data ∷ Exclusive ∷ Hub ∷ Listen ∷ Log ∷ Nick ∷ Perform ∷ Secret ∷ Server ∷ Zone ∷ []
+    Account ∷ Bind ∷ Bot ∷ Channel ∷ Data ∷ Exclusive ∷ Hub ∷ Leaf ∷ Listen ∷ Log ∷ Nick ∷ Perform ∷ Secret ∷ Server ∷ Zone ∷ []
 
 -- the word with this spelling: no two are spelled alike
 abbrev pub word_named : List ℕ → Option SettingWord

@@ -12,6 +12,14 @@ pub enum SettingAdvice {
     Once(SettingWord),
     /// The bot's number is above the number of leaves, or these are above 1,000.
     Leaves,
+    /// The line names no leaf of the net: its number is 0, or above the number of leaves.
+    NoLeaf,
+    /// The line is for hubs, and the bot is a leaf.
+    HubAlone,
+    /// An earlier line says the same of this leaf.
+    Again,
+    /// The host to listen at is no IP address.
+    Address,
     /// The port is not a number from 1 to 65,535.
     Port,
     /// The first word is unknown.
@@ -40,9 +48,13 @@ fn words_of(advice: SettingAdvice) -> &'static str {
         SettingAdvice::Once(_) => " once: a line above has it",
         SettingAdvice::Form(word) => form_of(word),
         SettingAdvice::Leaves => "say a number of at most LEAVES, and at most 1000 leaves",
+        SettingAdvice::NoLeaf => "say the number of a leaf of this net, from 1 to LEAVES",
+        SettingAdvice::HubAlone => "a leaf has no line leaf: take it out",
+        SettingAdvice::Again => "take this line out: a line above says the same",
+        SettingAdvice::Address => "say an address of this machine, as in listen 0.0.0.0 7100",
         SettingAdvice::Port => "say a port of 1 to 65535",
         SettingAdvice::Unknown =>
-            "begin with account, bind, bot, channel, data, exclusive, hub, listen, log, nick, perform, secret, server, zone or #",
+            "begin with account, bind, bot, channel, data, exclusive, hub, leaf, listen, log, nick, perform, secret, server, zone or #",
         SettingAdvice::CarriageReturn => "end lines with a line feed alone",
         SettingAdvice::Control => "write spaces for tabs, and no other control bytes",
         SettingAdvice::ByteOrderMark => "save the file without a byte order mark",
@@ -59,7 +71,8 @@ fn form_of(word: SettingWord) -> &'static str {
         SettingWord::Data => "say data FOLDER, as in data /var/lib/eggnet/egg1",
         SettingWord::Exclusive => "say exclusive alone",
         SettingWord::Hub => "say hub HOST PORT, as in hub hub.example.net 7100",
-        SettingWord::Listen => "say listen HOST PORT, as in listen 0.0.0.0 7100",
+        SettingWord::Leaf => "say leaf N reads, as in leaf 3 reads",
+        SettingWord::Listen => "say listen ADDRESS PORT, as in listen 0.0.0.0 7100",
         SettingWord::Log => "say log lines",
         SettingWord::Nick => "say nick NICK, of 1 to 30 bytes without ! @ , * ?, as in nick egg1",
         SettingWord::Perform =>

@@ -1,13 +1,13 @@
 // What the lines so far say.
 ghost use Rattle.std.specs.Prelude.{◌≡◌, None};
-ghost use Rattle.settings.specs.Drafts.{no_line, once, refusal_of};
+ghost use Rattle.settings.specs.Drafts.{again, is_said_of, no_line, once, refusal_of};
 ghost use Rattle.settings.specs.Reading.{lack_of, settings_of};
 
 use crate::advice::SettingAdvice;
 use crate::reading::{ALONE, utc};
 use crate::saying::SettingSaying;
 use crate::setting_word::SettingWord;
-use crate::settings::{Address, BindLines, Login, Servers, Settings, Station};
+use crate::settings::{Address, BindLines, LeafLine, LeafLines, Login, Servers, Settings, Station};
 use bottimers::Zone;
 use bytetext::{Text, Texts};
 use std::alloc::Global;
@@ -28,6 +28,8 @@ pub struct Draft {
     pub hub: Option<Address>,
     /// Where the bot listens.
     pub listen: Option<Address>,
+    /// The leaves that may only read, in order.
+    pub reads: LeafLines,
     /// The file of the secret that both ends of the link know.
     pub secret: Option<Text>,
     /// The account that the bot authenticates as.
@@ -55,6 +57,7 @@ impl Drop for Draft {
             servers: _,
             hub: _,
             listen: _,
+            reads: _,
             secret: _,
             account: _,
             zone: _,
@@ -79,6 +82,7 @@ impl Draft {
             servers: Servers::empty(alloc),
             hub: None,
             listen: None,
+            reads: LeafLines::empty(alloc),
             secret: None,
             account: None,
             zone: None,
@@ -105,6 +109,7 @@ impl Draft {
             SettingSaying::Data(_) => once(SettingWord::Data, self.folder.is_some()),
             SettingSaying::Exclusive => once(SettingWord::Exclusive, self.exclusive),
             SettingSaying::Hub(_) => once(SettingWord::Hub, self.hub.is_some()),
+            SettingSaying::Leaf(leaf) => again(is_said_of(*leaf, self.reads.as_slice())),
             SettingSaying::Listen(_) => once(SettingWord::Listen, self.listen.is_some()),
             SettingSaying::LogLines => once(SettingWord::Log, self.log_lines),
             SettingSaying::Nick(_) => once(SettingWord::Nick, self.nick.is_some()),
@@ -126,6 +131,7 @@ impl Draft {
             servers,
             hub,
             listen,
+            reads,
             secret,
             account,
             zone,
@@ -142,6 +148,7 @@ impl Draft {
             servers,
             hub,
             listen,
+            reads,
             secret,
             account,
             zone: zone.unwrap_or(utc()),
@@ -162,4 +169,22 @@ fn once(word: SettingWord, is_there: bool) -> Option<SettingAdvice>
     } else {
         None
     }
+}
+
+// What to say of a line that says what one above it says.
+fn again(is_said: bool) -> Option<SettingAdvice>
+    ensures { result ≡ again is_said }
+{
+    if is_said {
+        Some(SettingAdvice::Again)
+    } else {
+        None
+    }
+}
+
+/// Returns whether one of `lines` is of the leaf of number `leaf`.
+pub fn is_said_of(leaf: u16, lines: &[LeafLine]) -> bool
+    ensures { result ≡ is_said_of leaf lines.now }
+{
+    lines.iter().any(|line| line.leaf == leaf)
 }

@@ -41,7 +41,7 @@ pub enum Lack {
     #[error("a leaf has no line listen: take it out")]
     LeafListens,
     /// A hub with leaves and without a line `listen`.
-    #[error("a hub with leaves needs a line: listen HOST PORT")]
+    #[error("a hub with leaves needs a line: listen ADDRESS PORT")]
     Listen,
     /// A hub with a line `hub`.
     #[error("a hub has no line hub: take it out, or say bot NUMBER of LEAVES with a NUMBER above 0")]

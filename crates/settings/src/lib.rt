@@ -11,7 +11,8 @@
 //! | `server` host port PASS | once or more | a server to try, in turn; the PASS may be left out |
 //! | `bot` number `of` leaves | once or not at all | which bot it is; 0 is the hub; by default `bot 0 of 0` |
 //! | `hub` host port | a leaf: once | where its hub listens |
-//! | `listen` host port | a hub with leaves: once | where it listens |
+//! | `listen` address port | a hub with leaves: once | where it listens, such as `0.0.0.0 7100` |
+//! | `leaf` number `reads` | a hub: any, each leaf once | this leaf may only read |
 //! | `secret FILE` | once if there are leaves | the file of the secret that both ends of the link know |
 //! | `channel` name | any | a channel to join, in order |
 //! | `bind` type flags proc MASK | any | a bind, in order |
@@ -32,23 +33,27 @@
 //! ```
 #![tactic(auto)]
 
+mod address;
 mod advice;
 mod cutting;
 mod draft;
 mod fault;
 mod names;
+mod net_saying;
 mod numeral;
 mod reading;
 mod saying;
 mod setting_word;
 mod settings;
 
+pub use crate::address::is_address;
 pub use crate::advice::SettingAdvice;
 pub use crate::fault::{Lack, SettingsError, SettingsFault};
 pub use crate::numeral::value_of_digits;
 pub use crate::setting_word::SettingWord;
 pub use crate::settings::{
-    Address, BindLine, BindLines, BindWords, Login, Server, Servers, Settings, Station,
+    Address, BindLine, BindLines, BindWords, LeafLine, LeafLines, Login, Server, Servers, Settings,
+    Station,
 };
 
 /// The most bytes that a file has.

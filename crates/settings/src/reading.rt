@@ -1,13 +1,14 @@
 // A whole file.
 ghost use Rattle.std.specs.Prelude.{◌≡◌, ◌==◌, None, map, IfOk};
 ghost use Rattle.std.specs.List.{slice_split};
-ghost use Rattle.settings.specs.Reading.{Answers, completed, lack_of, lines_read, role_lack, utc};
+ghost use Rattle.settings.specs.Reading.{Answers, is_placed, lack_of, lines_read, misplaced, misplacing, role_lack, said_by, station_of, utc};
 
 use crate::MAX_FILE;
+use crate::advice::SettingAdvice;
 use crate::draft::Draft;
 use crate::fault::{Lack, SettingsError, SettingsFault};
 use crate::saying::saying_of;
-use crate::settings::{Settings, Station};
+use crate::settings::{LeafLine, Settings, Station};
 use bottimers::Zone;
 use bytetext::Failure;
 use std::alloc::{AllocError, Global};
@@ -25,8 +26,9 @@ impl Settings {
     /// Reads `bytes` as a configuration file.
     ///
     /// # Errors
-    /// `Refused` with `TooLong` above 65,536 bytes, else with the first line that breaks a rule, else with the first
-    /// thing that the file lacks; `NoMemory` if an allocation fails before a fault is seen. The check of the length
+    /// `Refused` with `TooLong` above 65,536 bytes, else with the first line that breaks a rule by itself or after those
+    /// above it, else with the first line `leaf` that does not fit the bot, else with the first thing that the file
+    /// lacks; `NoMemory` if an allocation fails before a fault is seen. The check of the length
     /// does not allocate.
     pub fn read(alloc: Global, bytes: &[u8]) -> Result<Settings, SettingsError>
         ensures reads { ReadsAs bytes.now result }
@@ -68,13 +70,56 @@ fn draft_of(alloc: Global, lines: &[&[u8]]) -> Result<Draft, SettingsError>
 }
 
 // The settings, if lines without a fault lack nothing.
+#[tactic(auto, unfolding(crate::specs::Reading::said_by))]
 fn complete(draft: Draft) -> Result<Settings, SettingsError>
-    ensures { Answers (completed (lack_of draft) draft) result }
+    ensures { Answers (said_by draft) result }
 {
+    if let Some(LeafLine { line, leaf: _ }) = misplaced(&draft) {
+        let advice = misplacing(station_of(&draft));
+        return Err(Failure::Refused(SettingsFault::Line { line, advice }));
+    }
     match lack_of(&draft) {
         Some(lack) => Err(Failure::Refused(SettingsFault::Lacks(lack))),
         None => Ok(draft.into_settings()),
     }
+}
+
+// The first line `leaf` that does not fit the bot.
+fn misplaced(draft: &Draft) -> Option<LeafLine>
+    ensures { result ≡ misplaced draft.now }
+{
+    let station = station_of(draft);
+    draft
+        .reads
+        .as_slice()
+        .iter()
+        .copied()
+        .find(|line| !is_placed(station, *line))
+}
+
+// Whether a line `leaf` fits the bot at this station.
+fn is_placed(station: Station, line: LeafLine) -> bool
+    ensures { result ≡ is_placed station line }
+{
+    station.number == 0 && line.leaf >= 1 && line.leaf <= station.leaves
+}
+
+// What to say of a line `leaf` that does not fit the bot at this station.
+fn misplacing(station: Station) -> SettingAdvice
+    ensures { result ≡ misplacing station }
+{
+    if station.number == 0 {
+        SettingAdvice::NoLeaf
+    } else {
+        SettingAdvice::HubAlone
+    }
+}
+
+// Which bot it is.
+fn station_of(draft: &Draft) -> Station
+    ensures { result ≡ station_of draft.now }
+{
+    draft.station.unwrap_or(ALONE)
 }
 
 // What lines without a fault lack.
@@ -91,7 +136,7 @@ fn lack_of(draft: &Draft) -> Option<Lack>
         return Some(Lack::Server);
     }
     role_lack(
-        draft.station.unwrap_or(ALONE),
+        station_of(draft),
         draft.hub.is_some(),
         draft.listen.is_some(),
         draft.secret.is_some(),

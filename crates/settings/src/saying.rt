@@ -1,18 +1,19 @@
 // What one line says.
 ghost use Rattle.std.specs.Prelude.{◌≡◌, IfOk};
 ghost use Rattle.std.specs.List.{list_all};
-ghost use Rattle.settings.specs.Grammar.{account_said, bind_said, bot_numbered, bot_of, bot_said, channel_said, data_said, ends_in_return};
-ghost use Rattle.settings.specs.Grammar.{exclusive_said, has_mark, hub_said, is_shown, listen_said, log_said, nick_said};
+ghost use Rattle.settings.specs.Grammar.{account_said, bind_said, channel_said, data_said, ends_in_return};
+ghost use Rattle.settings.specs.Grammar.{exclusive_said, has_mark, is_shown, log_said, nick_said};
 ghost use Rattle.settings.specs.Grammar.{pass_of, perform_said, said_of, saying_by_words, saying_of, secret_said, server_said, zone_said};
 
+use crate::MAX_LINE;
 use crate::advice::SettingAdvice;
 use crate::cutting::{after_spaces, cut_word};
 use crate::draft::Draft;
 use crate::names::is_nick;
-use crate::numeral::{number, port};
+use crate::net_saying::{bot_said, hub_said, leaf_said, listen_said};
+use crate::numeral::port;
 use crate::setting_word::SettingWord;
-use crate::settings::{Address, BindLine, BindWords, Login, Server, Station};
-use crate::{MAX_LEAVES, MAX_LINE};
+use crate::settings::{Address, BindLine, BindWords, LeafLine, Login, Server, Station};
 use bottimers::Zone;
 use bytetext::{NoMemory, Text};
 use rfccase::is_channel_name;
@@ -38,6 +39,8 @@ pub enum SettingSaying {
     Exclusive,
     /// Where the hub listens.
     Hub(Address),
+    /// The leaf of this number may only read.
+    Leaf(u16),
     /// Where the bot listens.
     Listen(Address),
     /// Lines are logged.
@@ -67,6 +70,7 @@ impl Drop for SettingSaying {
             | SettingSaying::Data(_)
             | SettingSaying::Exclusive
             | SettingSaying::Hub(_)
+            | SettingSaying::Leaf(_)
             | SettingSaying::Listen(_)
             | SettingSaying::LogLines
             | SettingSaying::Nick(_)
@@ -95,6 +99,7 @@ impl SettingSaying {
             SettingSaying::Data(folder) => draft.folder = Some(folder),
             SettingSaying::Exclusive => draft.exclusive = true,
             SettingSaying::Hub(address) => draft.hub = Some(address),
+            SettingSaying::Leaf(leaf) => draft.reads.push(LeafLine { line, leaf })?,
             SettingSaying::Listen(address) => draft.listen = Some(address),
             SettingSaying::LogLines => draft.log_lines = true,
             SettingSaying::Nick(nick) => draft.nick = Some(nick),
@@ -175,6 +180,7 @@ fn said_of(alloc: Global, word: Option<SettingWord>, rest: &[u8]) -> Result<Sett
         SettingWord::Data => data_said(alloc, rest),
         SettingWord::Exclusive => Ok(exclusive_said(rest)),
         SettingWord::Hub => hub_said(alloc, rest),
+        SettingWord::Leaf => Ok(leaf_said(rest)),
         SettingWord::Listen => listen_said(alloc, rest),
         SettingWord::Log => Ok(log_said(rest)),
         SettingWord::Nick => nick_said(alloc, rest),
@@ -263,68 +269,6 @@ fn account_said(alloc: Global, rest: &[u8]) -> Result<SettingSaying, NoMemory>
     let name = Text::from_slice(alloc, cut.word)?;
     let file = Text::from_slice(alloc, cut.rest)?;
     Ok(SettingSaying::Account(Login { name, file }))
-}
-
-fn bot_said(rest: &[u8]) -> SettingSaying
-    ensures { result ≡ bot_said rest.now }
-{
-    let cut = cut_word(rest);
-    bot_of(cut.word, cut.rest)
-}
-
-// `of LEAVES`, after a number.
-fn bot_of(numeral: &[u8], rest: &[u8]) -> SettingSaying
-    ensures { result ≡ bot_of numeral.now rest.now }
-{
-    let of = cut_word(rest);
-    let leaves = cut_word(of.rest);
-    if of.word != b"of".as_slice() || !leaves.rest.is_empty() {
-        return SettingSaying::Wrong(SettingAdvice::Form(SettingWord::Bot));
-    }
-    bot_numbered(number(numeral), number(leaves.word))
-}
-
-fn bot_numbered(number: Option<u16>, leaves: Option<u16>) -> SettingSaying
-    ensures { result ≡ bot_numbered number leaves }
-{
-    let (Some(number), Some(leaves)) = (number, leaves) else {
-        return SettingSaying::Wrong(SettingAdvice::Form(SettingWord::Bot));
-    };
-    if number <= leaves && leaves <= MAX_LEAVES {
-        SettingSaying::Bot(Station { number, leaves })
-    } else {
-        SettingSaying::Wrong(SettingAdvice::Leaves)
-    }
-}
-
-fn hub_said(alloc: Global, rest: &[u8]) -> Result<SettingSaying, NoMemory>
-    ensures { IfOk result (λ saying. saying ≡ hub_said rest.now) }
-{
-    let host = cut_word(rest);
-    let numeral = cut_word(host.rest);
-    if host.rest.is_empty() || !numeral.rest.is_empty() {
-        return Ok(SettingSaying::Wrong(SettingAdvice::Form(SettingWord::Hub)));
-    }
-    let Some(port) = port(numeral.word) else {
-        return Ok(SettingSaying::Wrong(SettingAdvice::Port));
-    };
-    let host = Text::from_slice(alloc, host.word)?;
-    Ok(SettingSaying::Hub(Address { host, port }))
-}
-
-fn listen_said(alloc: Global, rest: &[u8]) -> Result<SettingSaying, NoMemory>
-    ensures { IfOk result (λ saying. saying ≡ listen_said rest.now) }
-{
-    let host = cut_word(rest);
-    let numeral = cut_word(host.rest);
-    if host.rest.is_empty() || !numeral.rest.is_empty() {
-        return Ok(SettingSaying::Wrong(SettingAdvice::Form(SettingWord::Listen)));
-    }
-    let Some(port) = port(numeral.word) else {
-        return Ok(SettingSaying::Wrong(SettingAdvice::Port));
-    };
-    let host = Text::from_slice(alloc, host.word)?;
-    Ok(SettingSaying::Listen(Address { host, port }))
 }
 
 fn server_said(alloc: Global, rest: &[u8]) -> Result<SettingSaying, NoMemory>

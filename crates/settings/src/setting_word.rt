@@ -19,6 +19,8 @@ pub enum SettingWord {
     Exclusive,
     /// Where the hub listens.
     Hub,
+    /// What a leaf may do.
+    Leaf,
     /// Where the bot listens.
     Listen,
     /// What is logged.
@@ -36,7 +38,7 @@ pub enum SettingWord {
 }
 
 // Every word.
-const ALL: [SettingWord; 14] = [
+const ALL: [SettingWord; 15] = [
     SettingWord::Account,
     SettingWord::Bind,
     SettingWord::Bot,
@@ -44,6 +46,7 @@ const ALL: [SettingWord; 14] = [
     SettingWord::Data,
     SettingWord::Exclusive,
     SettingWord::Hub,
+    SettingWord::Leaf,
     SettingWord::Listen,
     SettingWord::Log,
     SettingWord::Nick,
@@ -66,6 +69,7 @@ impl SettingWord {
             SettingWord::Data => "data",
             SettingWord::Exclusive => "exclusive",
             SettingWord::Hub => "hub",
+            SettingWord::Leaf => "leaf",
             SettingWord::Listen => "listen",
             SettingWord::Log => "log",
             SettingWord::Nick => "nick",

@@ -1,4 +1,5 @@
 // What a configuration file says.
+use crate::draft::is_said_of;
 use bottimers::Zone;
 use bytetext::{Seq, Text, Texts};
 
@@ -17,8 +18,11 @@ pub struct Settings {
     pub servers: Servers,
     /// Where the hub listens; a leaf has it, and no other bot.
     pub hub: Option<Address>,
-    /// Where the bot listens; a hub with leaves has it, and no leaf.
+    /// Where the bot listens; a hub with leaves has it, and no leaf. The host spells an IP address
+    /// ([`is_address`](crate::is_address)).
     pub listen: Option<Address>,
+    /// The leaves that may only read, each once. None but a hub has any, and each is one of its leaves.
+    pub reads: LeafLines,
     /// The file of the secret that both ends of the link know. A bot of a net of several has it.
     pub secret: Option<Text>,
     /// The account that it authenticates as.
@@ -46,6 +50,7 @@ impl Drop for Settings {
             servers: _,
             hub: _,
             listen: _,
+            reads: _,
             secret: _,
             account: _,
             zone: _,
@@ -57,6 +62,18 @@ impl Drop for Settings {
     }
 }
 
+impl Settings {
+    ghost use Rattle.std.specs.Prelude.{◌≡◌};
+    ghost use Rattle.settings.specs.Drafts.{is_said_of};
+
+    /// Returns whether the leaf of number `leaf` may only read.
+    pub fn only_reads(&self, leaf: u16) -> bool
+        ensures { result ≡ is_said_of leaf self.now.reads }
+    {
+        is_said_of(leaf, self.reads.as_slice())
+    }
+}
+
 /// A bot's number in its net, and the number of leaves.
 #[derive(Clone, Copy, Debug, PartialEq, Eq)]
 pub struct Station {
@@ -65,6 +82,18 @@ pub struct Station {
     /// At most 1,000.
     pub leaves: u16,
 }
+
+/// A leaf that may only read, and the line on which that stands.
+#[derive(Clone, Copy, Debug, PartialEq, Eq)]
+pub struct LeafLine {
+    /// The line's number, from 1.
+    pub line: u64,
+    /// The leaf's number.
+    pub leaf: u16,
+}
+
+/// Leaves, in the order of their lines.
+pub type LeafLines = Seq<LeafLine>;
 
 /// A host and a port.
 #[derive(Debug)]

@@ -1,8 +1,8 @@
-// What a bot's folder keeps beside its journal: two numbers, and the book of a hub's leaves.
+// What a bot's folder keeps beside its journal: two numbers, a hub's doubt, and the book of its leaves.
 use crate::bots::{BOT, remove, word_of};
 use crate::names::is_mode;
 use crate::seen::{Seen, done, yes};
-use botfolder::{BotFolder, FolderError, MAX_BOOK, NUMBER_DIGITS};
+use botfolder::{BotFolder, FolderError, MAX_BOOK, MAX_DOUBT, NUMBER_DIGITS};
 use std::fs;
 use std::fs::{DirBuilder, File};
 use std::os::unix::fs::symlink;
@@ -20,6 +20,7 @@ pub fn kept_files<R: AllocGlobal + Files<File = File> + Clock>(rt: &R, seen: &mu
         Ok(folder) => {
             net_numbers(rt, seen, &folder);
             own_numbers(rt, seen, &folder);
+            doubts(rt, seen, &folder);
             books(rt, seen, &folder);
             torn_books(rt, seen, &folder);
             other_books(rt, seen, &folder);
@@ -54,6 +55,30 @@ fn own_numbers<R: AllocGlobal + Files<File = File>>(rt: &R, seen: &mut Seen, fol
     seen.note("no number of a net is read", number_word(folder.net(rt)));
     seen.note("a number of 15 bytes", written(rt, MADE, "0123456789abcde"));
     seen.note("it is read", number_word(folder.made(rt)));
+}
+
+// Keeps a doubt, reads it, and forgets it.
+fn doubts<R: AllocGlobal + Files<File = File>>(rt: &R, seen: &mut Seen, folder: &BotFolder) {
+    seen.note(
+        "a doubt before one is kept",
+        doubt_word(folder.doubt(rt), b""),
+    );
+    let kept = folder.keep_doubt(rt, b"leaf 1 a\n").is_ok()
+        && folder.keep_doubt(rt, b"leaf 22 b\n").is_ok();
+    seen.note("two kept, one after the other", done(kept));
+    let found = doubt_word(folder.doubt(rt), b"leaf 22 b\n");
+    seen.note("the second is found", found);
+    let private = is_mode(rt, "bot/doubt", 0o600);
+    seen.note("it is for its owner alone", yes(private));
+    let Ok(long) = "leaf 7 c".repeat(rt.alloc(), 9) else {
+        return;
+    };
+    seen.note("one of 72 bytes", written(rt, "bot/doubt", &long));
+    let front = &long.as_bytes()[..MAX_DOUBT];
+    seen.note("64 are read", doubt_word(folder.doubt(rt), front));
+    seen.note("forgotten", done(folder.forget_doubt(rt).is_ok()));
+    seen.note("none is read", doubt_word(folder.doubt(rt), b""));
+    seen.note("forgotten again", done(folder.forget_doubt(rt).is_ok()));
 }
 
 // Enters lines twice, and reads them.
@@ -132,6 +157,15 @@ fn number_word(read: Result<Option<[u8; NUMBER_DIGITS]>, FolderError>) -> &'stat
     match read {
         Ok(Some(digits)) => done(&digits == b"0123456789abcdef"),
         Ok(None) => "no number",
+        Err(error) => word_of(error),
+    }
+}
+
+// Whether what was read of a doubt is `line`.
+fn doubt_word(read: Result<Option<Vec<u8>>, FolderError>, line: &[u8]) -> &'static str {
+    match read {
+        Ok(Some(found)) => yes(found.as_slice() == line),
+        Ok(None) => "no doubt",
         Err(error) => word_of(error),
     }
 }

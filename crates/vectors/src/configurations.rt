@@ -2,7 +2,7 @@
 use bottimers::{Zone, civil, time_args};
 use bytetext::{Failure, NoMemory, Text};
 use caselines::{BAD_NUMBER, BAD_WORDS, CaseError, Sink, number};
-use settings::{Address, BindLine, Server, Settings};
+use settings::{Address, BindLine, LeafLine, Server, Settings};
 use std::alloc::Global;
 
 // The most bytes of a file of `#`.
@@ -75,6 +75,9 @@ fn put_settings(alloc: Global, settings: &Settings, out: &mut Sink) -> Result<()
     }
     put_address(b" ; hub", settings.hub.as_ref(), out);
     put_address(b" ; listen", settings.listen.as_ref(), out);
+    for line in settings.reads.as_slice() {
+        put_reader(line, out);
+    }
     put_rest(alloc, settings, out)
 }
 
@@ -149,6 +152,12 @@ fn put_address(word: &[u8], address: Option<&Address>, out: &mut Sink) {
         out.put(b" ");
         out.number(u64::from(address.port));
     }
+}
+
+fn put_reader(line: &LeafLine, out: &mut Sink) {
+    out.put(b" ; leaf ");
+    out.number(u64::from(line.leaf));
+    out.put(b" reads");
 }
 
 fn put_server(server: &Server, out: &mut Sink) {

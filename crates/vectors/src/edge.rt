@@ -1,5 +1,5 @@
 // What a case of the edge of a bot as a process asks for.
-use crate::{configurations, handshakes, lookups, seconds, wires};
+use crate::{books, configurations, handshakes, lookups, records, seconds, wires};
 use bytetext::Text;
 use caselines::{CaseError, NO_SUCH_CASE, Sink};
 use std::alloc::Global;
@@ -12,15 +12,21 @@ pub fn answer(
     out: &mut Sink,
 ) -> Result<(), CaseError> {
     match first {
-        b"hmac" => handshakes::hmac(words, out),
+        b"book" => books::book(alloc, words, out),
+        b"hmac" => books::hmac(words, out),
         b"hosts" => lookups::hosts(alloc, words, out),
-        b"hub" => handshakes::hub(words, out),
+        b"hub" => handshakes::hub(alloc, words, out),
+        b"judge" => handshakes::judge(alloc, words, out),
         b"late" => handshakes::late(words, out),
-        b"leaf" => handshakes::leaf(words, out),
+        b"leaf" => handshakes::leaf(alloc, words, out),
+        b"leafkey" => books::leaf_key(words, out),
         b"long" => configurations::long(alloc, words, out),
+        b"open" => records::open(alloc, words, out),
         b"query" => lookups::query(words, out),
         b"redial" => seconds::redial(words, out),
         b"reply" => lookups::reply(alloc, words, out),
+        b"seal" => records::seal(alloc, words, out),
+        b"secret" => books::secret(alloc, words, out),
         b"servers" => lookups::servers(alloc, words, out),
         b"settings" => configurations::settings(alloc, words, out),
         b"timeline" => seconds::timeline(words, out),

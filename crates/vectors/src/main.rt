@@ -51,9 +51,15 @@
 //! | `redial NUMBER MOST STEP..` | when the next try is due after each step |
 //! | `wire HEARD UNSENT STEP..` | what each step answers, with ` ; ` between |
 //! | `hmac SECRET TEXT` | the code of the text under the secret |
-//! | `hub SECRET NET LEAVES NONCE HEARD..` | what a hub says first, then its answer to each HEARD, with ` ; ` between |
-//! | `leaf SECRET NUMBER NET NONCE HEARD..` | what a leaf makes of each HEARD, in turn, with ` ; ` between |
+//! | `leafkey SECRET NUMBER` | the line of the leaf's file |
+//! | `secret BYTES` | whose key a file of these bytes holds, and the code of the empty text under it, or why it holds none |
+//! | `hub SECRET NET LEAVES NONCE HEARD..` | what a hub says first, and then what it makes of each HEARD |
+//! | `judge SECRET NET LEAVES NONCE PLACE VERSION SUM LAST MAY HEARD` | what a hub answers the leaf in HEARD |
+//! | `leaf SECRET NUMBER LEAVES NET MADE VERSION SUM LAST NONCE HEARD..` | what a leaf makes of each HEARD, in turn |
+//! | `book LEAVES LINES NUMBER MADE..` | the place of each leaf that shows a folder, or which line is bad |
 //! | `late BEGAN NOW` | whether a handshake that began then is too late now |
+//! | `seal SECRET frames\|beat CONTENT ..` | the bytes of each record of one direction, with ` ; ` between them |
+//! | `open SECRET PIECE..` | for each piece what its records carry, as `frames BYTES` and `beats BYTES`, and the fault, or `none` |
 //! | `query NUMBER NAME 4\|6` | the bytes of the query for NAME's addresses of this family, or `no name` |
 //! | `reply NUMBER NAME 4\|6 BYTES` | what BYTES answer to that query: addresses, `nothing` or `no answer` |
 //! | `hosts NAME LINE..` | the addresses of NAME in a file of hosts of these lines, or `none` |
@@ -99,8 +105,8 @@
 //!
 //! Line feeds stand between the LINEs of a file of `settings`; a file that ends with a line feed has the empty LINE
 //! `''` last. The answer writes what the file says in its own words, in one order: `data`, `bot`, `nick`, `channel`,
-//! `server`, `hub`, `listen`, `secret`, `account`, `zone`, `exclusive`, `log`, `perform`, and `bind` with its line's
-//! number in front. A zone that is not UTC is written as what its clock shows at midnight UTC of 1 January and of 1
+//! `server`, `hub`, `listen`, `leaf`, `secret`, `account`, `zone`, `exclusive`, `log`, `perform`, and `bind` with its
+//! line's number in front. A zone that is not UTC is written as what its clock shows at midnight UTC of 1 January and of 1
 //! July 2026.
 //!
 //! The steps of `net` are `lost/NOW` and `good/NOW`: a connection was lost at NOW that was not good, or that was
@@ -113,8 +119,11 @@
 //! it took, its answer, or `none` if nothing is unsent; `unsent` answers what is unsent. `over` answers `over` or
 //! `not over`.
 //!
-//! A hub or a leaf hears all bytes that came and were not used so far, and answers `more`, why it refuses, or how many
-//! of the bytes its line `used`, and what it `says`. The NET `-` is that of a leaf that keeps no net.
+//! A hub or a leaf hears all bytes that came and were not used so far. The answers, with ` ; ` between, are `more`, why
+//! it refuses, or how many of the bytes its line `used`, and what it `says`. The NET `-` is that of a leaf that keeps no
+//! net. In `judge` the place of the leaf's folder in the hub's book is `free`, `same`, `taken` or `barred`, and the MAY
+//! of the leaf is `asks` or `reads`. Of a key the code of the empty text is shown. In a HEARD, in the BYTES of a secret
+//! and in the LINES of a book each `/` stands for a line feed.
 //!
 //! The crate's files `stdin` and `stdout` hold the cases and the answers. The answers were worked out by hand from the
 //! rules that each library states; the codes of `hmac` are those of RFC 4231, and what Python's module of that name
@@ -122,6 +131,7 @@
 #![tactic(auto)]
 
 mod binds;
+mod books;
 mod case;
 mod casemapping;
 mod changes;
@@ -142,6 +152,7 @@ mod masks;
 mod persons;
 mod puppet;
 mod queues;
+mod records;
 mod seconds;
 mod spellings;
 mod timers;

@@ -1,0 +1,91 @@
+// Why a bot does not execute a command now.
+use crate::process::Process;
+use crate::space::NO_ROOM;
+use bytetext::NoMemory;
+use control::AdminCommand;
+use peers::{Doubt, HandshakeRefusal};
+use std::alloc::Global;
+
+// The answer to an admin who asks for a change at a leaf that may only read.
+const READS: &[u8] =
+    b"refused this leaf may only read: ask at the hub, or take its line leaf out of the hub's configuration\n";
+
+impl Process {
+    // Returns the answer that refuses `command`, if the bot does not execute it now: it has no room on its disk, or it is
+    // a hub in doubt, or a leaf that may only read.
+    pub(crate) fn refusal(
+        &self,
+        alloc: Global,
+        command: &AdminCommand,
+    ) -> Result<Option<Vec<u8>>, NoMemory> {
+        if needs_room(command) && !self.space.has_room() {
+            return Ok(Some(Vec::from_slice(alloc, NO_ROOM)?));
+        }
+        if !is_change(command) {
+            return Ok(None);
+        }
+        if let Some(doubt) = self.others.links.doubt() {
+            return Ok(Some(in_doubt(alloc, doubt)?));
+        }
+        if !self.others.links.may_ask() {
+            return Ok(Some(Vec::from_slice(alloc, READS)?));
+        }
+        Ok(None)
+    }
+}
+
+// The answer of a hub in doubt to an admin who asks for a change.
+fn in_doubt(alloc: Global, doubt: Doubt) -> Result<Vec<u8>, NoMemory> {
+    let Doubt { leaf, refusal } = doubt;
+    let line = format!(in alloc;
+        "refused in doubt: leaf {leaf} {}, so this hub may be an older copy: give it its newest journal back, or say trust-this-copy\n",
+        found(refusal)
+    )?;
+    Ok(line.into_bytes())
+}
+
+// What the hub found at the leaf that makes it doubt.
+fn found(refusal: HandshakeRefusal) -> &'static str {
+    match refusal {
+        HandshakeRefusal::Ahead => "is ahead of this hub",
+        HandshakeRefusal::Records => "has other records at the hub's version",
+        HandshakeRefusal::Net
+        | HandshakeRefusal::Count
+        | HandshakeRefusal::Other
+        | HandshakeRefusal::Older => "was refused",
+    }
+}
+
+// Whether a command asks for a change of the records.
+fn is_change(command: &AdminCommand) -> bool {
+    match command {
+        AdminCommand::Change(_) => true,
+        AdminCommand::Show
+        | AdminCommand::Status
+        | AdminCommand::Bind(_)
+        | AdminCommand::Unbind(_)
+        | AdminCommand::Say(_)
+        | AdminCommand::Compact
+        | AdminCommand::Jump
+        | AdminCommand::Renew(_)
+        | AdminCommand::Trust
+        | AdminCommand::Die(_) => false,
+    }
+}
+
+// Whether a command writes to the bot's folder.
+fn needs_room(command: &AdminCommand) -> bool {
+    match command {
+        AdminCommand::Change(_)
+        | AdminCommand::Compact
+        | AdminCommand::Renew(_)
+        | AdminCommand::Trust => true,
+        AdminCommand::Show
+        | AdminCommand::Status
+        | AdminCommand::Bind(_)
+        | AdminCommand::Unbind(_)
+        | AdminCommand::Say(_)
+        | AdminCommand::Jump
+        | AdminCommand::Die(_) => false,
+    }
+}

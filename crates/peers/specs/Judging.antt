@@ -1,0 +1,40 @@
+-- Which leaf that has shown its code may join, and why another may not.
+use Rattle.std.specs.Prelude.{◌==◌, ◌&&◌, ◌||◌, not, nat_lt, Bool, true, false, Option, Some, None, if◌then◌else◌}
+use Rattle.std.specs.Str.{bytes_eq}
+use Rattle.peers.specs.declared.book.Place.{Place}
+use Rattle.peers.specs.declared.book.Place.TheVariants.{Free, Same, Taken, Barred}
+use Rattle.peers.specs.declared.handshake_progress.Progress.{Progress}
+use Rattle.peers.specs.declared.handshake_refusal.HandshakeRefusal.{HandshakeRefusal}
+use Rattle.peers.specs.declared.handshake_refusal.HandshakeRefusal.TheVariants.{Net, Count, Other, Ahead, Records, Older}
+use Rattle.peers.specs.declared.handshake_sides.LeafWords.{LeafWords}
+use Rattle.peers.specs.declared.hub_side.HubSide.{HubSide}
+use Rattle.peers.specs.Nets.{may_be_of}
+
+-- another folder is the leaf, or this one never joins again
+abbrev pub is_other : Place → Bool
+is_other Free = false
+is_other Same = false
+is_other Taken = true
+is_other Barred = true
+
+abbrev pub is_same : Place → Bool
+is_same Free = false
+is_same Same = true
+is_same Taken = false
+is_same Barred = false
+
+-- The hub has replied to a request that the leaf does not know. A leaf without records that knows of no request begins
+-- anew. A folder that never was this leaf may lack the requests of an earlier one, as long as it holds no records.
+abbrev pub is_older : Progress → Place → Progress → Bool
+is_older leaf place hub = nat_lt leaf.last hub.last && (nat_lt 0 leaf.version || (is_same place && nat_lt 0 leaf.last))
+
+-- why a leaf that says these words may not join a hub that has come so far; `place` is what the hub's book says of it
+abbrev pub judged : HubSide → LeafWords → Place → Progress → Option HandshakeRefusal
+judged side words place hub =
+    if not (may_be_of side.net words.net) then Some Net
+    else if not (words.leaves == side.leaves) then Some Count
+    else if is_other place then Some Other
+    else if nat_lt hub.version words.progress.version then Some Ahead
+    else if (words.progress.version == hub.version) && not (bytes_eq words.progress.sum hub.sum) then Some Records
+    else if is_older words.progress place hub then Some Older
+    else None

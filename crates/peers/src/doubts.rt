@@ -1,0 +1,179 @@
+// What the hub does when it may be an older copy of itself, and when a leaf is made again.
+ghost use Rattle.std.specs.Prelude.{◌≡◌, true, is_some, None, Some, IfSome, IsSome, IsTrue};
+ghost use Rattle.std.specs.List.{list_any};
+ghost use Rattle.peers.specs.Doubts.{Compares, is_doubt, with_doubt};
+ghost use Rattle.peers.specs.Hearing.{refusal_of};
+ghost use Rattle.peers.specs.Tells.{in_doubt};
+
+use crate::beat::Beat;
+use crate::book_line::{bar_line, free_line};
+use crate::doubt::{Doubt, Doubted, doubt_line, is_doubt};
+use crate::drawn_number::DrawnNumber;
+use crate::gone::Gone;
+use crate::handshake_fault::HandshakeFault;
+use crate::handshake_line::HandshakeLine;
+use crate::handshake_refusal::HandshakeRefusal;
+use crate::hub_links::HubLinks;
+use crate::seat::Seat;
+use bytetext::{NoMemory, bytes_of};
+use net::Log;
+use std::alloc::Global;
+
+impl HubLinks {
+    /// Whether the hub may be an older copy of itself: a leaf is ahead of it, or differs from it.
+    pub fn doubt(&self) -> Option<Doubt>
+        ensures { is_some result ≡ in_doubt self.now }
+    {
+        match first_doubt(self.doubts.as_slice()) {
+            Some(doubted) => Some(doubted.doubt),
+            None => None,
+        }
+    }
+
+    /// Returns the line for the file `doubt`, if the hub may be an older copy of itself and that is not kept yet.
+    pub fn doubt_to_keep(&self) -> Option<HandshakeLine>
+        // What is to be kept is the doubt.
+        ensures { IfSome result (λ _. IsTrue (in_doubt self.now)) }
+    {
+        if self.is_doubt_kept {
+            return None;
+        }
+        match first_doubt(self.doubts.as_slice()) {
+            Some(doubted) => Some(doubt_line(&doubted)),
+            None => None,
+        }
+    }
+
+    /// Notes that the line of [`HubLinks::doubt_to_keep`] is on the disk.
+    pub fn keep_doubt(&mut self)
+        ensures { self.new ≡ record self.old { is_doubt_kept = true } }
+    {
+        self.is_doubt_kept = true;
+    }
+
+    // Whether the hub may be an older copy of itself.
+    pub(crate) fn is_in_doubt(&self) -> bool
+        ensures { result ≡ in_doubt self.now }
+    {
+        self.doubt().is_some()
+    }
+
+    // Notes that a leaf was refused: the hub may be an older copy of itself if it was for its records.
+    pub(crate) fn note_refusal(&mut self, leaf: u16, made: DrawnNumber, refusal: HandshakeRefusal)
+        // A leaf that is ahead, or differs, is one that the hub doubts from now on.
+        ensures doubts { self.new.doubts.items ≡ with_doubt leaf made refusal self.old.doubts.items }
+        ensures same { self.new ≡ record self.old { doubts = self.new.doubts } }
+    {
+        if !is_doubt(refusal) {
+            return;
+        }
+        if let Some(place) = self.doubts.get_mut(usize::from(leaf)) {
+            *place = Some(Doubted {
+                doubt: Doubt { leaf, refusal },
+                made,
+            });
+        }
+    }
+
+    // Compares what each leaf said in its last beat with what is known of the hub. A leaf that is ahead of the hub, or
+    // differs from it, is to be disconnected.
+    pub(crate) fn compare_beats(&mut self) {
+        let Some(own) = &self.own else {
+            return;
+        };
+        let own = Beat::of(own);
+        for leaf in 1..self.seats.len() {
+            self.compare_beat(leaf, &own);
+        }
+    }
+
+    fn compare_beat(&mut self, leaf: usize, own: &Beat) {
+        let Some(Some(seat)) = self.seats.get_mut(leaf) else {
+            return;
+        };
+        if let Some(refusal) = seat.compare(own) {
+            let (leaf, made) = (seat.leaf, seat.made);
+            self.note_refusal(leaf, made, refusal);
+        }
+    }
+
+    /// Decides that this copy of the hub counts: bars the folders of the leaves that were found ahead of it or different,
+    /// and ends the doubt. Returns the lines for the book. Once they are there, remove the file `doubt`.
+    ///
+    /// # Errors
+    /// `NoMemory` if an allocation fails: never if there is no doubt. The doubt stays then.
+    pub fn trust(&mut self, alloc: Global) -> Result<Vec<u8>, NoMemory> {
+        let mut lines = Vec::new(alloc);
+        for place in self.doubts.as_slice() {
+            if let Some(doubted) = place {
+                lines.extend_from_slice(bar_line(&doubted.made).as_bytes())?;
+                self.book.bar(&doubted.made)?;
+            }
+        }
+        for place in self.doubts.iter_mut() {
+            *place = None;
+        }
+        self.is_doubt_kept = false;
+        Ok(lines)
+    }
+
+    /// Frees the number `leaf`: disconnects the leaf at second `now`, and drops its packets. Returns the line for the
+    /// book, or `None` if the net has no such leaf.
+    ///
+    /// # Errors
+    /// `NoMemory` if an allocation fails. Nothing is done then.
+    pub fn renew(
+        &mut self,
+        alloc: Global,
+        log: &mut Log,
+        leaf: u16,
+        now: u64,
+    ) -> Result<Option<Vec<u8>>, NoMemory> {
+        if leaf < 1 || leaf > self.leaves {
+            return Ok(None);
+        }
+        let line = bytes_of(alloc, free_line(leaf).as_bytes())?;
+        self.book.free(leaf);
+        self.unseat(log, leaf, Gone::Renewed, now);
+        Ok(Some(line))
+    }
+}
+
+// The first of these doubts.
+fn first_doubt(doubts: &[Option<Doubted>]) -> Option<Doubted>
+    ensures { is_some result ≡ list_any is_some doubts.now }
+{
+    for place in doubts {
+        if let Some(doubted) = place {
+            return Some(*doubted);
+        }
+    }
+    None
+}
+
+impl Seat {
+    // Compares the leaf's last beat with the hub's own, unless that was done. If the leaf is ahead of the hub, or differs
+    // from it, its connection is to be closed, and the reason is returned.
+    fn compare(&mut self, own: &Beat) -> Option<HandshakeRefusal>
+        ensures { Compares own.now self.old result self.new }
+    {
+        let beat = self.beat.take()?;
+        let refusal = refusal_of(&beat, own)?;
+        self.wire
+            .end(Gone::Handshake(HandshakeFault::Refused(refusal)));
+        Some(refusal)
+    }
+}
+
+// Why a leaf that says this is no leaf of a hub that says that.
+fn refusal_of(leaf: &Beat, hub: &Beat) -> Option<HandshakeRefusal>
+    ensures { result ≡ refusal_of leaf.now hub.now }
+{
+    if leaf.version > hub.version {
+        Some(HandshakeRefusal::Ahead)
+    } else if leaf.version == hub.version && leaf.sum != hub.sum {
+        Some(HandshakeRefusal::Records)
+    } else {
+        None
+    }
+}

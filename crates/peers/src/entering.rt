@@ -1,0 +1,72 @@
+// How new folders come into the hub's book.
+use crate::book::Place;
+use crate::book_line::entry_line;
+use crate::guest_stage::GuestStage;
+use crate::hub_links::HubLinks;
+use bytetext::NoMemory;
+use net::Log;
+use std::alloc::Global;
+
+impl HubLinks {
+    /// Returns the lines for the book that have to be on the disk before the leaves that they name are welcomed.
+    ///
+    /// # Errors
+    /// `NoMemory` if an allocation fails: never if there are none.
+    pub fn to_enter(&self, alloc: Global) -> Result<Vec<u8>, NoMemory> {
+        let mut lines = Vec::new(alloc);
+        if self.own.is_none() {
+            return Ok(lines);
+        }
+        for guest in self.guests.list.as_slice() {
+            if let GuestStage::Enters(asked) = guest.stage {
+                let words = &asked.ask.words;
+                lines.extend_from_slice(entry_line(words.leaf, &words.made).as_bytes())?;
+            }
+        }
+        Ok(lines)
+    }
+
+    /// Notes that the lines that [`HubLinks::to_enter`] returned in this turn are on the disk, and welcomes the leaves
+    /// that they name, at second `now`.
+    ///
+    /// # Errors
+    /// `NoMemory` if an allocation fails: never if there were none.
+    pub fn entered<R: AllocGlobal>(
+        &mut self,
+        rt: &R,
+        log: &mut Log,
+        now: u64,
+    ) -> Result<(), NoMemory> {
+        if self.own.is_none() {
+            return Ok(());
+        }
+        for back in 0..self.guests.len() {
+            // From the last one on, since a guest that joins leaves those before it in their places.
+            let place = self.guests.len().saturating_sub(back + 1);
+            self.enter(rt, log, place, now)?;
+        }
+        Ok(())
+    }
+
+    // If the guest at `place` waits for its line in the book, the line is on the disk.
+    fn enter<R: AllocGlobal>(
+        &mut self,
+        rt: &R,
+        log: &mut Log,
+        place: usize,
+        now: u64,
+    ) -> Result<(), NoMemory> {
+        let Some(guest) = self.guests.list.get(place) else {
+            return Ok(());
+        };
+        let GuestStage::Enters(asked) = guest.stage else {
+            return Ok(());
+        };
+        let words = asked.ask.words;
+        self.book.put_entry(words.leaf, &words.made);
+        match self.book.place(words.leaf, &words.made) {
+            Place::Same => self.join(rt, log, place, now),
+            Place::Free | Place::Taken | Place::Barred => Ok(()),
+        }
+    }
+}

@@ -1,0 +1,37 @@
+// What a bot is in its net.
+use crate::book::Book;
+use crate::doubt::Doubted;
+use crate::drawn_number::DrawnNumber;
+use sealing::Key;
+
+/// What a hub is in its net.
+#[derive(Drop)]
+pub struct HubStation {
+    /// The net's secret, as a key.
+    pub key: Key,
+    /// The number of the net.
+    pub net: DrawnNumber,
+    /// The number of leaves of the net.
+    pub leaves: u16,
+    /// The leaves that may only read.
+    pub readers: Vec<u16>,
+    /// Which folder is which leaf.
+    pub book: Book,
+    /// The leaf that has shown before that the hub may be an older copy of itself, if nobody has decided since.
+    pub doubt: Option<Doubted>,
+}
+
+/// What a leaf is in its net.
+#[derive(Clone, Copy)]
+pub struct LeafStation {
+    /// The leaf's own key.
+    pub key: Key,
+    /// The leaf's number, from 1.
+    pub leaf: u16,
+    /// The number of leaves of the net.
+    pub leaves: u16,
+    /// The number of the leaf's folder.
+    pub made: DrawnNumber,
+    /// The number of the net, if the leaf keeps it already.
+    pub net: Option<DrawnNumber>,
+}

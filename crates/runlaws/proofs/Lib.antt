@@ -1,0 +1,11 @@
+mod Lists
+mod Stages
+mod Acting
+mod Ending
+mod Going
+mod Moments
+mod Lawful
+mod Accepting
+mod Journaling
+mod Example
+mod Queued

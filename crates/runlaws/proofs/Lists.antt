@@ -1,0 +1,85 @@
+-- Lists of deeds, of packets and of happenings, one after another.
+use Rattle.std.proofs.Common.{◌≡◌, ◌∙◌, ℕ, zero, suc, List, [], ◌∷◌, ◌++◌, slice_get, Some, refl, ap, sym, append_assoc}
+use Rattle.procs.specs.Promises.{Promised}
+use Rattle.protocol.specs.Packets.{AcceptedChange}
+use Rattle.botcore.specs.declared.event.BotEvent.{BotEvent}
+use Rattle.botcore.specs.declared.event.BotEvent.TheVariants.{Connect, Line, Ask, Pump, Receive, Clock, Bind, Unbind}
+use Rattle.botcore.specs.declared.event.BotEvent.TheVariants.{Compact, Restart}
+use Rattle.botworld.specs.declared.sent.Sent.{Sent}
+use Rattle.botworld.specs.Net.{packet_at}
+use Rattle.processes.specs.Deeds.{Net, Deed, Made, Died, Opened, Unopened, Replaced, WasTold, Run, after_deed, net_after, AcceptsIn, Stays}
+use Rattle.runlaws.specs.Worlds.{Happening, IsWorld, step_in, steps_of}
+
+-- ---- an item of a list
+
+pub slice_get-more : {X : Type 0} (xs more : List X) (i : ℕ) (x : X) → slice_get xs i ≡ Some x → slice_get (xs ++ more) i ≡ Some x
+slice_get-more [] more i x e = cc
+slice_get-more (y ∷ xs) more zero x e = e
+slice_get-more (y ∷ xs) more (suc i) x e = slice_get-more xs more i x e
+
+-- ---- packets
+
+packet_at-more : (packets more : List Sent) (number : ℕ) (sent : Sent) → packet_at packets number ≡ Some sent
+    → packet_at (packets ++ more) number ≡ Some sent
+packet_at-more packets more zero sent at = cc
+packet_at-more packets more (suc place) sent at = slice_get-more packets more place sent at
+
+-- a packet that was sent stays sent
+pub WasTold-more : (packets more : List Sent) (bot : ℕ) (event : BotEvent) → WasTold packets bot event
+    → WasTold (packets ++ more) bot event
+WasTold-more packets more bot (Receive packet) was = (was.0, was.1, packet_at-more packets more was.0 _ was.2)
+WasTold-more packets more bot Connect was = tt
+WasTold-more packets more bot (Line line) was = tt
+WasTold-more packets more bot (Ask change) was = tt
+WasTold-more packets more bot Pump was = tt
+WasTold-more packets more bot (Clock now) was = tt
+WasTold-more packets more bot (Bind asked) was = tt
+WasTold-more packets more bot (Unbind gone) was = tt
+WasTold-more packets more bot Compact was = tt
+WasTold-more packets more bot Restart was = tt
+
+-- ---- deeds
+
+pub net_after-append : (w : Net) (deeds more : List Deed) → net_after w (deeds ++ more) ≡ net_after (net_after w deeds) more
+net_after-append w [] more = refl
+net_after-append w (deed ∷ deeds) more = net_after-append (after_deed w deed) deeds more
+
+pub Run-append : (promised : Promised) (w : Net) (deeds more : List Deed) → Run promised w deeds
+    → Run promised (net_after w deeds) more → Run promised w (deeds ++ more)
+Run-append promised w [] more run next = next
+Run-append promised w (deed ∷ deeds) more run next =
+    (run.0, Run-append promised (after_deed w deed) deeds more run.1 next)
+
+pub Stays-append : (bot : ℕ) (deeds more : List Deed) → Stays bot deeds → Stays bot more → Stays bot (deeds ++ more)
+Stays-append bot [] more stays next = next
+Stays-append bot (deed ∷ deeds) more stays next = (stays.0, Stays-append bot deeds more stays.1 next)
+
+pub steps_of-append : (deeds more : List Deed) → steps_of (deeds ++ more) ≡ steps_of deeds ++ steps_of more
+steps_of-append [] more = refl
+steps_of-append (deed ∷ deeds) more =
+    ap (λ (ds : List Deed). step_in deed ++ ds) (steps_of-append deeds more)
+    ∙ sym (append_assoc (step_in deed) (steps_of deeds) (steps_of more))
+
+-- each of the steps among deeds is one of the deeds
+pub step_at : (deeds : List Deed) (i : ℕ) (step : Deed) → slice_get (steps_of deeds) i ≡ Some step
+    → (place : ℕ) × (slice_get deeds place ≡ Some step)
+step_at [] i step at = cc
+step_at (Made bot made ∷ deeds) zero step at = (zero, at)
+step_at (Made bot made ∷ deeds) (suc i) step at = let it = step_at deeds i step at in (suc it.0, it.1)
+step_at (Died bot was doing first second ∷ deeds) i step at = let it = step_at deeds i step at in (suc it.0, it.1)
+step_at (Opened bot after ∷ deeds) i step at = let it = step_at deeds i step at in (suc it.0, it.1)
+step_at (Unopened bot first second ∷ deeds) i step at = let it = step_at deeds i step at in (suc it.0, it.1)
+step_at (Replaced leaf after ∷ deeds) i step at = let it = step_at deeds i step at in (suc it.0, it.1)
+
+-- these deeds, one after another, accept what makes the one list of the other
+abbrev pub AcceptInAll : List Deed → List AcceptedChange → List AcceptedChange → Type 0
+AcceptInAll [] old new = new ≡ old
+AcceptInAll (deed ∷ deeds) old new = (mid : List AcceptedChange) × AcceptsIn deed old mid × AcceptInAll deeds mid new
+
+-- ---- worlds
+
+-- what had happened before is a world too
+pub IsWorld-before : (promised : Promised) (names : ℕ → List (List ℕ)) (leaves : ℕ) (first : Net) (more world : List Happening)
+    → IsWorld promised names leaves first (more ++ world) → IsWorld promised names leaves first world
+IsWorld-before promised names leaves first [] world is = is
+IsWorld-before promised names leaves first (h ∷ more) world is = IsWorld-before promised names leaves first more world is.1

@@ -1,0 +1,4 @@
+pub mod Acts
+pub mod Worlds
+pub mod Histories
+pub mod Examples

@@ -1,0 +1,5 @@
+pub mod Hmac
+pub mod Records
+pub mod Streams
+pub mod Steps
+pub mod Unforged

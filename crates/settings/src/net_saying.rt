@@ -1,0 +1,92 @@
+// What the lines say that are about the net: which bot it is, where the hub listens, and which leaves only read.
+ghost use Rattle.std.specs.Prelude.{◌≡◌, IfOk};
+ghost use Rattle.settings.specs.Grammar.{bot_numbered, bot_of, bot_said, hub_said, leaf_said, listen_said};
+
+use crate::MAX_LEAVES;
+use crate::address::is_address;
+use crate::advice::SettingAdvice;
+use crate::cutting::cut_word;
+use crate::numeral::{number, port};
+use crate::saying::SettingSaying;
+use crate::setting_word::SettingWord;
+use crate::settings::{Address, Station};
+use bytetext::{NoMemory, Text};
+use std::alloc::Global;
+
+pub(crate) fn bot_said(rest: &[u8]) -> SettingSaying
+    ensures { result ≡ bot_said rest.now }
+{
+    let cut = cut_word(rest);
+    bot_of(cut.word, cut.rest)
+}
+
+// `of LEAVES`, after a number.
+fn bot_of(numeral: &[u8], rest: &[u8]) -> SettingSaying
+    ensures { result ≡ bot_of numeral.now rest.now }
+{
+    let of = cut_word(rest);
+    let leaves = cut_word(of.rest);
+    if of.word != b"of".as_slice() || !leaves.rest.is_empty() {
+        return SettingSaying::Wrong(SettingAdvice::Form(SettingWord::Bot));
+    }
+    bot_numbered(number(numeral), number(leaves.word))
+}
+
+fn bot_numbered(number: Option<u16>, leaves: Option<u16>) -> SettingSaying
+    ensures { result ≡ bot_numbered number leaves }
+{
+    let (Some(number), Some(leaves)) = (number, leaves) else {
+        return SettingSaying::Wrong(SettingAdvice::Form(SettingWord::Bot));
+    };
+    if number <= leaves && leaves <= MAX_LEAVES {
+        SettingSaying::Bot(Station { number, leaves })
+    } else {
+        SettingSaying::Wrong(SettingAdvice::Leaves)
+    }
+}
+
+pub(crate) fn hub_said(alloc: Global, rest: &[u8]) -> Result<SettingSaying, NoMemory>
+    ensures { IfOk result (λ saying. saying ≡ hub_said rest.now) }
+{
+    let host = cut_word(rest);
+    let numeral = cut_word(host.rest);
+    if host.rest.is_empty() || !numeral.rest.is_empty() {
+        return Ok(SettingSaying::Wrong(SettingAdvice::Form(SettingWord::Hub)));
+    }
+    let Some(port) = port(numeral.word) else {
+        return Ok(SettingSaying::Wrong(SettingAdvice::Port));
+    };
+    let host = Text::from_slice(alloc, host.word)?;
+    Ok(SettingSaying::Hub(Address { host, port }))
+}
+
+// `N reads`, of a leaf.
+pub(crate) fn leaf_said(rest: &[u8]) -> SettingSaying
+    ensures { result ≡ leaf_said rest.now }
+{
+    let leaf = cut_word(rest);
+    let reads = cut_word(leaf.rest);
+    match number(leaf.word) {
+        Some(leaf) if reads.word == b"reads".as_slice() && reads.rest.is_empty() =>
+            SettingSaying::Leaf(leaf),
+        Some(_) | None => SettingSaying::Wrong(SettingAdvice::Form(SettingWord::Leaf)),
+    }
+}
+
+pub(crate) fn listen_said(alloc: Global, rest: &[u8]) -> Result<SettingSaying, NoMemory>
+    ensures { IfOk result (λ saying. saying ≡ listen_said rest.now) }
+{
+    let host = cut_word(rest);
+    let numeral = cut_word(host.rest);
+    if host.rest.is_empty() || !numeral.rest.is_empty() {
+        return Ok(SettingSaying::Wrong(SettingAdvice::Form(SettingWord::Listen)));
+    }
+    let Some(port) = port(numeral.word) else {
+        return Ok(SettingSaying::Wrong(SettingAdvice::Port));
+    };
+    if !is_address(host.word) {
+        return Ok(SettingSaying::Wrong(SettingAdvice::Address));
+    }
+    let host = Text::from_slice(alloc, host.word)?;
+    Ok(SettingSaying::Listen(Address { host, port }))
+}
