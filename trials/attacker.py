@@ -18,21 +18,13 @@ import threading
 import time
 
 sys.dont_write_bytecode = True
-from bots import Bot, Nowhere, Tally, comes, end_all, free_port, program_of
+from bots import Bot, Nowhere, Tally, comes, end_all, free_port, program_of, shut
 from nets import SECRET, records_of, version_of
 from sealed import Copy, Sealer, adduser, code, cut_records, hello, leaf_key, leaf_line
 
 TO_LEAF, TO_HUB = 0, 1
 CHANGED = r"not the one that the other bot sent|has a bad length"
 TOP = 2 ** 32 - 1
-
-
-def shut(*those):
-    for it in those:
-        try:
-            it.shutdown(socket.SHUT_RDWR)
-        except OSError:
-            pass
 
 
 class Middle:

@@ -388,6 +388,15 @@ def records_at(version):
     return f"0 version {version} users {len(users)} bans 0\n" + "".join(users)
 
 
+def shut(*those):
+    """Ends connections, also of sockets that are closed already."""
+    for it in those:
+        try:
+            it.shutdown(socket.SHUT_RDWR)
+        except OSError:
+            pass
+
+
 def end_all(*those):
     """Ends what a trial has started."""
     for it in those:

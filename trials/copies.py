@@ -88,6 +88,7 @@ def made_again(tally, field):
           since=since)
     shown = leaf.answers("show") or ""
     tally.note("it has taken nothing", version_of(shown) == 0, shown)
+    asked(tally, "it may not ask before it is linked", leaf, "adduser early", r"^refused", 1)
     status, out, err = hub.tell("renew", "1")
     tally.note("tell renew 1", status == 0, out + err)
     tally.note("leaf 1 is level", field.settles())
@@ -107,7 +108,7 @@ def twins(tally, field):
     names(tally, "both logs say that it is another folder", r"renew 2|another folder|another machine", hub, twin, since=since)
     tally.note("leaf 2 is still level", field.settles())
     asked(tally, "leaf 2 asks", leaf, "adduser fromtwo", r"^accepted \d+")
-    asked(tally, "its twin asks, and hears nothing of it", twin, "adduser fromtwin", r"^queued", 1)
+    asked(tally, "its twin asks, and is refused", twin, "adduser fromtwin", r"^refused", 1)
     twin.kill()
     tally.note("nothing came of the twin", "fromtwin" not in (hub.answers("show") or ""))
 

@@ -20,7 +20,7 @@ import time
 from pathlib import Path
 
 sys.dont_write_bytecode = True
-from bots import Bot, Nowhere, Tally, comes, counts_of, end_all, free_port, program_of
+from bots import Bot, Nowhere, Tally, comes, counts_of, end_all, free_port, program_of, shut
 from nets import SECRET
 
 WAIT = 0.03  # seconds each way
@@ -51,11 +51,7 @@ class Far:
                 threading.Thread(target=carry, args=(source, sink), daemon=True).start()
 
     def cut(self):
-        for it in self.ends:
-            try:
-                it.shutdown(socket.SHUT_RDWR)
-            except OSError:
-                pass
+        shut(*self.ends)
 
 
 def carry(source, sink):

@@ -17,7 +17,7 @@ import time
 from pathlib import Path
 
 sys.dont_write_bytecode = True
-from bots import Bot, Nowhere, Tally, comes, end_all, free_port, program_of
+from bots import Bot, Nowhere, Tally, comes, end_all, free_port, program_of, shut
 from nets import SECRET, Operator, records_of, version_of
 
 USERS, MASKS = 500, 16
@@ -64,19 +64,11 @@ class Narrow:
                 time.sleep(len(came) / rate)
         except OSError:
             pass
-        self.shut(source, sink)
+        shut(source, sink)
 
     def cut(self, *those):
         self.cuts += 1
-        self.shut(*those)
-
-    @staticmethod
-    def shut(*those):
-        for it in those:
-            try:
-                it.shutdown(socket.SHUT_RDWR)
-            except OSError:
-                pass
+        shut(*those)
 
 
 def fill(hub):

@@ -6,6 +6,7 @@ pub mod KeptSums
 pub mod Outcomes
 pub mod Owns
 pub mod Passing
+pub mod Refusing
 pub mod Renewals
 pub mod Spaces
 pub mod Stations

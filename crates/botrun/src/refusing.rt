@@ -1,4 +1,8 @@
 // Why a bot does not execute a command now.
+ghost use Rattle.std.specs.Prelude.{◌≡◌, true, false, IfOk, IsSome};
+ghost use Rattle.peers.specs.Asking.{may_ask};
+ghost use Rattle.botrun.specs.Refusing.{is_change};
+
 use crate::process::Process;
 use crate::space::NO_ROOM;
 use bytetext::NoMemory;
@@ -10,14 +14,21 @@ use std::alloc::Global;
 const READS: &[u8] =
     b"refused this leaf may only read: ask at the hub, or take its line leaf out of the hub's configuration\n";
 
+// The answer to an admin who asks for a change at a leaf that was never linked.
+const NEW: &[u8] =
+    b"refused never linked: this leaf takes changes once its hub has welcomed it: ask at the hub, or see what status says\n";
+
 impl Process {
     // Returns the answer that refuses `command`, if the bot does not execute it now: it has no room on its disk, or it is
-    // a hub in doubt, or a leaf that may only read.
+    // a hub in doubt, or a leaf that may only read or was never linked.
     pub(crate) fn refusal(
         &self,
         alloc: Global,
         command: &AdminCommand,
-    ) -> Result<Option<Vec<u8>>, NoMemory> {
+    ) -> Result<Option<Vec<u8>>, NoMemory>
+        // A bot that may not ask for changes refuses each change.
+        ensures asks { may_ask self.now.others.links ≡ false → is_change command.now ≡ true → IfOk result IsSome }
+    {
         if needs_room(command) && !self.space.has_room() {
             return Ok(Some(Vec::from_slice(alloc, NO_ROOM)?));
         }
@@ -26,6 +37,9 @@ impl Process {
         }
         if let Some(doubt) = self.others.links.doubt() {
             return Ok(Some(in_doubt(alloc, doubt)?));
+        }
+        if self.others.links.is_new_leaf() {
+            return Ok(Some(Vec::from_slice(alloc, NEW)?));
         }
         if !self.others.links.may_ask() {
             return Ok(Some(Vec::from_slice(alloc, READS)?));
@@ -57,7 +71,9 @@ fn found(refusal: HandshakeRefusal) -> &'static str {
 }
 
 // Whether a command asks for a change of the records.
-fn is_change(command: &AdminCommand) -> bool {
+fn is_change(command: &AdminCommand) -> bool
+    ensures { result ≡ is_change command.now }
+{
     match command {
         AdminCommand::Change(_) => true,
         AdminCommand::Show

@@ -18,9 +18,9 @@
 //! Binds may call the procs of `eggprocs`, whose first page lists them.
 //!
 //! The program ends with status 0 when all is done; 1 for a faulty configuration, another bot's journal, a file without
-//! the secret of a net, a command that a bot refuses or does not understand, and a script that breaks a rule; 2 for a command line that is not understood;
-//! 3 if reading, writing, a folder, a disk or a socket fails, if no bot runs, or if a live botnet stalls; 4 if memory
-//! runs out. Standard error says which.
+//! the secret of a net, a command that a bot refuses or does not understand, and a script that breaks a rule; 2 for a
+//! command line that is not understood; 3 if reading, writing, a folder, a disk or a socket fails, if no bot runs, or
+//! if a live botnet stalls; 4 if memory runs out. Standard error says which.
 #![tactic(auto)]
 
 mod configuration;

@@ -1,6 +1,6 @@
 -- The lines of a book are read as they were written, and the value says what they say.
 use Rattle.std.proofs.Common.{◌≡◌, ◌==◌, ℕ, zero, suc, ◌+◌, ◌<◌, ◌≤◌, Bool, true, false, ◌&&◌, ◌||◌, if◌then◌else◌}
-use Rattle.std.proofs.Common.{List, [], ◌∷◌, ◌++◌, length, take, drop, set, position, codes, decimal, Option, Some, None, refl, sym, ap, subst, ◌∙◌, arith}
+use Rattle.std.proofs.Common.{List, [], ◌∷◌, ◌++◌, length, map, take, drop, set, position, codes, decimal, Option, Some, None, refl, sym, ap, subst, ◌∙◌, arith}
 use Rattle.std.proofs.Common.{add-one, append_assoc, append-nil, drop-drop, get_or, length-append, length-set, replicate, ◌≢◌, true≢false}
 use Rattle.std.specs.Prelude.{fold, slice_get}
 use Rattle.std.specs.List.{flat_map, list_all, list_any, AllByRecursion}
@@ -243,6 +243,17 @@ pub says_bar : (book : Leaves) (made : List ℕ) (lines : List BookLine) → Say
 says_bar book made lines says =
     says-more book lines (Bars made) says says.folders refl
     (λ other. list_any-append (λ kept. bytes_eq kept other) book.barred (made ∷ []))
+
+-- bars of several folders, one after another
+pub says_bars : (book : Leaves) (made : List (List ℕ)) (lines : List BookLine) → Says book lines
+    → Says (record book { barred = book.barred ++ made }) (lines ++ map Bars made)
+says_bars book [] lines says =
+    subst (λ (ls : List BookLine). Says (record book { barred = book.barred ++ [] }) ls) (sym (append-nil lines))
+    (subst (λ folders. Says (record book { barred = folders }) lines) (sym (append-nil book.barred)) says)
+says_bars book (one ∷ made) lines says =
+    let rest = says_bars (with_line (Bars one) book) made (lines ++ Bars one ∷ []) (says_bar book one lines says) in
+    subst (λ (ls : List BookLine). Says (record book { barred = book.barred ++ one ∷ made }) ls) (append_assoc lines (Bars one ∷ []) (map Bars made))
+    (subst (λ folders. Says (record book { barred = folders }) ((lines ++ Bars one ∷ []) ++ map Bars made)) (append_assoc book.barred (one ∷ []) made) rest)
 
 pub says_nothing : (count : ℕ) → Says (record { folders = replicate count None; barred = [] }) []
 says_nothing count = record {

@@ -13,3 +13,4 @@ pub mod SealLemmas
 pub mod PickingLemmas
 pub mod HearingLemmas
 mod JoiningLemmas
+mod DoubtLemmas

@@ -1,10 +1,10 @@
 -- Streams that are asked one after another.
-use Rattle.std.proofs.Common.{◌≡◌, ◌∙◌, ◌++◌, ◌+◌, ◌-◌, ◌<◌, ◌≤◌, ℕ, min, List, [], ◌∷◌, length, get_or, set, take, drop, sym, ap, drop-drop, add-zero, get_or-drop, drop-set-lt, arith}
+use Rattle.std.proofs.Common.{◌≡◌, ◌∙◌, ◌++◌, ◌+◌, ◌-◌, ◌<◌, ◌≤◌, ℕ, zero, suc, refl, min, List, [], ◌∷◌, length, get_or, set, take, drop, sym, ap, drop-drop, add-zero, get_or-drop, drop-set-lt, arith}
 use Rattle.std.proofs.lemmas.List.{take_more_set}
 use Rattle.std.proofs.lemmas.List.Sums.{fold_more}
 use Rattle.sharewire.specs.declared.packet.Packet.{Packet}
 use Rattle.peers.specs.declared.queue.TheConstants.{MAX_PACKETS}
-use Rattle.peers.specs.Waiting.{asked, round_of, share}
+use Rattle.peers.specs.Waiting.{Waiting, asked, queue_of, round_of, share, with_queue}
 
 -- lists that are the same from a place on have the same there
 item-same : {X : Type 0} (xs ys : List X) (i : ℕ) (d : X) → drop i xs ≡ drop i ys → get_or xs i d ≡ get_or ys i d
@@ -37,3 +37,14 @@ asks-one queues now i given more served one queue left d within room is same rou
 -- at most one stream more is served
 pub serves-one : (served one asked room : ℕ) → one ≡ min 1 room → served ≤ asked → served + one ≤ asked + 1
 serves-one served one asked room is few = omega arith
+
+-- ---- a queue that is emptied
+
+-- no place of the set list has anything else than the default where the default is set
+set-default : {X : Type 0} (xs : List X) (i : ℕ) (d : X) → get_or (set xs i d) i d ≡ d
+set-default [] i d = refl
+set-default (x ∷ xs) zero d = refl
+set-default (x ∷ xs) (suc i) d = set-default xs i d
+
+pub emptied : (waiting : Waiting) (stream : ℕ) → queue_of (with_queue stream [] waiting) stream ≡ []
+emptied waiting stream = set-default waiting.queues stream []

@@ -1,5 +1,5 @@
 -- What a bot says in a beat.
-use Rattle.std.specs.Prelude.{◌≡◌, ℕ, ◌-◌, List, [], ◌++◌, length, drop, if◌then◌else◌}
+use Rattle.std.specs.Prelude.{◌≡◌, ℕ, ◌-◌, List, [], ◌++◌, length, drop}
 use Rattle.std.specs.Int.{w32, to_be_bytes}
 use Rattle.sealing.specs.declared.limits.TheConstants.{BEAT_LEN}
 use Rattle.peers.specs.declared.beat.Beat.{Beat}

@@ -27,3 +27,5 @@ pub mod Doubts
 pub mod HubHearing
 pub mod Shown
 pub mod Crowds
+pub mod Entering
+pub mod Asking

@@ -68,7 +68,7 @@ impl Model for Book {
 }
 
 impl Book {
-    ghost use Rattle.std.specs.Prelude.{◌≡◌, ◌<◌, ◌+◌, ◌++◌, ◌∷◌, [], List, None, IfOk, IfErr, OnOk, OnErr, length, replicate, set};
+    ghost use Rattle.std.specs.Prelude.{◌≡◌, ◌<◌, ◌+◌, ◌++◌, ◌∷◌, [], List, None, IfOk, IfErr, OnOk, OnErr, length, map, replicate, set};
     ghost use Rattle.peers.specs.Books.{IsRead, IsRefused, Says, folder_of, is_barred, place_in, place_of, with_line};
     ghost use Rattle.peers.specs.declared.book_line.BookLine.{BookLine as Line};
     ghost use Rattle.peers.specs.declared.book_line.BookLine.TheVariants.{Bars, Enters, Frees};
@@ -154,7 +154,20 @@ impl Book {
         ensures says { OnOk result ((lines : List Line) → Says self.old lines → Says self.new (lines ++ Bars made.now ∷ [])) }
         ensures unchanged { OnErr result (self.new ≡ self.old) }
     {
-        self.push_barred(*made)
+        self.push_barred(&[*made])
+    }
+
+    /// The folders with the numbers `made` never join again, as the lines of [`bar_line`](crate::bar_line) say.
+    ///
+    /// # Errors
+    /// `NoMemory` if an allocation fails: the book is as before.
+    #[tactic(auto, using(crate::proofs::BookLemmas::says_bars))]
+    pub fn bar_all(&mut self, made: &[DrawnNumber]) -> Result<(), NoMemory>
+        ensures value { OnOk result (self.new ≡ record self.old { barred = self.old.barred ++ made.now }) }
+        ensures says { OnOk result ((lines : List Line) → Says self.old lines → Says self.new (lines ++ map Bars made.now)) }
+        ensures unchanged { OnErr result (self.new ≡ self.old) }
+    {
+        self.push_barred(made)
     }
 
     // The folder that is `leaf` from now on, if the book has room for that leaf.
@@ -166,12 +179,12 @@ impl Book {
         }
     }
 
-    // One more barred folder.
-    fn push_barred(&mut self, made: DrawnNumber) -> Result<(), NoMemory>
-        ensures value { OnOk result (self.new ≡ record self.old { barred = self.old.barred ++ made ∷ [] }) }
+    // More barred folders.
+    fn push_barred(&mut self, made: &[DrawnNumber]) -> Result<(), NoMemory>
+        ensures value { OnOk result (self.new ≡ record self.old { barred = self.old.barred ++ made.now }) }
         ensures unchanged { OnErr result (self.new ≡ self.old) }
     {
-        self.barred.push(made)?;
+        self.barred.extend_from_slice(made)?;
         Ok(())
     }
 

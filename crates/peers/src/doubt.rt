@@ -1,7 +1,7 @@
 // Whether the hub may be an older copy of itself.
 ghost use Rattle.std.specs.Prelude.{◌≡◌};
 ghost use Rattle.peers.specs.Books.{entry_line};
-ghost use Rattle.peers.specs.Doubts.{is_doubt};
+ghost use Rattle.peers.specs.Doubts.{IsDoubtIn, doubted_by, is_doubt};
 
 use crate::book_line::{BookLine, entry_line, first_line};
 use crate::drawn_number::DrawnNumber;
@@ -35,7 +35,9 @@ pub fn doubt_line(doubted: &Doubted) -> HandshakeLine
 
 /// Reads the bytes of a file `doubt`. Returns `None` if they do not begin with a line of [`doubt_line`]. The line does not
 /// say what the hub found, so the leaf counts as one that is ahead.
-pub fn doubt_in(bytes: &[u8]) -> Option<Doubted> {
+pub fn doubt_in(bytes: &[u8]) -> Option<Doubted>
+    ensures { IsDoubtIn bytes.now result }
+{
     match first_line(bytes) {
         Some(first) => doubted_by(&first.line),
         None => None,
@@ -43,7 +45,9 @@ pub fn doubt_in(bytes: &[u8]) -> Option<Doubted> {
 }
 
 // The leaf that a line enters.
-fn doubted_by(line: &BookLine) -> Option<Doubted> {
+fn doubted_by(line: &BookLine) -> Option<Doubted>
+    ensures { result ≡ doubted_by line.now }
+{
     match line {
         BookLine::Enters { leaf, made } => Some(Doubted {
             doubt: Doubt {

@@ -1,7 +1,8 @@
 // What the hub does when it may be an older copy of itself, and when a leaf is made again.
-ghost use Rattle.std.specs.Prelude.{◌≡◌, true, is_some, None, Some, IfSome, IsSome, IsTrue};
-ghost use Rattle.std.specs.List.{list_any};
-ghost use Rattle.peers.specs.Doubts.{Compares, is_doubt, with_doubt};
+ghost use Rattle.std.specs.Prelude.{◌≡◌, true, false, is_some, None, Some, IfOk, IfSome, IsSome, IsTrue, OnErr, option_map};
+ghost use Rattle.std.specs.List.{flat_map, list_any};
+ghost use Rattle.peers.specs.Books.{bar_line};
+ghost use Rattle.peers.specs.Doubts.{Compares, Renews, Trusts, doubted_folders, is_doubt, is_leaf_of, with_doubt};
 ghost use Rattle.peers.specs.Hearing.{refusal_of};
 ghost use Rattle.peers.specs.Tells.{in_doubt};
 
@@ -101,18 +102,19 @@ impl HubLinks {
     /// and ends the doubt. Returns the lines for the book. Once they are there, remove the file `doubt`.
     ///
     /// # Errors
-    /// `NoMemory` if an allocation fails: never if there is no doubt. The doubt stays then.
-    pub fn trust(&mut self, alloc: Global) -> Result<Vec<u8>, NoMemory> {
-        let mut lines = Vec::new(alloc);
-        for place in self.doubts.as_slice() {
-            if let Some(doubted) = place {
-                lines.extend_from_slice(bar_line(&doubted.made).as_bytes())?;
-                self.book.bar(&doubted.made)?;
-            }
+    /// `NoMemory` if an allocation fails: never if there is no doubt. Nothing is done then.
+    pub fn trust(&mut self, alloc: Global) -> Result<Vec<u8>, NoMemory>
+        ensures trusts { IfOk result (λ lines. Trusts self.old lines.items self.new) }
+        ensures memory { OnErr result (IsTrue (in_doubt self.old)) }
+        ensures unchanged { OnErr result (self.new ≡ self.old) }
+    {
+        if !self.is_in_doubt() {
+            return Ok(Vec::new(alloc));
         }
-        for place in self.doubts.iter_mut() {
-            *place = None;
-        }
+        let folders = doubted_folders(alloc, self.doubts.as_slice())?;
+        let lines = bar_lines(alloc, folders.as_slice())?;
+        self.book.bar_all(folders.as_slice())?;
+        settle(self.doubts.as_mut_slice());
         self.is_doubt_kept = false;
         Ok(lines)
     }
@@ -121,14 +123,18 @@ impl HubLinks {
     /// book, or `None` if the net has no such leaf.
     ///
     /// # Errors
-    /// `NoMemory` if an allocation fails. Nothing is done then.
+    /// `NoMemory` if an allocation fails: never if the net has no such leaf. Nothing is done then.
     pub fn renew(
         &mut self,
         alloc: Global,
         log: &mut Log,
         leaf: u16,
         now: u64,
-    ) -> Result<Option<Vec<u8>>, NoMemory> {
+    ) -> Result<Option<Vec<u8>>, NoMemory>
+        ensures renews { IfOk result (λ line. Renews leaf self.old (option_map (λ line. line.items) line) self.new) }
+        ensures memory { OnErr result (IsTrue (is_leaf_of self.old leaf)) }
+        ensures unchanged { OnErr result (self.new ≡ self.old) }
+    {
         if leaf < 1 || leaf > self.leaves {
             return Ok(None);
         }
@@ -139,8 +145,41 @@ impl HubLinks {
     }
 }
 
+// The numbers of the folders of the leaves that are ahead of the hub, or differ from it.
+fn doubted_folders(alloc: Global, doubts: &[Option<Doubted>]) -> Result<Vec<DrawnNumber>, NoMemory>
+    ensures { IfOk result (λ folders. folders.items ≡ doubted_folders doubts.now) }
+{
+    let mut folders = Vec::new(alloc);
+    for place in doubts {
+        if let Some(doubted) = place {
+            folders.push(doubted.made)?;
+        }
+    }
+    Ok(folders)
+}
+
+// No leaf is in doubt from now on.
+fn settle(doubts: &mut [Option<Doubted>])
+    ensures { list_any is_some doubts.new ≡ false }
+{
+    for place in doubts.iter_mut() {
+        *place = None;
+    }
+}
+
+// The lines by which these folders never join again.
+fn bar_lines(alloc: Global, folders: &[DrawnNumber]) -> Result<Vec<u8>, NoMemory>
+    ensures { IfOk result (λ lines. lines.items ≡ flat_map bar_line folders.now) }
+{
+    let mut lines = Vec::new(alloc);
+    for made in folders {
+        lines.extend_from_slice(bar_line(made).as_bytes())?;
+    }
+    Ok(lines)
+}
+
 // The first of these doubts.
-fn first_doubt(doubts: &[Option<Doubted>]) -> Option<Doubted>
+pub(crate) fn first_doubt(doubts: &[Option<Doubted>]) -> Option<Doubted>
     ensures { is_some result ≡ list_any is_some doubts.now }
 {
     for place in doubts {

@@ -1,6 +1,11 @@
 // How new folders come into the hub's book.
+ghost use Rattle.std.specs.Prelude.{◌≡◌, true, IfErr, IfOk, IsTrue};
+ghost use Rattle.std.specs.List.{flat_map, list_any};
+ghost use Rattle.peers.specs.Entering.{entry_of, is_any_entering, is_entering, lines_to_enter};
+
 use crate::book::Place;
 use crate::book_line::entry_line;
+use crate::guest::Guest;
 use crate::guest_stage::GuestStage;
 use crate::hub_links::HubLinks;
 use bytetext::NoMemory;
@@ -12,18 +17,14 @@ impl HubLinks {
     ///
     /// # Errors
     /// `NoMemory` if an allocation fails: never if there are none.
-    pub fn to_enter(&self, alloc: Global) -> Result<Vec<u8>, NoMemory> {
-        let mut lines = Vec::new(alloc);
+    pub fn to_enter(&self, alloc: Global) -> Result<Vec<u8>, NoMemory>
+        ensures lines { IfOk result (λ lines. lines.items ≡ lines_to_enter self.now) }
+        ensures memory { IfErr result (λ _. IsTrue (is_any_entering self.now)) }
+    {
         if self.own.is_none() {
-            return Ok(lines);
+            return Ok(Vec::new(alloc));
         }
-        for guest in self.guests.list.as_slice() {
-            if let GuestStage::Enters(asked) = guest.stage {
-                let words = &asked.ask.words;
-                lines.extend_from_slice(entry_line(words.leaf, &words.made).as_bytes())?;
-            }
-        }
-        Ok(lines)
+        entry_lines(alloc, self.guests.list.as_slice())
     }
 
     /// Notes that the lines that [`HubLinks::to_enter`] returned in this turn are on the disk, and welcomes the leaves
@@ -69,4 +70,19 @@ impl HubLinks {
             Place::Free | Place::Taken | Place::Barred => Ok(()),
         }
     }
+}
+
+// The lines for the book of the guests that wait for them.
+fn entry_lines(alloc: Global, guests: &[Guest]) -> Result<Vec<u8>, NoMemory>
+    ensures lines { IfOk result (λ lines. lines.items ≡ flat_map entry_of guests.now) }
+    ensures memory { IfErr result (λ _. list_any is_entering guests.now ≡ true) }
+{
+    let mut lines = Vec::new(alloc);
+    for guest in guests {
+        if let GuestStage::Enters(asked) = guest.stage {
+            let words = &asked.ask.words;
+            lines.extend_from_slice(entry_line(words.leaf, &words.made).as_bytes())?;
+        }
+    }
+    Ok(lines)
 }

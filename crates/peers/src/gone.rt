@@ -22,7 +22,7 @@ pub(crate) enum Gone {
     Handshake(HandshakeFault),
     // The other end sends bytes that are none of its records.
     NotSealed(SealFault),
-    // It sends a beat of a wrong length.
+    // It sends a heartbeat of a wrong length.
     BadBeat,
     // The other end sends bytes that are no frames.
     NoFrames(WireFault),
@@ -109,7 +109,7 @@ fn sentence(gone: Gone) -> &'static str {
         Gone::TooSlow => "it takes too little: 4194304 bytes wait for it",
         Gone::Stuck => "it took nothing for 35 seconds, although bytes wait for it",
         Gone::Silent => "it said nothing for 35 seconds",
-        Gone::BadBeat => "it sends a beat of a wrong length: run the same release on all bots",
+        Gone::BadBeat => "it sends a heartbeat of a wrong length: run the same release on all bots",
         Gone::OtherSpeaker => "it sends a packet that is not its own",
         Gone::Replaced => "it has connected again",
         Gone::Renewed => "its number was freed for another folder",

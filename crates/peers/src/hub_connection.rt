@@ -3,6 +3,7 @@ ghost use Rattle.std.specs.Prelude.{◌≡◌, ◌<◌, ◌↔◌, None, Some, I
 ghost use Rattle.bytetext.specs.declared.moment.TheConstants.{MOMENTS_END};
 ghost use Rattle.sharelink.specs.Shapes.{HasGoodRecords};
 ghost use Rattle.sharewire.specs.Frames.{CanBeWritten};
+ghost use Rattle.peers.specs.Asking.{is_new, may_leaf_ask};
 ghost use Rattle.peers.specs.Linked.{IsHeard, IsLinked, IsName, LooksUp};
 ghost use Rattle.peers.specs.Tells.{TellsHub};
 
@@ -333,6 +334,25 @@ impl HubConnection {
         Ok(busy)
     }
 
+    /// Whether the leaf keeps no number of a net: it was never linked.
+    pub fn is_new(&self) -> bool
+        ensures { result ≡ is_new self.now }
+    {
+        self.station.net.is_none()
+    }
+
+    /// Whether the leaf may ask for changes: as its hub said last, and not if it is new. A new leaf's requests get no
+    /// numbers before the hub has told it above which they begin. Otherwise the hub could take one for a request of an
+    /// earlier folder, and answer it as it answered that one.
+    pub fn may_ask(&self) -> bool
+        ensures { result ≡ may_leaf_ask self.now }
+    {
+        match self.may {
+            LeafRights::Asks => !self.is_new(),
+            LeafRights::Reads => false,
+        }
+    }
+
     /// Whether the hub is linked.
     pub fn is_linked(&self) -> bool
         ensures { IsTrue result ↔ IsLinked self.now.hub }
@@ -406,9 +426,7 @@ impl HubConnection {
         requires moment { now < MOMENTS_END }
     {
         self.hub = None;
-        if self.inbox.stream_count() > 0 {
-            self.inbox.forget(0);
-        }
+        self.inbox.forget(0);
         self.dialling.lost(now);
         log.note(now, &Entry::HubGone(gone, self.dialling.due()));
     }

@@ -10,6 +10,7 @@ ghost use Rattle.peers.specs.Tells.{TakesGranted, TellsPlace, granted, in_doubt}
 use crate::beat::Beat;
 use crate::book::Book;
 use crate::doubt::Doubted;
+use crate::doubts::first_doubt;
 use crate::drawn_number::DrawnNumber;
 use crate::guest::Guest;
 use crate::guests::Guests;
@@ -134,6 +135,7 @@ impl HubLinks {
         let rights = rights_of(alloc, places, readers.as_slice())?;
         let seats = no_seats(alloc, places)?;
         let doubts = first_doubts(alloc, places, doubt)?;
+        let is_doubt_kept = first_doubt(doubts.as_slice()).is_some();
         let slots = no_slots(alloc, places + MAX_GUESTS)?;
         let inbox = Inbox::new(alloc, places)?;
         match TcpDoor::open(rt, registry, DOOR, address) {
@@ -149,7 +151,7 @@ impl HubLinks {
                 slots,
                 inbox,
                 doubts,
-                is_doubt_kept: doubt.is_some(),
+                is_doubt_kept,
                 own: None,
                 told: 0,
                 steady: 0,
@@ -254,7 +256,9 @@ impl HubLinks {
     }
 
     // Makes the token of `slot` name another connection from now on, or none.
-    pub(crate) fn name(&mut self, slot: usize, who: Option<Who>) {
+    pub(crate) fn name(&mut self, slot: usize, who: Option<Who>)
+        ensures { self.new ≡ record self.old { slots = self.new.slots } }
+    {
         if let Some(named) = self.slots.get_mut(slot) {
             *named = who;
         }

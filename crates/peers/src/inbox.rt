@@ -114,11 +114,14 @@ impl Inbox {
     }
 
     /// Drops the queued packets of `stream`, for example after its connection has ended.
+    #[tactic(auto, using(crate::proofs::WaitingLemmas::emptied))]
     pub fn forget(&mut self, stream: usize)
-        requires within { stream < length self.old.queues }
-        ensures { self.new ≡ with_queue stream [] self.old }
+        ensures value { self.new ≡ with_queue stream [] self.old }
+        ensures none { queue_of self.new stream ≡ [] }
     {
-        self.queues[stream].clear();
+        if let Some(queue) = self.queues.get_mut(stream) {
+            queue.clear();
+        }
     }
 
     /// Takes the packets of one turn. Asks the streams one after another, beginning with the one for which the last

@@ -1,8 +1,11 @@
 // A bot's connections to the others of its net.
-ghost use Rattle.std.specs.Prelude.{◌≡◌, ◌≢◌, ◌<◌, IfOk, IfErr, OnOk, OnErr, option_map};
+ghost use Rattle.std.specs.Prelude.{◌≡◌, ◌≢◌, ◌<◌, IfOk, IfErr, OnOk, OnErr, is_some, option_map};
 ghost use Rattle.std.specs.List.{AllByRecursion};
 ghost use Rattle.bytetext.specs.declared.moment.TheConstants.{MOMENTS_END};
 ghost use Rattle.sharewire.specs.Frames.{CanBeWritten};
+ghost use Rattle.peers.specs.Asking.{is_new_leaf, may_ask};
+ghost use Rattle.peers.specs.Doubts.{RenewsLeaf, TrustsThis, is_in_doubt};
+ghost use Rattle.peers.specs.Entering.{lines_of};
 ghost use Rattle.peers.specs.Hellos.{asked, noted, pumps_of};
 ghost use Rattle.peers.specs.Linked.{Hears, MayConnect, Reaches};
 ghost use Rattle.peers.specs.Tells.{TakesPackets, TellsOne};
@@ -12,7 +15,6 @@ ghost use Rattle.sharelink.specs.Shapes.{HasGoodRecords};
 use crate::doubt::Doubt;
 use crate::drawn_number::DrawnNumber;
 use crate::handshake_line::HandshakeLine;
-use crate::handshake_progress::LeafRights;
 use crate::hub_connection::HubConnection;
 use crate::hub_links::HubLinks;
 use crate::own::Own;
@@ -246,7 +248,9 @@ impl Links {
     ///
     /// # Errors
     /// `NoMemory` if an allocation fails: never if there are none.
-    pub fn to_enter(&self, alloc: Global) -> Result<Vec<u8>, NoMemory> {
+    pub fn to_enter(&self, alloc: Global) -> Result<Vec<u8>, NoMemory>
+        ensures lines { IfOk result (λ lines. lines.items ≡ lines_of self.now) }
+    {
         match self {
             Links::Alone | Links::Leaf(_) => Ok(Vec::new(alloc)),
             Links::Hub(hub) => hub.to_enter(alloc),
@@ -282,7 +286,9 @@ impl Links {
 
     /// At a hub, whether it may be an older copy of itself: a leaf is ahead of it, or differs from it. Until
     /// [`Links::trust`] it takes no request, and the process is to refuse its own changes.
-    pub fn doubt(&self) -> Option<Doubt> {
+    pub fn doubt(&self) -> Option<Doubt>
+        ensures { is_some result ≡ is_in_doubt self.now }
+    {
         match self {
             Links::Alone | Links::Leaf(_) => None,
             Links::Hub(hub) => hub.doubt(),
@@ -311,8 +317,11 @@ impl Links {
     /// then remove the file `doubt`. Empty if there is no doubt.
     ///
     /// # Errors
-    /// `NoMemory` if an allocation fails: never if there is no doubt. Nothing is barred then.
-    pub fn trust(&mut self, alloc: Global) -> Result<Vec<u8>, NoMemory> {
+    /// `NoMemory` if an allocation fails: never if there is no doubt. Nothing is done then.
+    pub fn trust(&mut self, alloc: Global) -> Result<Vec<u8>, NoMemory>
+        ensures trusts { IfOk result (λ lines. TrustsThis self.old lines.items self.new) }
+        ensures unchanged { OnErr result (self.new ≡ self.old) }
+    {
         match self {
             Links::Alone | Links::Leaf(_) => Ok(Vec::new(alloc)),
             Links::Hub(hub) => hub.trust(alloc),
@@ -331,18 +340,34 @@ impl Links {
         log: &mut Log,
         leaf: u16,
         now: u64,
-    ) -> Result<Option<Vec<u8>>, NoMemory> {
+    ) -> Result<Option<Vec<u8>>, NoMemory>
+        ensures renews { IfOk result (λ line. RenewsLeaf leaf self.old (option_map (λ line. line.items) line) self.new) }
+        ensures unchanged { OnErr result (self.new ≡ self.old) }
+    {
         match self {
             Links::Alone | Links::Leaf(_) => Ok(None),
             Links::Hub(hub) => hub.renew(alloc, log, leaf, now),
         }
     }
 
-    /// Whether this bot may ask for changes: false at a leaf that may only read, as its hub said last.
-    pub fn may_ask(&self) -> bool {
+    /// Whether this bot may ask for changes: not at a leaf that may only read, as its hub said last, nor at one that was
+    /// never linked.
+    pub fn may_ask(&self) -> bool
+        ensures { result ≡ may_ask self.now }
+    {
         match self {
             Links::Alone | Links::Hub(_) => true,
-            Links::Leaf(leaf) => leaf.may == LeafRights::Asks,
+            Links::Leaf(leaf) => leaf.may_ask(),
+        }
+    }
+
+    /// Whether this bot is a leaf that was never linked.
+    pub fn is_new_leaf(&self) -> bool
+        ensures { result ≡ is_new_leaf self.now }
+    {
+        match self {
+            Links::Alone | Links::Hub(_) => false,
+            Links::Leaf(leaf) => leaf.is_new(),
         }
     }
 }

@@ -1,10 +1,11 @@
 // How the hub reads from its leaves, and which leaf takes which seat.
-ghost use Rattle.std.specs.Prelude.{◌≡◌, true, IsTrue, OnErr, IfOk, is_some, slice_get};
+ghost use Rattle.std.specs.Prelude.{◌≡◌, ◌≢◌, [], ℕ, true, IsTrue, OnErr, IfOk, is_some, slice_get};
 ghost use Rattle.std.specs.List.{list_any};
 ghost use Rattle.peers.specs.Hearing.{over_budget, waiting_for};
 ghost use Rattle.peers.specs.declared.verdict.Verdict.TheVariants.{Joins};
 ghost use Rattle.peers.specs.Joining.{IsInBook, IsOfBook};
-ghost use Rattle.peers.specs.Linked.{has_somebody};
+ghost use Rattle.peers.specs.Linked.{IsTaken, has_somebody};
+ghost use Rattle.peers.specs.Waiting.{queue_of};
 
 use crate::entry::Entry;
 use crate::gone::Gone;
@@ -273,18 +274,30 @@ impl HubLinks {
     }
 
     // Disconnects `leaf`, if it is linked, and drops its queued packets.
-    pub(crate) fn unseat(&mut self, log: &mut Log, leaf: u16, gone: Gone, now: u64) {
-        let Some(place) = self.seats.get_mut(usize::from(leaf)) else {
-            return;
-        };
-        let Some(seat) = place.take() else {
+    pub(crate) fn unseat(&mut self, log: &mut Log, leaf: u16, gone: Gone, now: u64)
+        ensures gone { IsTaken (slice_get self.new.seats.items leaf) → ⊥ }
+        ensures dropped { queue_of self.new.inbox leaf ≡ [] }
+        ensures others { (place : ℕ) → place ≢ leaf → slice_get self.new.seats.items place ≡ slice_get self.old.seats.items place }
+        ensures book { self.new.book ≡ self.old.book }
+    {
+        self.inbox.forget(usize::from(leaf));
+        let Some(seat) = self.leave(leaf) else {
             return;
         };
         self.name(seat.slot, None);
-        if usize::from(leaf) < self.inbox.stream_count() {
-            self.inbox.forget(usize::from(leaf));
-        }
         log.note(now, &Entry::LeafGone(leaf, seat.address, gone));
+    }
+
+    // Empties the place of `leaf`, and returns its seat if it is linked.
+    fn leave(&mut self, leaf: u16) -> Option<Seat>
+        ensures gone { IsTaken (slice_get self.new.seats.items leaf) → ⊥ }
+        ensures others { (place : ℕ) → place ≢ leaf → slice_get self.new.seats.items place ≡ slice_get self.old.seats.items place }
+        ensures same { self.new ≡ record self.old { seats = self.new.seats } }
+    {
+        match self.seats.get_mut(usize::from(leaf)) {
+            Some(place) => place.take(),
+            None => None,
+        }
     }
 
     /// Disconnects each leaf whose connection is over, at second `now`.

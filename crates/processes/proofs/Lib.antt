@@ -2,7 +2,7 @@ mod Lists
 mod Keeping
 mod Stepping
 mod Standing
-mod Turning
+pub mod Turning
 mod Replacing
 mod Going
 mod Renewing

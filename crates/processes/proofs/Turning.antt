@@ -21,7 +21,7 @@ packet_at-more : (packets more : List Sent) (number : ℕ) (sent : Sent) → pac
 packet_at-more packets more zero sent at = cc
 packet_at-more packets more (suc place) sent at = item_at-more packets (packets ++ more) (suc place) sent (more, refl) at
 
-WasTold-more : (packets more : List Sent) (bot : ℕ) (event : BotEvent) → WasTold packets bot event
+pub WasTold-more : (packets more : List Sent) (bot : ℕ) (event : BotEvent) → WasTold packets bot event
     → WasTold (packets ++ more) bot event
 WasTold-more packets more bot (Receive packet) was = (was.0, was.1, packet_at-more packets more was.0 _ was.2)
 WasTold-more packets more bot Connect was = tt

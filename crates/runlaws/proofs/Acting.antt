@@ -7,10 +7,10 @@ use Rattle.botcore.specs.Bots.{Bot}
 use Rattle.botworld.specs.declared.sent.Sent.{Sent}
 use Rattle.botworld.specs.Net.{posted}
 use Rattle.processes.specs.Deeds.{Process, Runs, Ended, Net, Made as MadeStep, Died, Opened, Nothing as NoCall, WasTold, IsOpened}
+use Rattle.processes.proofs.Turning.{WasTold-more}
 use Rattle.runlaws.specs.Acts.{Act, Opens, Creates, Began, Told, Made, Doing, Nothing, Opening, Creating, Telling, IsKept, Begins, EndsStep, May, bot_in, doing}
 use Rattle.runlaws.specs.Worlds.{What, Does, Happening, HasFiles, IsFound, Meets, past_with, past_of, files_with, files_of, made_with, is_made, sent_by, sent_in, step_ended, step_by, station}
 use Rattle.runlaws.specs.Histories.{GrowsIn}
-use Rattle.runlaws.proofs.Lists.{WasTold-more}
 use Rattle.runlaws.proofs.Stages.{Stage, IsUnmade, IsCreated, Rests, IsOpening, Lives, MakesStep, unmade, rests, has, Growth, Becomes, no_deed, one_deed}
 
 -- where the bot of this number stands after a happening at its process

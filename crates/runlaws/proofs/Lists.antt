@@ -1,42 +1,9 @@
--- Lists of deeds, of packets and of happenings, one after another.
+-- Lists of deeds and of happenings, one after another.
 use Rattle.std.proofs.Common.{◌≡◌, ◌∙◌, ℕ, zero, suc, List, [], ◌∷◌, ◌++◌, slice_get, Some, refl, ap, sym, append_assoc}
 use Rattle.procs.specs.Promises.{Promised}
 use Rattle.protocol.specs.Packets.{AcceptedChange}
-use Rattle.botcore.specs.declared.event.BotEvent.{BotEvent}
-use Rattle.botcore.specs.declared.event.BotEvent.TheVariants.{Connect, Line, Ask, Pump, Receive, Clock, Bind, Unbind}
-use Rattle.botcore.specs.declared.event.BotEvent.TheVariants.{Compact, Restart}
-use Rattle.botworld.specs.declared.sent.Sent.{Sent}
-use Rattle.botworld.specs.Net.{packet_at}
-use Rattle.processes.specs.Deeds.{Net, Deed, Made, Died, Opened, Unopened, Replaced, WasTold, Run, after_deed, net_after, AcceptsIn, Stays}
+use Rattle.processes.specs.Deeds.{Net, Deed, Made, Died, Opened, Unopened, Replaced, Run, after_deed, net_after, AcceptsIn, Stays}
 use Rattle.runlaws.specs.Worlds.{Happening, IsWorld, step_in, steps_of}
-
--- ---- an item of a list
-
-pub slice_get-more : {X : Type 0} (xs more : List X) (i : ℕ) (x : X) → slice_get xs i ≡ Some x → slice_get (xs ++ more) i ≡ Some x
-slice_get-more [] more i x e = cc
-slice_get-more (y ∷ xs) more zero x e = e
-slice_get-more (y ∷ xs) more (suc i) x e = slice_get-more xs more i x e
-
--- ---- packets
-
-packet_at-more : (packets more : List Sent) (number : ℕ) (sent : Sent) → packet_at packets number ≡ Some sent
-    → packet_at (packets ++ more) number ≡ Some sent
-packet_at-more packets more zero sent at = cc
-packet_at-more packets more (suc place) sent at = slice_get-more packets more place sent at
-
--- a packet that was sent stays sent
-pub WasTold-more : (packets more : List Sent) (bot : ℕ) (event : BotEvent) → WasTold packets bot event
-    → WasTold (packets ++ more) bot event
-WasTold-more packets more bot (Receive packet) was = (was.0, was.1, packet_at-more packets more was.0 _ was.2)
-WasTold-more packets more bot Connect was = tt
-WasTold-more packets more bot (Line line) was = tt
-WasTold-more packets more bot (Ask change) was = tt
-WasTold-more packets more bot Pump was = tt
-WasTold-more packets more bot (Clock now) was = tt
-WasTold-more packets more bot (Bind asked) was = tt
-WasTold-more packets more bot (Unbind gone) was = tt
-WasTold-more packets more bot Compact was = tt
-WasTold-more packets more bot Restart was = tt
 
 -- ---- deeds
 

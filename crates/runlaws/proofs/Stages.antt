@@ -8,9 +8,10 @@ use Rattle.botcore.specs.Bots.{Bot}
 use Rattle.botworld.specs.declared.sent.Sent.{Sent}
 use Rattle.botworld.proofs.Lists.{slice_get-set-same}
 use Rattle.processes.specs.Deeds.{Process, Runs, Ended, Net, Deed, WasTold, Happens, Run, AcceptsIn, StaysIn, Stays, with_process, after_deed, net_after}
+use Rattle.processes.proofs.Turning.{WasTold-more}
 use Rattle.runlaws.specs.Acts.{Act, Nothing, Opening, Creating, Telling, IsKept, bot_in, doing}
 use Rattle.runlaws.specs.Worlds.{Files, HasFiles, step_in, steps_of}
-use Rattle.runlaws.proofs.Lists.{WasTold-more, AcceptInAll}
+use Rattle.runlaws.proofs.Lists.{AcceptInAll}
 
 -- ---- where a bot stands
 

@@ -1,0 +1,29 @@
+-- Which bot may ask for changes.
+use Rattle.std.specs.Prelude.{◌&&◌, not, Bool, true, false, is_some}
+use Rattle.peers.specs.declared.handshake_progress.LeafRights.{LeafRights}
+use Rattle.peers.specs.declared.handshake_progress.LeafRights.TheVariants.{Asks, Reads}
+use Rattle.peers.specs.declared.hub_connection.HubConnection.{HubConnection}
+use Rattle.peers.specs.declared.links.Links.{Links}
+use Rattle.peers.specs.declared.links.Links.TheVariants.{Alone, Hub, Leaf}
+
+-- a leaf that keeps no number of a net was never linked
+abbrev pub is_new : HubConnection → Bool
+is_new leaf = not (is_some leaf.station.net)
+
+abbrev pub asks : LeafRights → Bool
+asks Asks = true
+asks Reads = false
+
+-- as the hub said last, but no leaf that was never linked
+abbrev pub may_leaf_ask : HubConnection → Bool
+may_leaf_ask leaf = asks leaf.may && not (is_new leaf)
+
+abbrev pub is_new_leaf : Links → Bool
+is_new_leaf Alone = false
+is_new_leaf (Hub hub) = false
+is_new_leaf (Leaf leaf) = is_new leaf
+
+abbrev pub may_ask : Links → Bool
+may_ask Alone = true
+may_ask (Hub hub) = true
+may_ask (Leaf leaf) = may_leaf_ask leaf
