@@ -13,6 +13,7 @@ use procs::{Nobodies, ProcStore};
 use std::alloc::Global;
 use turns::{Heard, take_turn};
 use userfile::Change;
+use watching::{NoWatcher, Watcher};
 
 /// Answers `turn LEAVES STEP..`: what a new hub reports in each of its turns, with ` | ` between. `words` are those
 /// after `turn`.
@@ -87,7 +88,16 @@ impl Seat {
             pump: coming.pump,
             compact: coming.compact,
         };
-        let told = take_turn(alloc, &mut self.hub, &store, &mut self.lines, heard);
+        let mut watcher = NoWatcher::new();
+        watcher.began(&self.hub);
+        let told = take_turn(
+            alloc,
+            &mut self.hub,
+            &store,
+            &mut self.lines,
+            heard,
+            &mut watcher,
+        );
         put_reports(alloc, &told, out)
     }
 }

@@ -13,3 +13,4 @@ pub mod Stations
 pub mod Sums
 pub mod Taking
 pub mod Warnings
+pub mod Watched

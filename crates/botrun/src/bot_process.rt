@@ -1,8 +1,11 @@
 // A bot's process, from its start to its end.
-ghost use Rattle.std.specs.Prelude.{◌<◌, IfOk, IfSome, length};
+ghost use Rattle.std.specs.Prelude.{◌≡◌, ◌<◌, ◌∷◌, [], IfOk, IfSome, length};
 ghost use Rattle.bytetext.specs.declared.moment.TheConstants.{MOMENTS_END};
+ghost use Rattle.watching.specs.Acts.{Forgets, MayBegin, MayStep, NumbersAbove};
+ghost use Rattle.watching.specs.Following.{Allows, Follows, HasBegun, IsAt, IsWatched, Lets};
 ghost use Rattle.botrun.specs.Renewals.{HasNoRecords};
 ghost use Rattle.botrun.specs.Stations.{IsKnownWhereWanted, IsLinkedAs};
+ghost use Rattle.botrun.specs.Watched.{station_of};
 
 use crate::admins::Admins;
 use crate::bases::Bases;
@@ -30,6 +33,7 @@ use std::net::Net;
 use std::random::RandomSource;
 use std::rt::Files;
 use std::time::Clock;
+use watching::Watcher;
 
 // The most events that one wait reports.
 const EVENTS: usize = 64;
@@ -47,36 +51,48 @@ const EVENTS: usize = 64;
 /// [`RunError`] describes them.
 ///
 /// The hub journals a change before the process reports it as accepted.
-pub fn run<R, P: Promise, B: Run>(
+///
+/// # What the process does
+/// The call tells `watcher` each act of the process with its bot: before the act, and after it. It knows no more of the
+/// watcher than that it allows lawful acts ([`watching`]). So whatever the process has done, at whatever moment somebody
+/// kills it, is lawful: it opens the bot from what its disks hold, or creates it, and then makes only steps that the bot
+/// takes, each from the bot that the step before has left.
+pub fn run<R, P: Promise, B: Run, W: Watcher>(
     rt: &R,
     store: &ProcStore<P, B>,
     settings: &Settings,
+    watcher: &mut W,
 ) -> Result<(), RunError>
 where
     R: AllocGlobal + Net + Clock + Files<File = File> + Print + RandomSource,
+    requires unwatched { W.past watcher.old ≡ [] }
+    requires allows { Allows P.promised store.now (station_of settings.now) W.may }
 {
     check(rt.alloc(), store, settings)?;
     let secret = secret_of(rt, settings)?;
     // Before the folder, so that a bot that gets no log changes nothing there.
     let mut log = Log::open(rt)?;
-    let ended = run_logged(rt, &mut log, store, settings, secret);
+    let ended = run_logged(rt, &mut log, store, settings, secret, watcher);
     log.flush(rt);
     ended
 }
 
 // Takes the folder, and runs the bot there until an admin ends it. A leaf that has to begin again begins there with a new
 // journal.
-fn run_logged<R, P: Promise, B: Run>(
+fn run_logged<R, P: Promise, B: Run, W: Watcher>(
     rt: &R,
     log: &mut Log,
     store: &ProcStore<P, B>,
     settings: &Settings,
     secret: Option<Secret>,
+    watcher: &mut W,
 ) -> Result<(), RunError>
 where
     R: AllocGlobal + Net + Clock + Files<File = File> + Print + RandomSource,
     requires some { 0 < length settings.now.servers }
     requires known { IsKnownWhereWanted settings.now.station secret }
+    requires unwatched { W.past watcher.old ≡ [] }
+    requires allows { Allows P.promised store.now (station_of settings.now) W.may }
 {
     let mut folder = folder_of(rt, settings)?;
     let mut watch = Watch::new(rt, EVENTS)?;
@@ -84,9 +100,9 @@ where
     warn(log, settings, secret, timeline.read_clocks(rt)?);
     let mut last = 0;
     for _life in 0..u64::MAX {
-        let mut process = begin(rt, &watch, folder, settings, secret, last)?;
-        bind_all(rt.alloc(), &mut process.bot, store, settings)?;
-        look_back(rt.alloc(), &mut process, store)?;
+        let mut process = begin(rt, &watch, folder, settings, secret, last, watcher)?;
+        bind_all(rt.alloc(), &mut process.bot, store, settings, watcher)?;
+        look_back(rt.alloc(), &mut process, store, watcher)?;
         let up = timeline.read_clocks(rt)?;
         log.note(up, &Entry::Up(process.bot.version()));
         process.space.tell_start(log, up);
@@ -98,9 +114,10 @@ where
             &mut process,
             store,
             settings,
+            watcher,
         )? {
             Some(above) => {
-                folder = give_up(rt, process)?;
+                folder = give_up(rt, process, watcher)?;
                 last = above;
             }
             None => {
@@ -113,12 +130,16 @@ where
 }
 
 // Ends the connections of a bot without records, and forgets its journal.
-fn give_up<R: AllocGlobal + Files<File = File>>(
+fn give_up<R: AllocGlobal + Files<File = File>, W: Watcher>(
     rt: &R,
     process: Process,
+    watcher: &mut W,
 ) -> Result<BotFolder, RunError>
     requires empty { HasNoRecords process.bot }
+    requires allowed { W.may (W.past watcher.old) (Forgets process.bot) }
+    ensures past { W.past watcher.new ≡ Forgets process.bot ∷ W.past watcher.old }
 {
+    watcher.forgets(&process.bot);
     let folder = process.into_folder();
     forget_journal(rt, &folder)?;
     Ok(folder)
@@ -134,7 +155,7 @@ fn warn(log: &mut Log, settings: &Settings, secret: Option<Secret>, now: u64) {
 
 // Makes turns until an admin ends the bot. Writes the log at the end of each turn. If a leaf has to begin again, returns
 // the number above which its requests are to be numbered.
-fn make_turns<R, P: Promise, B: Run>(
+fn make_turns<R, P: Promise, B: Run, W: Watcher>(
     rt: &R,
     log: &mut Log,
     watch: &mut Watch,
@@ -142,11 +163,15 @@ fn make_turns<R, P: Promise, B: Run>(
     process: &mut Process,
     store: &ProcStore<P, B>,
     settings: &Settings,
+    watcher: &mut W,
 ) -> Result<Option<u32>, RunError>
 where
     R: AllocGlobal + Net + Clock + Files<File = File> + Print + RandomSource,
+    requires at { IsAt P.promised store.now (station_of settings.now) W.may (W.past watcher.old) process.old.bot }
     // A bot with records never begins again.
     ensures again { IfOk result (λ above. IfSome above (λ _. HasNoRecords process.new.bot)) }
+    ensures at { IfOk result (λ _.
+        IsAt P.promised store.now (station_of settings.now) W.may (W.past watcher.new) process.new.bot) }
 {
     let mut turned = Turned::Busy;
     for _turn in 0..u64::MAX {
@@ -154,7 +179,7 @@ where
         let seconds = wait(rt, watch, timeline, turned)?;
         let is_awake = turned == Turned::Busy || !watch.tokens().is_empty();
         process.space.look_if_due(log, is_awake, seconds);
-        turned = process.turn(rt, log, watch, store, settings, seconds)?;
+        turned = process.turn(rt, log, watch, store, settings, seconds, watcher)?;
         match turned {
             Turned::Busy | Turned::Rests => {}
             Turned::BeginsAbove(last) => {
@@ -172,21 +197,26 @@ where
 
 // Creates the process of the bot in a folder. It is not connected to anybody yet. If the folder holds no journal, a
 // leaf's requests are numbered above `last`.
-fn begin<R>(
+fn begin<R, W: Watcher>(
     rt: &R,
     watch: &Watch,
     folder: BotFolder,
     settings: &Settings,
     secret: Option<Secret>,
     last: u32,
+    watcher: &mut W,
 ) -> Result<Process, RunError>
 where
     R: AllocGlobal + Net + Files<File = File> + RandomSource + Clock,
     requires some { 0 < length settings.now.servers }
     requires known { IsKnownWhereWanted settings.now.station secret }
+    requires lets { Lets (MayBegin (station_of settings.now)) W.may (W.past watcher.old) }
+    requires numbers { NumbersAbove (W.past watcher.old) last }
     ensures station { IfOk result (λ process. IsLinkedAs settings.now.station process.others.links) }
+    ensures begun { IfOk result (λ process.
+        HasBegun (station_of settings.now) (W.past watcher.old) (W.past watcher.new) process.bot) }
 {
-    let bot = bot_of(rt, &folder, settings, last)?;
+    let bot = bot_of(rt, &folder, settings, last, watcher)?;
     let links = links_of(
         rt,
         watch.registry(),
@@ -239,13 +269,19 @@ fn space_of<R: AllocGlobal + Files<File = File>>(
 }
 
 // Notes the changes of an earlier run that are out: they are answered before all that are asked for in this one.
-fn look_back<P: Promise, B: Run>(
+#[tactic(auto, using(watching::proofs::FollowingLemmas::follows_same))]
+fn look_back<P: Promise, B: Run, W: Watcher>(
     alloc: Global,
     process: &mut Process,
     store: &ProcStore<P, B>,
-) -> Result<(), RunError> {
+    watcher: &mut W,
+) -> Result<(), RunError>
+    requires watched { IsWatched P.promised store.now W.may (W.past watcher.old) process.old.bot }
+    ensures follows { Follows (MayStep P.promised store.now) (W.past watcher.old) (W.past watcher.new) }
+    ensures watched { IsWatched P.promised store.now W.may (W.past watcher.new) process.new.bot }
+{
     if process.others.links.is_leaf() {
-        let count = count_out(alloc, &mut process.bot, store)?;
+        let count = count_out(alloc, &mut process.bot, store, watcher)?;
         process.others.asks.put_many(count)?;
     }
     Ok(())

@@ -1,7 +1,10 @@
 // What a bot does for an admin, and how it answers.
-ghost use Rattle.std.specs.Prelude.{◌<◌};
+ghost use Rattle.std.specs.Prelude.{◌≡◌, ◌<◌, OnOk};
 ghost use Rattle.bytetext.specs.declared.moment.TheConstants.{MOMENTS_END};
 ghost use Rattle.botcore.specs.Steps.{IsGoodEvent};
+ghost use Rattle.watching.specs.Acts.{MayStep, MayTake};
+ghost use Rattle.watching.specs.Following.{Follows, IsAt, IsWatched};
+ghost use Rattle.botrun.specs.Watched.{station_of};
 
 use crate::answers::{looseness_in, of_asked, of_bind, of_change, of_no_bind};
 use crate::checking::{new_bind, old_bind};
@@ -18,14 +21,16 @@ use recordtext::put_records;
 use serverlink::{MAX_LINE, Why};
 use settings::{BindWords, Settings};
 use std::alloc::Global;
+use turns::watched_step;
 use userfile::Change;
+use watching::Watcher;
 
 // At the end, the process waits at most this many seconds for what is still unsent.
 const LAST_SECONDS: u64 = 2;
 
 impl Process {
     // Asks for a change. At a leaf the hub answers it later.
-    pub(crate) fn change<R: AllocGlobal, P: Promise, B: Run>(
+    pub(crate) fn change<R: AllocGlobal, P: Promise, B: Run, W: Watcher>(
         &mut self,
         rt: &R,
         log: &mut Log,
@@ -33,22 +38,32 @@ impl Process {
         settings: &Settings,
         change: Change,
         now: u64,
-    ) -> Result<Vec<u8>, RunError> {
+        watcher: &mut W,
+    ) -> Result<Vec<u8>, RunError>
+        requires at { IsAt P.promised store.now (station_of settings.now) W.may (W.past watcher.old) self.old.bot }
+        ensures at { OnOk result
+            (IsAt P.promised store.now (station_of settings.now) W.may (W.past watcher.new) self.new.bot) }
+    {
         let looseness = looseness_in(&change);
         let changes = vec![in rt.alloc(); change]?;
-        let outcome = self.take(rt, log, store, settings, changes, false, now)?;
+        let outcome = self.take(rt, log, store, settings, changes, false, now, watcher)?;
         Ok(of_asked(rt.alloc(), outcome, looseness)?)
     }
 
-    pub(crate) fn compact_now<R: AllocGlobal, P: Promise, B: Run>(
+    pub(crate) fn compact_now<R: AllocGlobal, P: Promise, B: Run, W: Watcher>(
         &mut self,
         rt: &R,
         log: &mut Log,
         store: &ProcStore<P, B>,
         settings: &Settings,
         now: u64,
-    ) -> Result<Vec<u8>, RunError> {
-        match self.compact(rt, log, store, settings, now)? {
+        watcher: &mut W,
+    ) -> Result<Vec<u8>, RunError>
+        requires at { IsAt P.promised store.now (station_of settings.now) W.may (W.past watcher.old) self.old.bot }
+        ensures at { OnOk result
+            (IsAt P.promised store.now (station_of settings.now) W.may (W.past watcher.new) self.new.bot) }
+    {
+        match self.compact(rt, log, store, settings, now, watcher)? {
             Outcome::Nothing => Ok(Vec::from_slice(rt.alloc(), b"compacted\n")?),
             outcome => Ok(of_change(rt.alloc(), outcome)?),
         }
@@ -74,45 +89,64 @@ impl Process {
     }
 
     // Makes a bind, which lasts until the bot ends.
-    pub(crate) fn bind<P: Promise, B: Run>(
+    #[tactic(auto, using(watching::proofs::FollowingLemmas::follows_same))]
+    pub(crate) fn bind<P: Promise, B: Run, W: Watcher>(
         &mut self,
         alloc: Global,
         store: &ProcStore<P, B>,
         words: &BindWords,
-    ) -> Result<Vec<u8>, RunError> {
+        watcher: &mut W,
+    ) -> Result<Vec<u8>, RunError>
+        requires watched { IsWatched P.promised store.now W.may (W.past watcher.old) self.old.bot }
+        ensures follows { Follows (MayStep P.promised store.now) (W.past watcher.old) (W.past watcher.new) }
+        ensures watched { IsWatched P.promised store.now W.may (W.past watcher.new) self.new.bot }
+    {
         match new_bind(alloc, store, words) {
-            Ok(asked) => self.step_bind(alloc, store, BotEvent::Bind(asked)),
+            Ok(asked) => self.step_bind(alloc, store, BotEvent::Bind(asked), watcher),
             Err(why) => Ok(of_no_bind(alloc, why)?),
         }
     }
 
     // Removes a bind.
-    pub(crate) fn unbind<P: Promise, B: Run>(
+    #[tactic(auto, using(watching::proofs::FollowingLemmas::follows_same))]
+    pub(crate) fn unbind<P: Promise, B: Run, W: Watcher>(
         &mut self,
         alloc: Global,
         store: &ProcStore<P, B>,
         words: UnbindWords,
-    ) -> Result<Vec<u8>, RunError> {
+        watcher: &mut W,
+    ) -> Result<Vec<u8>, RunError>
+        requires watched { IsWatched P.promised store.now W.may (W.past watcher.old) self.old.bot }
+        ensures follows { Follows (MayStep P.promised store.now) (W.past watcher.old) (W.past watcher.new) }
+        ensures watched { IsWatched P.promised store.now W.may (W.past watcher.new) self.new.bot }
+    {
         match old_bind(words) {
-            Ok(gone) => self.step_bind(alloc, store, BotEvent::Unbind(gone)),
+            Ok(gone) => self.step_bind(alloc, store, BotEvent::Unbind(gone), watcher),
             Err(why) => Ok(of_no_bind(alloc, why)?),
         }
     }
 
-    fn step_bind<P: Promise, B: Run>(
+    fn step_bind<P: Promise, B: Run, W: Watcher>(
         &mut self,
         alloc: Global,
         store: &ProcStore<P, B>,
         event: BotEvent,
+        watcher: &mut W,
     ) -> Result<Vec<u8>, RunError>
         requires good { IsGoodEvent event }
+        requires no_restart { MayTake event }
+        requires watched { IsWatched P.promised store.now W.may (W.past watcher.old) self.old.bot }
+        ensures follows { Follows (MayStep P.promised store.now) (W.past watcher.old) (W.past watcher.new) }
+        ensures watched { IsWatched P.promised store.now W.may (W.past watcher.new) self.new.bot }
     {
-        let report = self.bot.step(alloc, store, event);
+        let report = watched_step(alloc, &mut self.bot, store, event, watcher);
         Ok(of_bind(alloc, &report)?)
     }
 
     // Queues a line for the server, after the lines before it.
-    pub(crate) fn say(&mut self, alloc: Global, line: Text) -> Result<Vec<u8>, RunError> {
+    pub(crate) fn say(&mut self, alloc: Global, line: Text) -> Result<Vec<u8>, RunError>
+        ensures bot { self.new.bot ≡ self.old.bot }
+    {
         if self.uplink.session().is_none() {
             return Ok(Vec::from_slice(
                 alloc,
@@ -135,6 +169,7 @@ impl Process {
         now: u64,
     ) -> Result<Vec<u8>, RunError>
         requires moment { now < MOMENTS_END }
+        ensures bot { self.new.bot ≡ self.old.bot }
     {
         if self.uplink.session().is_none() {
             return Ok(Vec::from_slice(
@@ -157,7 +192,9 @@ impl Process {
         settings: &Settings,
         text: &Text,
         now: u64,
-    ) -> Result<Vec<u8>, RunError> {
+    ) -> Result<Vec<u8>, RunError>
+        ensures bot { self.new.bot ≡ self.old.bot }
+    {
         let line = quit_line(rt.alloc(), text.as_bytes())?;
         self.uplink.own.clear();
         self.uplink.tell(log, settings, line.as_slice(), now)?;

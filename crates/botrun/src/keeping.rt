@@ -25,7 +25,9 @@ impl Process {
         rt: &R,
         log: &mut Log,
         now: u64,
-    ) -> Result<(), RunError> {
+    ) -> Result<(), RunError>
+        ensures bot { self.new.bot ≡ self.old.bot }
+    {
         if let Some(net) = self.others.links.to_keep() {
             self.space.lend();
             keep_net(rt, &self.folder, &net)?;
@@ -42,7 +44,9 @@ impl Process {
         rt: &R,
         log: &mut Log,
         now: u64,
-    ) -> Result<(), RunError> {
+    ) -> Result<(), RunError>
+        ensures bot { self.new.bot ≡ self.old.bot }
+    {
         let Some(line) = self.others.links.doubt_to_keep() else {
             return Ok(());
         };
@@ -63,7 +67,9 @@ impl Process {
         rt: &R,
         log: &mut Log,
         now: u64,
-    ) -> Result<(), RunError> {
+    ) -> Result<(), RunError>
+        ensures bot { self.new.bot ≡ self.old.bot }
+    {
         if !self.space.has_room() {
             return Ok(());
         }
@@ -84,7 +90,9 @@ impl Process {
         settings: &Settings,
         leaf: u16,
         now: u64,
-    ) -> Result<Vec<u8>, RunError> {
+    ) -> Result<Vec<u8>, RunError>
+        ensures bot { self.new.bot ≡ self.old.bot }
+    {
         if !is_hub(settings.station) {
             return Ok(Vec::from_slice(rt.alloc(), NO_HUB)?);
         }
@@ -103,7 +111,9 @@ impl Process {
         &mut self,
         rt: &R,
         settings: &Settings,
-    ) -> Result<Vec<u8>, RunError> {
+    ) -> Result<Vec<u8>, RunError>
+        ensures bot { self.new.bot ≡ self.old.bot }
+    {
         if !is_hub(settings.station) {
             return Ok(Vec::from_slice(rt.alloc(), NO_HUB)?);
         }

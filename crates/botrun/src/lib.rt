@@ -7,7 +7,7 @@
 //! ```text
 //! let settings = Settings::read(alloc, bytes)?;
 //! check(alloc, &store, &settings)?;                  // what can be said before anything is opened
-//! run(&rt, &store, &settings)?;                      // until an admin says die
+//! run(&rt, &store, &settings, &mut watcher)?;        // until an admin says die
 //! ```
 //!
 //! [`run`] takes the bot's folder, opens or creates its journal, connects to the servers of its configuration in turn,
@@ -65,6 +65,13 @@
 //! it finds none, it refuses changes and `compact` to admins, does not rewrite its journal by itself, and drops what
 //! other bots send, which they send again. It still takes the server's lines: for the changes of procs, the journal has
 //! the space that is set aside.
+//!
+//! # Who watches
+//!
+//! [`run`] tells a [`Watcher`](watching::Watcher) each act of the process with its bot, and proves each act lawful
+//! before it. So at whatever moment somebody kills the process, it has opened its bot from what its disks held, or
+//! created it, and has made only steps that the bot takes, one after another. What the process does on its connections
+//! the watcher is not told. A program that nobody watches passes a [`NoWatcher`](watching::NoWatcher).
 //!
 //! # The sum
 //!

@@ -1,5 +1,7 @@
 // Which net a bot belongs to, and how it is connected to the others.
 ghost use Rattle.std.specs.Prelude.{◌≡◌, ◌<◌, IfOk, count_by, map};
+ghost use Rattle.watching.specs.Acts.{MayStep};
+ghost use Rattle.watching.specs.Following.{Follows, IsWatched};
 ghost use Rattle.botrun.specs.Askers.{is_request};
 ghost use Rattle.botrun.specs.Stations.{IsKnownWhereWanted, IsLinkedAs, own_key};
 
@@ -24,6 +26,8 @@ use std::net::{Net, SocketAddr};
 use std::random::RandomSource;
 use std::rt::Files;
 use std::str;
+use turns::watched_step;
+use watching::Watcher;
 
 // Prepares the folder of a new bot: draws the number of the folder, unless it keeps one. A bot with the number 0 draws the
 // number of its net, and a leaf forgets an earlier one.
@@ -302,12 +306,17 @@ fn listen_address(settings: &Settings) -> Option<SocketAddr> {
 
 // Returns the number of changes from an earlier run of a leaf that are out and still to be answered. A pump sends each
 // of them again, and nothing else waits yet.
-pub(crate) fn count_out<P: Promise, B: Run>(
+pub(crate) fn count_out<P: Promise, B: Run, W: Watcher>(
     alloc: Global,
     bot: &mut Bot<FileDisk>,
     store: &ProcStore<P, B>,
-) -> Result<usize, RunError> {
-    let report = bot.step(alloc, store, BotEvent::Pump);
+    watcher: &mut W,
+) -> Result<usize, RunError>
+    requires watched { IsWatched P.promised store.now W.may (W.past watcher.old) bot.old }
+    ensures follows { Follows (MayStep P.promised store.now) (W.past watcher.old) (W.past watcher.new) }
+    ensures watched { IsWatched P.promised store.now W.may (W.past watcher.new) bot.new }
+{
+    let report = watched_step(alloc, bot, store, BotEvent::Pump, watcher);
     match report.end {
         End::NoMemory => Err(RunError::NoMemory),
         End::Done | End::Refused(_) => Ok(requests_in(report.packets.as_slice())),

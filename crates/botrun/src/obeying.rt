@@ -1,6 +1,8 @@
 // The commands of admins.
-ghost use Rattle.std.specs.Prelude.{◌<◌};
+ghost use Rattle.std.specs.Prelude.{◌<◌, OnOk};
 ghost use Rattle.bytetext.specs.declared.moment.TheConstants.{MOMENTS_END};
+ghost use Rattle.watching.specs.Following.{IsAt};
+ghost use Rattle.botrun.specs.Watched.{station_of};
 
 use crate::answers::of_advice;
 use crate::ending::RunError;
@@ -14,6 +16,7 @@ use recordtext::first_word;
 use settings::Settings;
 use std::fs::File;
 use std::rt::Files;
+use watching::Watcher;
 
 // The most commands of each admin that one turn executes. The changes of a turn go to each other bot in one write,
 // and 16 changes are all that a hub sends in answer to one hello. For all admins a turn executes at most 128
@@ -24,18 +27,22 @@ const MAX_COMMANDS: usize = 16;
 impl Process {
     // Executes the admins' commands, in rounds of one command of each, so that no admin waits for all commands
     // of another. Begins no further round once the bot is to end or is down. Returns whether there was a command.
-    pub(crate) fn obey_all<R: AllocGlobal + Files<File = File>, P: Promise, B: Run>(
+    pub(crate) fn obey_all<R: AllocGlobal + Files<File = File>, P: Promise, B: Run, W: Watcher>(
         &mut self,
         rt: &R,
         log: &mut Log,
         store: &ProcStore<P, B>,
         settings: &Settings,
         now: u64,
+        watcher: &mut W,
     ) -> Result<bool, RunError>
         requires moment { now < MOMENTS_END }
+        requires at { IsAt P.promised store.now (station_of settings.now) W.may (W.past watcher.old) self.old.bot }
+        ensures at { OnOk result
+            (IsAt P.promised store.now (station_of settings.now) W.may (W.past watcher.new) self.new.bot) }
     {
         for round in 0..MAX_COMMANDS {
-            if !self.obey_each(rt, log, store, settings, now)? {
+            if !self.obey_each(rt, log, store, settings, now, watcher)? {
                 return Ok(round > 0);
             }
             if self.until.is_some() || self.bot.is_down() {
@@ -46,15 +53,19 @@ impl Process {
     }
 
     // Executes one command of each admin. Returns whether there was one.
-    fn obey_each<R: AllocGlobal + Files<File = File>, P: Promise, B: Run>(
+    fn obey_each<R: AllocGlobal + Files<File = File>, P: Promise, B: Run, W: Watcher>(
         &mut self,
         rt: &R,
         log: &mut Log,
         store: &ProcStore<P, B>,
         settings: &Settings,
         now: u64,
+        watcher: &mut W,
     ) -> Result<bool, RunError>
         requires moment { now < MOMENTS_END }
+        requires at { IsAt P.promised store.now (station_of settings.now) W.may (W.past watcher.old) self.old.bot }
+        ensures at { OnOk result
+            (IsAt P.promised store.now (station_of settings.now) W.may (W.past watcher.new) self.new.bot) }
     {
         let is_leaf = self.others.links.is_leaf();
         let mut obeyed = false;
@@ -62,7 +73,8 @@ impl Process {
             if let Some(command) = self.admins.take_command(rt.alloc(), place)? {
                 // At a leaf, changes are answered later, since the hub accepts them.
                 self.others.asks.asker = if is_leaf { Some(command.number) } else { None };
-                let answer = self.obey(rt, log, store, settings, command.line.as_slice(), now)?;
+                let line = command.line.as_slice();
+                let answer = self.obey(rt, log, store, settings, line, now, watcher)?;
                 self.others.asks.asker = None;
                 self.admins.tell(command.number, answer.as_slice())?;
                 obeyed = true;
@@ -72,7 +84,7 @@ impl Process {
     }
 
     // Executes the command in a line, and returns the answer.
-    fn obey<R: AllocGlobal + Files<File = File>, P: Promise, B: Run>(
+    fn obey<R: AllocGlobal + Files<File = File>, P: Promise, B: Run, W: Watcher>(
         &mut self,
         rt: &R,
         log: &mut Log,
@@ -80,8 +92,12 @@ impl Process {
         settings: &Settings,
         line: &[u8],
         now: u64,
+        watcher: &mut W,
     ) -> Result<Vec<u8>, RunError>
         requires moment { now < MOMENTS_END }
+        requires at { IsAt P.promised store.now (station_of settings.now) W.may (W.past watcher.old) self.old.bot }
+        ensures at { OnOk result
+            (IsAt P.promised store.now (station_of settings.now) W.may (W.past watcher.new) self.new.bot) }
     {
         let alloc = rt.alloc();
         let command = match AdminCommand::read(alloc, line) {
@@ -97,13 +113,15 @@ impl Process {
             return Ok(refusal);
         }
         match command {
-            AdminCommand::Change(change) => self.change(rt, log, store, settings, change, now),
+            AdminCommand::Change(change) => {
+                self.change(rt, log, store, settings, change, now, watcher)
+            }
             AdminCommand::Show => self.show(alloc, settings),
             AdminCommand::Status => self.status(alloc, settings),
-            AdminCommand::Bind(words) => self.bind(alloc, store, &words),
-            AdminCommand::Unbind(words) => self.unbind(alloc, store, words),
+            AdminCommand::Bind(words) => self.bind(alloc, store, &words, watcher),
+            AdminCommand::Unbind(words) => self.unbind(alloc, store, words, watcher),
             AdminCommand::Say(line) => self.say(alloc, line),
-            AdminCommand::Compact => self.compact_now(rt, log, store, settings, now),
+            AdminCommand::Compact => self.compact_now(rt, log, store, settings, now, watcher),
             AdminCommand::Jump => self.jump(rt, log, settings, now),
             AdminCommand::Renew(leaf) => self.renew(rt, log, settings, leaf, now),
             AdminCommand::Trust => self.trust(rt, settings),

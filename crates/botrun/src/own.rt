@@ -12,7 +12,9 @@ use std::alloc::Global;
 impl Process {
     // If the connections have something to tell about the bot in this turn, lets them know what. A bot's version changes
     // only in the steps after that.
-    pub(crate) fn tell_own(&mut self, alloc: Global) -> Result<(), NoMemory> {
+    pub(crate) fn tell_own(&mut self, alloc: Global) -> Result<(), NoMemory>
+        ensures bot { self.new.bot ≡ self.old.bot }
+    {
         if self.others.links.wants_own() {
             let own = self.own(alloc)?;
             self.others.links.tell_own(own);
@@ -21,7 +23,9 @@ impl Process {
     }
 
     // What the bot is at now.
-    fn own(&mut self, alloc: Global) -> Result<Own, NoMemory> {
+    fn own(&mut self, alloc: Global) -> Result<Own, NoMemory>
+        ensures bot { self.new.bot ≡ self.old.bot }
+    {
         let version = self.bot.version();
         let sum = self.kept_sum.at(alloc, version, self.bot.userfile())?;
         let lasts = lasts_of(alloc, &self.bot)?;

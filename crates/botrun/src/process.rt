@@ -1,7 +1,9 @@
 // One turn of a bot's process.
-ghost use Rattle.std.specs.Prelude.{◌<◌, IfOk, IfSome};
+ghost use Rattle.std.specs.Prelude.{◌≡◌, ◌<◌, IfOk, IfSome, OnOk};
 ghost use Rattle.bytetext.specs.declared.moment.TheConstants.{MOMENTS_END};
+ghost use Rattle.watching.specs.Following.{IsAt};
 ghost use Rattle.botrun.specs.Renewals.{BeginsWithout, HasNoRecords};
+ghost use Rattle.botrun.specs.Watched.{station_of};
 
 use crate::admins::Admins;
 use crate::bases::Bases;
@@ -24,6 +26,7 @@ use std::fs::File;
 use std::net::Net;
 use std::random::RandomSource;
 use std::rt::Files;
+use watching::Watcher;
 
 // A bot, its folder, its connections, and the state of its process.
 pub(crate) struct Process {
@@ -93,7 +96,7 @@ impl Process {
     // Makes a turn: connects what is lost and due, reads, steps, writes, closes the connections that are over, and logs
     // the sum of the records if that is due. `watch` names the sockets that may have something to read. A leaf that has
     // to begin again ends the turn once it has read.
-    pub(crate) fn turn<R, P: Promise, B: Run>(
+    pub(crate) fn turn<R, P: Promise, B: Run, W: Watcher>(
         &mut self,
         rt: &R,
         log: &mut Log,
@@ -101,12 +104,16 @@ impl Process {
         store: &ProcStore<P, B>,
         settings: &Settings,
         seconds: Seconds,
+        watcher: &mut W,
     ) -> Result<Turned, RunError>
     where
         R: AllocGlobal + Net + Files<File = File> + RandomSource,
         requires moment { seconds.wall < MOMENTS_END }
+        requires at { IsAt P.promised store.now (station_of settings.now) W.may (W.past watcher.old) self.old.bot }
         // A bot with records goes on.
         ensures again { IfOk result (λ turned. BeginsWithout turned self.new.bot) }
+        ensures at { OnOk result
+            (IsAt P.promised store.now (station_of settings.now) W.may (W.past watcher.new) self.new.bot) }
     {
         let now = seconds.wall;
         self.uplink.wake(watch.tokens(), seconds.steady);
@@ -125,8 +132,8 @@ impl Process {
         self.keep_new_doubt(rt, log, now)?;
         self.keep_new_net(rt, log, now)?;
         self.enter_new_leaves(rt, log, now)?;
-        is_busy |= self.hear(rt, log, store, settings, connected, now)?;
-        is_busy |= self.obey_all(rt, log, store, settings, now)?;
+        is_busy |= self.hear(rt, log, store, settings, connected, now, watcher)?;
+        is_busy |= self.obey_all(rt, log, store, settings, now, watcher)?;
         is_busy |= self.send(rt, log, settings, now)?;
         let has_ended = self.has_ended(now);
         self.tell_sum(rt, log, has_ended, now)?;
@@ -158,6 +165,7 @@ impl Process {
         now: u64,
     ) -> Result<bool, NoMemory>
         requires moment { now < MOMENTS_END }
+        ensures bot { self.new.bot ≡ self.old.bot }
     {
         if self.until.is_some() {
             return Ok(false);
@@ -177,6 +185,7 @@ impl Process {
         now: u64,
     ) -> Result<bool, RunError>
         requires moment { now < MOMENTS_END }
+        ensures bot { self.new.bot ≡ self.old.bot }
     {
         self.uplink.keep(rt, log, settings, now)?;
         let server = self.uplink.send();

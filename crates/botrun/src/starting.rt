@@ -1,5 +1,9 @@
 // Opens the bot in its folder, or creates it there.
-ghost use Rattle.botfolder.specs.Folders.{AreReady};
+ghost use Rattle.std.specs.Prelude.{◌≡◌, IfOk, OnOk};
+ghost use Rattle.botfolder.specs.Folders.{AreEmpty, AreReady};
+ghost use Rattle.watching.specs.Acts.{HasNoBot, MayBegin, MayStep, NumbersAbove, station_in};
+ghost use Rattle.watching.specs.Following.{Follows, HasBegun, IsAt, IsWatched, Lets};
+ghost use Rattle.botrun.specs.Watched.{station_of};
 
 use crate::checking::{new_bind, of_line};
 use crate::ending::{RunError, of_bot, of_folder};
@@ -16,6 +20,8 @@ use std::random::RandomSource;
 use std::rt::Files;
 use std::str;
 use std::time::Clock;
+use turns::watched_step;
+use watching::Watcher;
 
 // Takes the folder of a bot for this program.
 pub(crate) fn folder_of<R: AllocGlobal + Files<File = File> + Clock>(
@@ -33,18 +39,23 @@ pub(crate) fn folder_of<R: AllocGlobal + Files<File = File> + Clock>(
 
 // Opens the bot whose journal the folder holds, or creates it if there is none: then a leaf's requests are numbered above
 // `last`.
-pub(crate) fn bot_of<R: AllocGlobal + Files<File = File> + RandomSource + Clock>(
+pub(crate) fn bot_of<R: AllocGlobal + Files<File = File> + RandomSource + Clock, W: Watcher>(
     rt: &R,
     folder: &BotFolder,
     settings: &Settings,
     last: u32,
-) -> Result<Bot<FileDisk>, RunError> {
+    watcher: &mut W,
+) -> Result<Bot<FileDisk>, RunError>
+    requires lets { Lets (MayBegin (station_of settings.now)) W.may (W.past watcher.old) }
+    requires numbers { NumbersAbove (W.past watcher.old) last }
+    ensures { IfOk result (HasBegun (station_of settings.now) (W.past watcher.old) (W.past watcher.new)) }
+{
     let config = config_of(rt.alloc(), settings)?;
     match folder.begin(rt) {
-        Ok(Begun::Found(disks)) => found(rt.alloc(), config, disks),
+        Ok(Begun::Found(disks)) => found(rt.alloc(), config, disks, watcher),
         Ok(Begun::Empty(disks)) => {
             begin_net(rt, folder, settings)?;
-            made(rt, folder, config, disks, last)
+            made(rt, folder, config, disks, last, watcher)
         }
         Err(error) => Err(of_folder(error)),
     }
@@ -62,39 +73,64 @@ pub(crate) fn forget_journal<R: AllocGlobal + Files<File = File>>(
 }
 
 // Opens the bot of an existing journal.
-fn found(alloc: Global, config: Config, disks: Pair) -> Result<Bot<FileDisk>, RunError>
+fn found<W: Watcher>(
+    alloc: Global,
+    config: Config,
+    disks: Pair,
+    watcher: &mut W,
+) -> Result<Bot<FileDisk>, RunError>
     requires ready { AreReady disks }
+    requires lets { Lets (MayBegin (station_in config)) W.may (W.past watcher.old) }
+    requires before { HasNoBot (W.past watcher.old) }
+    ensures { IfOk result (HasBegun (station_in config) (W.past watcher.old) (W.past watcher.new)) }
 {
     let Pair { first, second } = disks;
+    watcher.opens(&first, &second);
     match Bot::open(alloc, config, first, second) {
-        Ok(bot) => Ok(bot),
+        Ok(bot) => {
+            bot.know_disks();
+            watcher.began(&bot);
+            Ok(bot)
+        }
         Err(returned) => Err(of_bot(returned.error)),
     }
 }
 
 // Creates a bot; a leaf's requests are numbered above `last`. Its journal is found from now on.
-fn made<R: AllocGlobal + Files<File = File>>(
+fn made<R: AllocGlobal + Files<File = File>, W: Watcher>(
     rt: &R,
     folder: &BotFolder,
     config: Config,
     disks: Pair,
     last: u32,
+    watcher: &mut W,
 ) -> Result<Bot<FileDisk>, RunError>
     requires ready { AreReady disks }
+    requires empty { AreEmpty disks }
+    requires lets { Lets (MayBegin (station_in config)) W.may (W.past watcher.old) }
+    requires numbers { NumbersAbove (W.past watcher.old) last }
+    ensures { IfOk result (HasBegun (station_in config) (W.past watcher.old) (W.past watcher.new)) }
 {
     let Pair { first, second } = disks;
+    watcher.creates(&first, &second, last);
     let bot = match Bot::create_after(rt.alloc(), config, first, second, last) {
         Ok(bot) => bot,
         Err(returned) => return Err(of_bot(returned.error)),
     };
     match folder.finish(rt) {
-        Ok(()) => Ok(bot),
+        Ok(()) => {
+            bot.know_disks();
+            watcher.began(&bot);
+            Ok(bot)
+        }
         Err(error) => Err(of_folder(error)),
     }
 }
 
 // The configuration with which the bot is opened or created.
-fn config_of(alloc: Global, settings: &Settings) -> Result<Config, NoMemory> {
+fn config_of(alloc: Global, settings: &Settings) -> Result<Config, NoMemory>
+    ensures { IfOk result (λ config. station_in config ≡ station_of settings.now) }
+{
     Ok(Config {
         number: settings.station.number,
         leaves: settings.station.leaves,
@@ -106,29 +142,39 @@ fn config_of(alloc: Global, settings: &Settings) -> Result<Config, NoMemory> {
 }
 
 // Makes the binds of a configuration.
-pub(crate) fn bind_all<P: Promise, B: Run>(
+pub(crate) fn bind_all<P: Promise, B: Run, W: Watcher>(
     alloc: Global,
     bot: &mut Bot<FileDisk>,
     store: &ProcStore<P, B>,
     settings: &Settings,
-) -> Result<(), RunError> {
+    watcher: &mut W,
+) -> Result<(), RunError>
+    requires at { IsAt P.promised store.now (station_of settings.now) W.may (W.past watcher.old) bot.old }
+    ensures at { OnOk result (IsAt P.promised store.now (station_of settings.now) W.may (W.past watcher.new) bot.new) }
+{
     for bind in settings.binds.as_slice() {
-        bind_one(alloc, bot, store, bind)?;
+        bind_one(alloc, bot, store, bind, watcher)?;
     }
     Ok(())
 }
 
-fn bind_one<P: Promise, B: Run>(
+#[tactic(auto, using(watching::proofs::FollowingLemmas::follows_same))]
+fn bind_one<P: Promise, B: Run, W: Watcher>(
     alloc: Global,
     bot: &mut Bot<FileDisk>,
     store: &ProcStore<P, B>,
     bind: &BindLine,
-) -> Result<(), RunError> {
+    watcher: &mut W,
+) -> Result<(), RunError>
+    requires watched { IsWatched P.promised store.now W.may (W.past watcher.old) bot.old }
+    ensures follows { Follows (MayStep P.promised store.now) (W.past watcher.old) (W.past watcher.new) }
+    ensures watched { IsWatched P.promised store.now W.may (W.past watcher.new) bot.new }
+{
     let asked = match new_bind(alloc, store, &bind.words) {
         Ok(asked) => asked,
         Err(why) => return Err(of_line(bind.line, why)),
     };
-    let report = bot.step(alloc, store, BotEvent::Bind(asked));
+    let report = watched_step(alloc, bot, store, BotEvent::Bind(asked), watcher);
     match report.end {
         End::Refused(Refusal::Bind(fault)) => Err(RunError::Bind {
             line: bind.line,

@@ -3,9 +3,11 @@ ghost use Rattle.std.specs.Prelude.{◌<◌, ◌≡◌, Bool, IfOk, OnOk};
 ghost use Rattle.bytetext.specs.declared.moment.TheConstants.{MOMENTS_END};
 ghost use Rattle.serverlink.specs.Talks.{heard_in, talk_in};
 ghost use Rattle.turns.specs.Turns.{AllGood};
+ghost use Rattle.watching.specs.Following.{IsAt};
 ghost use Rattle.botrun.specs.Askers.{turn_askers};
 ghost use Rattle.botrun.specs.Passing.{told_of};
 ghost use Rattle.botrun.specs.Taking.{GoesOn, Hears, TakesChanges};
+ghost use Rattle.botrun.specs.Watched.{station_of};
 
 use crate::ending::RunError;
 use crate::entry::Entry;
@@ -22,6 +24,7 @@ use sharelink::MAX_ASKS;
 use std::alloc::Global;
 use turns::{Heard, Told, TurnEnd, take_turn};
 use userfile::Change;
+use watching::Watcher;
 
 impl Process {
     // Has the bot take what its server and the other bots sent, in one turn. Then the connection to the server looks at
@@ -29,7 +32,7 @@ impl Process {
     // rewritten if that is due. If there is no room, the bot takes nothing of the other bots; procs may still change
     // records, so the journal is lent the space that is set aside. Returns whether there may be more at once: another bot
     // sent something, or a hello got due.
-    pub(crate) fn hear<R: AllocGlobal, P: Promise, B: Run>(
+    pub(crate) fn hear<R: AllocGlobal, P: Promise, B: Run, W: Watcher>(
         &mut self,
         rt: &R,
         log: &mut Log,
@@ -37,13 +40,17 @@ impl Process {
         settings: &Settings,
         connected: bool,
         now: u64,
+        watcher: &mut W,
     ) -> Result<bool, RunError>
         requires moment { now < MOMENTS_END }
+        requires at { IsAt P.promised store.now (station_of settings.now) W.may (W.past watcher.old) self.old.bot }
         // The first turn takes all that was read from the server, and packets that wait: none if there is no room. The
         // bot goes on from it by turns in which it hears nothing.
         ensures hears { OnOk result (Hears P.promised store.now self.old.bot self.old.lines
             (heard_in (talk_in self.old.uplink.session)) self.old.space.room self.old.others.links
             self.new.bot self.new.lines) }
+        ensures at { OnOk result
+            (IsAt P.promised store.now (station_of settings.now) W.may (W.past watcher.new) self.new.bot) }
     {
         let alloc = rt.alloc();
         let bytes = self.uplink.take_heard(alloc);
@@ -63,13 +70,13 @@ impl Process {
             compact: false,
         };
         self.space.lend_if_full();
-        let told = take_turn(alloc, &mut self.bot, store, &mut self.lines, heard);
+        let told = take_turn(alloc, &mut self.bot, store, &mut self.lines, heard, watcher);
         let lines = told.lines.as_slice();
         look_at_all(rt, log, &mut self.uplink, settings, nick, lines, now)?;
         self.pass(rt, log, settings, &told, pumps, now)?;
         let first = outcome_of(told.reports.as_slice());
-        self.pump(rt, log, store, settings, first, now)?;
-        self.compact_if_due(rt, log, store, settings, now)?;
+        self.pump(rt, log, store, settings, first, now, watcher)?;
+        self.compact_if_due(rt, log, store, settings, now, watcher)?;
         self.space.look_if_full(log, now);
         // A proc may have had a leaf ask for a change. If this turn pumped and more is due at once, the link took
         // bytes, so the next turn comes at once too.
@@ -78,7 +85,7 @@ impl Process {
 
     // Unless the bot is a leaf, or a hub in doubt, pumps until nothing waits, or the link refuses. `first` is the outcome
     // of the turn before.
-    fn pump<R: AllocGlobal, P: Promise, B: Run>(
+    fn pump<R: AllocGlobal, P: Promise, B: Run, W: Watcher>(
         &mut self,
         rt: &R,
         log: &mut Log,
@@ -86,8 +93,12 @@ impl Process {
         settings: &Settings,
         first: Outcome,
         now: u64,
+        watcher: &mut W,
     ) -> Result<(), RunError>
+        requires at { IsAt P.promised store.now (station_of settings.now) W.may (W.past watcher.old) self.old.bot }
         ensures goes_on { OnOk result (GoesOn P.promised store.now self.old.bot self.old.lines self.new.bot self.new.lines) }
+        ensures at { OnOk result
+            (IsAt P.promised store.now (station_of settings.now) W.may (W.past watcher.new) self.new.bot) }
     {
         let most = if self.others.links.is_leaf() || self.others.links.doubt().is_some() {
             0
@@ -99,45 +110,55 @@ impl Process {
             if !is_settled(outcome) {
                 return Ok(());
             }
-            outcome = self.take(rt, log, store, settings, Vec::new(rt.alloc()), false, now)?;
+            let changes = Vec::new(rt.alloc());
+            outcome = self.take(rt, log, store, settings, changes, false, now, watcher)?;
         }
         Ok(())
     }
 
     // Has the journal rewritten if that is due and there is room.
     #[tactic(auto, using(crate::proofs::TakingLemmas::stays))]
-    fn compact_if_due<R: AllocGlobal, P: Promise, B: Run>(
+    fn compact_if_due<R: AllocGlobal, P: Promise, B: Run, W: Watcher>(
         &mut self,
         rt: &R,
         log: &mut Log,
         store: &ProcStore<P, B>,
         settings: &Settings,
         now: u64,
+        watcher: &mut W,
     ) -> Result<(), RunError>
+        requires at { IsAt P.promised store.now (station_of settings.now) W.may (W.past watcher.old) self.old.bot }
         ensures goes_on { OnOk result (GoesOn P.promised store.now self.old.bot self.old.lines self.new.bot self.new.lines) }
+        ensures at { OnOk result
+            (IsAt P.promised store.now (station_of settings.now) W.may (W.past watcher.new) self.new.bot) }
     {
         self.bases.see(self.bot.version(), now);
         if !self.space.has_room() || !self.bases.is_due(now) {
             return Ok(());
         }
-        self.compact(rt, log, store, settings, now)?;
+        self.compact(rt, log, store, settings, now, watcher)?;
         Ok(())
     }
 
     // Has the journal rewritten, for which it is lent the space that is set aside.
-    pub(crate) fn compact<R: AllocGlobal, P: Promise, B: Run>(
+    pub(crate) fn compact<R: AllocGlobal, P: Promise, B: Run, W: Watcher>(
         &mut self,
         rt: &R,
         log: &mut Log,
         store: &ProcStore<P, B>,
         settings: &Settings,
         now: u64,
+        watcher: &mut W,
     ) -> Result<Outcome, RunError>
+        requires at { IsAt P.promised store.now (station_of settings.now) W.may (W.past watcher.old) self.old.bot }
         ensures goes_on { IfOk result (λ _. GoesOn P.promised store.now self.old.bot self.old.lines self.new.bot self.new.lines) }
+        ensures at { OnOk result
+            (IsAt P.promised store.now (station_of settings.now) W.may (W.past watcher.new) self.new.bot) }
     {
         self.bases.write(self.bot.version());
         self.space.lend();
-        let outcome = self.take(rt, log, store, settings, Vec::new(rt.alloc()), true, now)?;
+        let changes = Vec::new(rt.alloc());
+        let outcome = self.take(rt, log, store, settings, changes, true, now, watcher)?;
         self.space.look(log, now);
         log.note(now, &Entry::Compacted);
         Ok(outcome)
@@ -145,7 +166,7 @@ impl Process {
 
     // Has the bot take `changes` in a turn in which it hears nothing. The turn pumps, or has the journal rewritten if
     // it `compacts`. Queues the bot's lines for the server. Returns what the turn says about changes.
-    pub(crate) fn take<R: AllocGlobal, P: Promise, B: Run>(
+    pub(crate) fn take<R: AllocGlobal, P: Promise, B: Run, W: Watcher>(
         &mut self,
         rt: &R,
         log: &mut Log,
@@ -154,12 +175,16 @@ impl Process {
         changes: Vec<Change>,
         compacts: bool,
         now: u64,
+        watcher: &mut W,
     ) -> Result<Outcome, RunError>
+        requires at { IsAt P.promised store.now (station_of settings.now) W.may (W.past watcher.old) self.old.bot }
         // The bot takes one turn in which these changes alone are asked for, and this is what the turn says about them.
         // Only its lines are queued for the server.
         ensures turn { IfOk result (λ outcome. TakesChanges P.promised store.now self.old.bot self.old.lines
             changes.items compacts self.new.bot self.new.lines outcome
             (talk_in self.old.uplink.session) (talk_in self.new.uplink.session)) }
+        ensures at { OnOk result
+            (IsAt P.promised store.now (station_of settings.now) W.may (W.past watcher.new) self.new.bot) }
     {
         let alloc = rt.alloc();
         let bytes = Vec::new(alloc);
@@ -173,7 +198,7 @@ impl Process {
             pump: !compacts,
             compact: compacts,
         };
-        let told = take_turn(alloc, &mut self.bot, store, &mut self.lines, heard);
+        let told = take_turn(alloc, &mut self.bot, store, &mut self.lines, heard, watcher);
         self.pass(rt, log, settings, &told, !compacts, now)?;
         Ok(outcome_of(told.reports.as_slice()))
     }

@@ -57,7 +57,9 @@ impl Process {
         log: &mut Log,
         is_last: bool,
         now: u64,
-    ) -> Result<(), NoMemory> {
+    ) -> Result<(), NoMemory>
+        ensures bot { self.new.bot ≡ self.old.bot }
+    {
         let version = self.bot.version();
         if self.sums.is_due(version, is_last, now) {
             let sum = self.kept_sum.at(rt.alloc(), version, self.bot.userfile())?;

@@ -12,6 +12,7 @@ use std::rt::Files;
 use std::str;
 use std::time::Clock;
 use streams::{Duplex, ReadError, read_up_to};
+use watching::NoWatcher;
 
 /// Runs the bot of the configuration file `file`, with the procs in `store`, until it is asked to end. Returns the exit
 /// status.
@@ -23,7 +24,8 @@ pub fn run_file<
         Ok(settings) => settings,
         Err(status) => return status,
     };
-    match run(rt, store, &settings) {
+    let mut watcher = NoWatcher::new();
+    match run(rt, store, &settings, &mut watcher) {
         Ok(()) => 0,
         Err(error) => told(rt, file, &settings, error),
     }

@@ -18,6 +18,7 @@ use sharewire::Packet;
 use std::alloc::Global;
 use std::net::Net;
 use turns::{Told, TurnEnd, take_turn};
+use watching::{NoWatcher, Watcher};
 
 /// Makes `most` turns of `net`, whose binds call the procs of `store`, or fewer if a version is `wanted` and each bot
 /// is at it or above. After a turn that moved nothing it waits for what is on its way, or counts the turns in which
@@ -126,7 +127,9 @@ fn bot_turn<P: Promise, B: Run>(
     ensures good { AllGood result.reports }
 {
     let heard = seat.take_heard(alloc, packets, now, pump);
-    take_turn(alloc, bot, store, &mut seat.lines, heard)
+    let mut watcher = NoWatcher::new();
+    watcher.began(bot);
+    take_turn(alloc, bot, store, &mut seat.lines, heard, &mut watcher)
 }
 
 /// Makes the bot at `place` in `net` take one step for `event`, whose binds call the procs of `store`, and queues what

@@ -39,7 +39,8 @@ use Rattle.botcore.specs.Happenings.{Saying, saying_of}
 use Rattle.botcore.specs.Lines.{acting_of, acting_after, Finish, finish_text, finish_line, finish_reading}
 use Rattle.botcore.specs.Steps.{Due, bind_due, unbind_due, bind_to_go, asked_of, connect_due, Gives, TakesCalls, TakesPacket, text_note}
 use Rattle.botcore.specs.Steps.{is_stale, run_to, TakesMoment, TakesReading, TakesStep}
-use Rattle.processes.specs.Deeds.{Nothing, Telling, CrashesIn, LeavesIn, failing, with_end}
+use Rattle.watching.specs.Openings.{CrashesIn}
+use Rattle.processes.specs.Deeds.{Nothing, Telling, LeavesIn, failing, with_end}
 
 -- ---- actions, which call no disk
 

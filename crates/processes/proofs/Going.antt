@@ -32,8 +32,9 @@ use Rattle.botworld.proofs.Lists.{slice_get-set-same}
 use Rattle.botworld.proofs.Shown.{all_sent-posted}
 use Rattle.botworld.proofs.BotEnds.{IsAmong as IsBotAmong, did_row, set-set}
 use Rattle.botworld.proofs.BotSteps.{WasSentTo, bot_goes}
+use Rattle.watching.specs.Openings.{IsOpened, IsUnopened}
 use Rattle.processes.specs.Deeds.{Process, Runs, Ended, Net, Step, Doing, Nothing, Telling, Made, Died, Opened}
-use Rattle.processes.specs.Deeds.{Unopened, with_process, WasTold, WasDoing, with_end, LeavesIn, IsOpened, IsUnopened}
+use Rattle.processes.specs.Deeds.{Unopened, with_process, WasTold, WasDoing, with_end, LeavesIn}
 use Rattle.processes.specs.Deeds.{Makes, AtMostOneMore}
 use Rattle.processes.specs.Standing.{HoldsAbove, HasEnd, IsAt, AreAmong, Stands}
 use Rattle.processes.proofs.Lists.{AreAmong-out, AreAmong-more, AreAmong-at}

@@ -3,7 +3,6 @@ use Rattle.std.specs.Prelude.{◌≡◌, ◌⊎◌, ℕ, ◌+◌, ◌<◌, ◌==
 use Rattle.userfile.specs.Records.{Records}
 use Rattle.sharewire.specs.declared.packet.Packet.{Packet}
 use Rattle.procs.specs.Promises.{Promised}
-use Rattle.disks.specs.State.{moment, left_since}
 use Rattle.botjournal.specs.Contents.{Contents, meaning}
 use Rattle.protocol.specs.Bots.{Fails}
 use Rattle.protocol.specs.Packets.{AcceptedChange, Packet as LinkPacket, from_wire}
@@ -11,15 +10,15 @@ use Rattle.protocol.specs.Packets.Packet.{Hello, Change, Request, Accepted, Refu
 use Rattle.protocol.specs.Network.Event.{Pump as pumps, Compact as compacts}
 use Rattle.protocol.specs.Ends.{End, end_is_down}
 use Rattle.sharelink.specs.BotLinks.{BotEnd, did, took, MeanEnd, end_meaning}
-use Rattle.sharelink.specs.BotOpening.{IsKeptOf, IsLeft}
 use Rattle.sharelink.specs.Telling.{end_last_request, end_last_reply}
 use Rattle.botcore.specs.declared.event.BotEvent.{BotEvent}
 use Rattle.botcore.specs.declared.event.BotEvent.TheVariants.{Connect, Line, Ask, Pump, Receive, Clock, Bind, Unbind}
 use Rattle.botcore.specs.declared.event.BotEvent.TheVariants.{Compact, Restart}
 use Rattle.botcore.specs.declared.report.Report.{Report}
-use Rattle.botcore.specs.Bots.{Bot, begun, new_bot, bot_after}
+use Rattle.botcore.specs.Bots.{Bot, new_bot, bot_after}
 use Rattle.botcore.specs.Links.{link_version, link_records}
 use Rattle.botcore.specs.Steps.{TakesStep}
+use Rattle.watching.specs.Openings.{IsOpened, IsUnopened}
 use Rattle.botworld.specs.declared.sent.Sent.{Sent}
 use Rattle.botworld.specs.Net.{packet_at, posted}
 use Rattle.botworld.specs.Network.{GrowsByNote}
@@ -142,32 +141,6 @@ with_end link end = record link { end = end }
 -- these bytes mean what the bot kept before the call, or the same with the record that the call was journaling
 abbrev pub LeavesIn : Doing → BotEnd → List ℕ → List ℕ → Type 0
 LeavesIn doing link first second = MeanEnd (with_end link (failing link doing)) first second
-
--- a crash at some moment between `was` and `after` may leave these bytes
-pub record CrashesIn (was after : BotEnd) (first second : List ℕ) : Type 0 where
-  pub first_left : left_since after.device.first (moment was.device.first) first
-  pub second_left : left_since after.device.second (moment was.device.second) second
-
--- The bot with this number, in a net of `bots` bots, keeps what these bytes mean; if they have an older layout, it
--- keeps what a compaction makes of it. Its binds, channels, clock, timers and queues are new.
-pub record IsOpened (bot bots : ℕ) (first second : List ℕ) (after : Bot) : Type 0 where
-  pub number : after.config.number ≡ bot
-  pub leaves : after.config.leaves + 1 ≡ bots
-  pub kept : IsKeptOf after.config.number after.config.leaves (meaning first second) after.link.end
-  pub link : after.link ≡ record {
-    number = after.config.number;
-    leaves = after.config.leaves;
-    end = after.link.end;
-    device = after.link.device;
-  }
-  pub anew : after ≡ begun after.config after.link
-
--- These bytes mean what the bytes `x` and `y` mean, from which the bot with this number, in a net of `bots` bots, was
--- to be opened; or, if those have an older layout, the same rewritten in the present one.
-pub record IsUnopened (bot bots : ℕ) (x y first second : List ℕ) : Type 0 where
-  pub leaves : ℕ
-  pub many : leaves + 1 ≡ bots
-  pub left : IsLeft bot leaves (meaning x y) first second
 
 -- these bytes mean this end to the hub of a net of `bots` bots
 pub record MeanHub (bots : ℕ) (first second : List ℕ) (end : End) : Type 0 where

@@ -7,11 +7,13 @@ use Rattle.protocol.specs.History.{History, start, records_of}
 use Rattle.botcore.specs.Links.{link_version, link_records}
 use Rattle.processes.specs.Deeds.{Net, Deed, Happens, Run, IsFirst, after_deed, net_after, shown_version, shown_records}
 use Rattle.processes.specs.Standing.{Stands, Leads}
-use Rattle.runlaws.specs.Worlds.{Happening, IsWorld}
+use Rattle.runlaws.specs.Folders.{Folder, Happening}
+use Rattle.runlaws.specs.Worlds.{IsWorld}
 use Rattle.runlaws.specs.Histories.{AreAccepted, HoldRecordsOf}
 use Rattle.runlaws.proofs.Lists.{AcceptInAll}
 use Rattle.runlaws.proofs.Ending.{StepsDie}
-use Rattle.runlaws.proofs.Going.{IsNetOf, net_shows, first_net, what_goes, net_goes}
+use Rattle.runlaws.proofs.Stages.{IsNetOf}
+use Rattle.runlaws.proofs.Going.{bot_stands, first_net, what_goes, net_goes}
 use Rattle.runlaws.proofs.Moments.{version_shown, records_shown}
 
 -- ---- what `laws_of_processes` says
@@ -51,37 +53,37 @@ leads_all promised grows w h (deed ∷ deeds) st run =
 same_records : (a b : Records) → Some a ≡ Some b → a ≡ b
 same_records a b e = cc
 
-module _ (promised : Promised) (names : ℕ → List (List ℕ)) (leaves : ℕ) (first : Net) (dies : StepsDie promised) (begins : Begin)
+module _ (promised : Promised) (folders : ℕ → Folder) (leaves : ℕ) (first : Net) (dies : StepsDie promised) (begins : Begin)
     (grows : GrowAsTold promised) (shows : ShowRecords) where
   -- what bots hold in a net that stands for a world, at a moment for which it stands too
-  held : (w : Net) (world : List Happening) → IsNetOf leaves first world w → (h : History) → Stands w h
-      → HoldRecordsOf h.hub.kept.accepted world
+  held : (w : Net) (world : List Happening) → IsNetOf folders leaves first world w → (h : History) → Stands w h
+      → HoldRecordsOf folders h.hub.kept.accepted world
   held w world net h st who bot is =
-      let at = net_shows leaves first world w net who bot is in
+      let at = bot_stands folders leaves first world w net who bot is in
       same_records (link_records bot.link) (records_of h.hub.kept.accepted (link_version bot.link))
       (sym (records_shown w who bot at) ∙ shows w h st who (link_version bot.link) (version_shown w who bot at))
 
   -- the net and the moment to which a world has led
   record SoFar (world : List Happening) : Type 0 where
     net : Net
-    is_net : IsNetOf leaves first world net
+    is_net : IsNetOf folders leaves first world net
     moment : History
     stands : Stands net moment
-    accepted : AreAccepted world moment.hub.kept.accepted
+    accepted : AreAccepted folders world moment.hub.kept.accepted
 
-  so_far : (world : List Happening) → IsFirst leaves first → IsWorld promised names leaves first world → SoFar world
+  so_far : (world : List Happening) → IsFirst leaves first → IsWorld promised folders leaves first world → SoFar world
   so_far [] is_first is = record {
     net = first;
-    is_net = first_net leaves first is_first;
+    is_net = first_net folders leaves first is_first;
     moment = start leaves;
     stands = begins leaves first is_first;
     accepted = refl;
   }
   so_far (h ∷ world) is_first is =
-      let was = so_far world is_first is.1 in
-      let it = what_goes promised names leaves first dies was.net world was.is_net h.who h.what is.0 in
+      let was = so_far world is_first is.2 in
+      let it = what_goes promised folders leaves first dies was.net world was.is_net h.folder h.what is.0 is.1 in
       let led = leads_all promised grows was.net was.moment it.few was.stands it.run in
-      let now = net_goes promised names leaves first dies was.net world h was.is_net it in
+      let now = net_goes promised folders leaves first dies was.net world h was.is_net is.1 it in
       record {
         net = net_after was.net it.few;
         is_net = now;
@@ -97,8 +99,8 @@ module _ (promised : Promised) (names : ℕ → List (List ℕ)) (leaves : ℕ) 
         );
       }
 
-  pub world_accepted : (world : List Happening) → IsFirst leaves first → IsWorld promised names leaves first world
-      → (changes : List AcceptedChange) × AreAccepted world changes
+  pub world_accepted : (world : List Happening) → IsFirst leaves first → IsWorld promised folders leaves first world
+      → (changes : List AcceptedChange) × AreAccepted folders world changes
   world_accepted world is_first is =
       let all = so_far world is_first is in
       (all.moment.hub.kept.accepted, all.accepted)

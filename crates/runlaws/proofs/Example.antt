@@ -1,5 +1,6 @@
--- A hub and a leaf are created, and a change that the hub accepts reaches the leaf, whose process ends in that step.
-use Rattle.std.proofs.Common.{◌≡◌, inl, inr, ℕ, zero, suc, true, false, List, [], ◌∷◌, slice_get, None, Some, Ok, refl, subst, arith}
+-- A hub and a leaf are created, and a change that the hub accepts reaches the leaf, whose process ends in that step. Later on
+-- the leaf is created in another folder.
+use Rattle.std.proofs.Common.{◌≡◌, ◌==◌, inl, inr, ℕ, zero, suc, Bool, true, false, List, [], ◌∷◌, slice_get, None, Some, Ok, refl, subst, arith}
 use Rattle.userfile.specs.Shapes.{is_handle}
 use Rattle.userfile.specs.declared.change.Change.{Change as UserChange}
 use Rattle.userfile.specs.declared.change.Change.TheVariants.{AddUser}
@@ -29,10 +30,15 @@ use Rattle.botcore.specs.declared.report.Report.{Report}
 use Rattle.botcore.specs.Bots.{Bot, new_bot}
 use Rattle.botcore.specs.Reports.{answer_report}
 use Rattle.botcore.specs.Steps.{TakesStep}
-use Rattle.processes.specs.Deeds.{Process, Runs, Net, CrashesIn, IsOpened, IsNew, IsFirst}
-use Rattle.runlaws.specs.Acts.{Act, Opens, Creates, Began, Told, Made, IsKept}
-use Rattle.runlaws.specs.Worlds.{Happening, Does, Ends, IsWorld}
-use Rattle.runlaws.specs.Examples.{ReachesLeaf}
+use Rattle.watching.specs.Openings.{CrashesIn, IsOpened}
+use Rattle.watching.specs.Acts.{Act, Opens, Creates, Began, Told, Made, IsKept}
+use Rattle.watching.specs.Following.{IsLawful}
+use Rattle.watching.specs.Following.Follows.{so_far, more}
+use Rattle.processes.specs.Deeds.{Process, Runs, Net, IsNew, IsFirst}
+use Rattle.runlaws.specs.Calls.{Telling}
+use Rattle.runlaws.specs.Folders.{Happening, Does, Takes, Ends, Holder, NoneYet, holder_with, call_by, call_of}
+use Rattle.runlaws.specs.Worlds.{IsWorld, IsRenewed, station}
+use Rattle.runlaws.specs.Examples.{ReachesLeaf, RenewsLeaf, number_in, of_two}
 use Rattle.runlaws.proofs.Journaling.{closed_gate, Keep, new_device, bytes_with, device_with, opened_device, contents_with, untouched, with_keeps, appending, appended, still_appended}
 
 -- ---- the change
@@ -143,9 +149,6 @@ some_is x y e = cc
 
 none_is : {X : Type 0} (x : X) → None ≡ Some x → ⊥
 none_is x e = cc
-
-not_false : true ≡ false → ⊥
-not_false e = cc
 
 -- ---- the bots
 
@@ -306,52 +309,96 @@ module _ (config : Config) where
   is_first_net = record { many = refl; packets = refl; all_new = all_new }
 
   abbrev does : ℕ → Act → Happening
-  does who act = record { who = who; what = Does act }
+  does folder act = record { folder = folder; what = Does act }
+
+  abbrev takes : ℕ → Bot → Happening
+  takes folder bot = record { folder = folder; what = Takes bot }
 
   module _ (promised : Promised) (names : ℕ → List (List ℕ)) where
     abbrev world : List Happening
     world =
         does 1 (Began leaf_opened)
         ∷ does 1 (Opens (bytes_with (base_of 1) applied) closed_gate)
-        ∷ record { who = 1; what = Ends (bytes_with (base_of 1) applied) closed_gate }
+        ∷ record { folder = 1; what = Ends (bytes_with (base_of 1) applied) closed_gate }
         ∷ does 1 (Told leaf (Receive packet))
         ∷ does 0 (Made (report_of accepting) hub_grown)
         ∷ does 0 (Told hub_asked Pump)
         ∷ does 0 (Made (report_of queued) hub_asked)
         ∷ does 0 (Told hub (Ask change))
-        ∷ does 1 (Began leaf)
-        ∷ does 1 Creates
-        ∷ does 0 (Began hub)
-        ∷ does 0 Creates
+        ∷ takes 1 leaf
+        ∷ does 1 (Creates [] [] 0)
+        ∷ takes 0 hub
+        ∷ does 0 (Creates [] [] 0)
         ∷ []
 
-    is_a_world : IsWorld promised names 1 first_net world
+    -- ---- what each process does is lawful
+
+    abbrev Lawful : ℕ → List Act → Type 0
+    Lawful folder past = IsLawful promised (names folder) (station 1 (number_in folder)) past
+
+    hub_created : Lawful 0 (Creates [] [] 0 ∷ [])
+    hub_created = more so_far (refl, refl, refl)
+
+    hub_begun : Lawful 0 (Began hub ∷ Creates [] [] 0 ∷ [])
+    hub_begun = more hub_created (refl, (refl, refl), hub_kept)
+
+    hub_told : Lawful 0 (Told hub (Ask change) ∷ Began hub ∷ Creates [] [] 0 ∷ [])
+    hub_told = more hub_begun (refl, tt)
+
+    hub_was_asked : Lawful 0 (Made (report_of queued) hub_asked ∷ Told hub (Ask change) ∷ Began hub ∷ Creates [] [] 0 ∷ [])
+    hub_was_asked = more hub_told (hub_is_asked promised (names 0), hub_asked_kept)
+
+    hub_pumps : Lawful 0 (Told hub_asked Pump ∷ Made (report_of queued) hub_asked ∷ Told hub (Ask change) ∷ Began hub
+        ∷ Creates [] [] 0 ∷ [])
+    hub_pumps = more hub_was_asked (refl, tt)
+
+    hub_has_accepted : Lawful 0 (Made (report_of accepting) hub_grown ∷ Told hub_asked Pump ∷ Made (report_of queued) hub_asked
+        ∷ Told hub (Ask change) ∷ Began hub ∷ Creates [] [] 0 ∷ [])
+    hub_has_accepted = more hub_pumps (hub_accepts promised (names 0), hub_grown_kept)
+
+    leaf_created : (folder : ℕ) → Lawful folder (Creates [] [] 0 ∷ [])
+    leaf_created folder = more so_far (refl, refl, refl)
+
+    leaf_begun : (place : ℕ) → Lawful (suc place) (Began leaf ∷ Creates [] [] 0 ∷ [])
+    leaf_begun place = more (leaf_created (suc place)) (refl, (refl, refl), leaf_kept)
+
+    leaf_told : Lawful 1 (Told leaf (Receive packet) ∷ Began leaf ∷ Creates [] [] 0 ∷ [])
+    leaf_told = more (leaf_begun 0) (refl, tt)
+
+    leaf_opens : Lawful 1 (Opens (bytes_with (base_of 1) applied) closed_gate ∷ [])
+    leaf_opens = more so_far tt
+
+    leaf_begun_again : Lawful 1 (Began leaf_opened ∷ Opens (bytes_with (base_of 1) applied) closed_gate ∷ [])
+    leaf_begun_again = more leaf_opens (leaf_is_opened, (refl, refl), leaf_opened_kept)
+
+    -- ---- it is a world
+
+    is_a_world : IsWorld promised (of_two names) 1 first_net world
     is_a_world = (
-      ((leaf_is_opened, leaf_opened_kept), λ no. absurd (not_false no)),
+      leaf_begun_again,
+      tt,
       (
-        (refl, (refl, tt)),
+        leaf_opens,
+        refl,
         (
+          so_far,
           (report_of applying, leaf_grown, leaf_applies promised (names 1), leaf_crashes),
           (
-            ((refl, tt), (1, 0, refl)),
+            leaf_told,
+            (1, 0, refl),
             (
-              ((hub_accepts promised (names 0), hub_grown_kept), tt),
+              hub_has_accepted,
+              tt,
               (
-                ((refl, tt), tt),
+                hub_pumps,
+                tt,
                 (
-                  ((hub_is_asked promised (names 0), hub_asked_kept), tt),
+                  hub_was_asked,
+                  tt,
                   (
-                    ((refl, tt), tt),
-                    (
-                      (((refl, refl, refl), leaf_kept), λ no. refl),
-                      (
-                        (refl, refl),
-                        (
-                          (((refl, refl, refl), hub_kept), λ no. refl),
-                          ((refl, refl), tt),
-                        ),
-                      ),
-                    ),
+                    hub_told,
+                    tt,
+                    (leaf_begun 0, refl, (leaf_created 1, tt, (hub_begun, refl, (hub_created, tt, tt)))),
                   ),
                 ),
               ),
@@ -360,6 +407,47 @@ module _ (config : Config) where
         ),
       ),
     )
+
+    -- ---- the leaf is created in another folder
+
+    abbrev created_again : List Happening
+    created_again = does 2 (Creates [] [] 0) ∷ world
+
+    -- who holds a number in a world, by whether it is the hub's and whether it is the leaf's
+    pick : (is_hub is_leaf : Bool) → ℕ → Bool
+    pick is_hub is_leaf zero = is_hub
+    pick is_hub is_leaf (suc place) = is_leaf
+
+    holder_by : (ℕ → Bool) → List Happening → Holder
+    holder_by is [] = NoneYet
+    holder_by is (h ∷ hs) = holder_with (of_two names) (is (number_in h.folder)) h (holder_by is hs)
+
+    -- no bot is in a step
+    silent : (is_hub is_leaf : Bool) (was : Bot) (taken : Packet)
+        → call_by (holder_by (pick is_hub is_leaf) created_again) created_again ≡ Telling was (Receive taken) → ⊥
+    unfolding pick holder_by
+    silent true true was taken is = cc
+    silent true false was taken is = cc
+    silent false true was taken is = cc
+    silent false false was taken is = cc
+
+    quiet : (other : ℕ) (was : Bot) (taken : Packet) → call_of (of_two names) other created_again ≡ Telling was (Receive taken) → ⊥
+    unfolding pick holder_by
+    quiet other was taken is = silent (0 == other) (1 == other) was taken is
+
+    renewed : IsRenewed (of_two names) 1 1 created_again leaf
+    renewed = record {
+      above = omega arith;
+      hub = Runs hub_grown;
+      at = refl;
+      end = AtHub grown_hub;
+      has = (refl, refl);
+      made = refl;
+      quiet = λ other was taken is. absurd (quiet other was taken is);
+    }
+
+    is_a_later_world : IsWorld promised (of_two names) 1 first_net (takes 2 leaf ∷ created_again)
+    is_a_later_world = (leaf_begun 1, renewed, (leaf_created 2, tt, is_a_world))
 
 pub change_reaches : (promised : Promised) (names : ℕ → List (List ℕ)) → Config → ReachesLeaf promised names
 change_reaches promised names config = record {
@@ -371,6 +459,21 @@ change_reaches promised names config = record {
   has_hub = refl;
   hub_version = refl;
   leaf = leaf_opened config;
+  has_leaf = refl;
+  leaf_version = refl;
+}
+
+pub leaf_renews : (promised : Promised) (names : ℕ → List (List ℕ)) → Config → RenewsLeaf promised names
+leaf_renews promised names config = record {
+  first = first_net config;
+  more = takes config 2 (leaf config) ∷ does config 2 (Creates [] [] 0) ∷ [];
+  world = world config promised names;
+  is_first = is_first_net config;
+  is_world = is_a_later_world config promised names;
+  was = leaf_opened config;
+  had_leaf = refl;
+  was_version = refl;
+  leaf = leaf config;
   has_leaf = refl;
   leaf_version = refl;
 }

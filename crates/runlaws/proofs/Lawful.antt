@@ -1,21 +1,49 @@
 -- In a world each process does only what is lawful.
-use Rattle.std.proofs.Common.{◌≡◌, ◌==◌, ℕ, Bool, true, false, List, [], ◌∷◌, refl, subst, eqb-true}
+use Rattle.std.proofs.Common.{◌≡◌, ◌==◌, ℕ, Bool, true, false, List, [], ◌∷◌, refl, sym, subst, eq-eqb, eqb-true}
 use Rattle.procs.specs.Promises.{Promised}
+use Rattle.botcore.specs.Bots.{Bot}
+use Rattle.watching.specs.Acts.{Act, Began, May}
+use Rattle.watching.specs.Following.{Follows, IsLawful}
+use Rattle.watching.specs.Following.Follows.{so_far, more}
 use Rattle.processes.specs.Deeds.{Net}
-use Rattle.runlaws.specs.Acts.{May, IsLawful}
-use Rattle.runlaws.specs.Worlds.{What, Does, Ends, Happening, Comes, IsWorld, past_with, past_of, station}
+use Rattle.runlaws.specs.Folders.{Folder, What, Does, Takes, Happening, past_with, past_of}
+use Rattle.runlaws.specs.Worlds.{IsLawfulIn, IsWorld, station}
 
-pub pasts_lawful : (promised : Promised) (names : ℕ → List (List ℕ)) (leaves : ℕ) (first : Net) (world : List Happening)
-    → IsWorld promised names leaves first world → (who : ℕ)
-    → IsLawful promised (names who) (station leaves who) (past_of who world)
-pasts_lawful promised names leaves first [] is who = tt
-pasts_lawful promised names leaves first (h ∷ world) is who =
-    by (h.who == who) refl h.what is.0 (pasts_lawful promised names leaves first world is.1 who)
+-- ---- the past of a process
+
+past_of_act : {law : List Act → Act → Type 0} (act : Act) (past : List Act) → Follows law [] (act ∷ past) → law past act
+past_of_act act past (more far lawful) = lawful
+
+module _ (promised : Promised) (folders : ℕ → Folder) (leaves : ℕ) (folder : ℕ) (world : List Happening) where
+  -- an act is lawful after those before it
+  abbrev pub MayNow : Act → Type 0
+  MayNow act = May promised (folders folder).names (station leaves (folders folder).number) (past_of folder world) act
+
+  last_act : (what : What) (act : Act) → past_with true what (past_of folder world) ≡ act ∷ past_of folder world
+      → IsLawfulIn promised folders leaves folder (record { folder = folder; what = what } ∷ world) → MayNow act
+  last_act what act is lawful =
+      past_of_act act (past_of folder world)
+      (subst (λ (past : List Act). IsLawful promised (folders folder).names (station leaves (folders folder).number) past) is
+      (subst (λ (b : Bool). IsLawful promised (folders folder).names (station leaves (folders folder).number)
+      (past_with b what (past_of folder world))) (eq-eqb folder folder refl) lawful))
+
+  pub act_may : (act : Act) → IsLawfulIn promised folders leaves folder (record { folder = folder; what = Does act } ∷ world) → MayNow act
+  act_may act lawful = last_act (Does act) act refl lawful
+
+  pub begun_may : (bot : Bot) → IsLawfulIn promised folders leaves folder (record { folder = folder; what = Takes bot } ∷ world)
+      → MayNow (Began bot)
+  begun_may bot lawful = last_act (Takes bot) (Began bot) refl lawful
+
+-- ---- a world
+
+pub pasts_lawful : (promised : Promised) (folders : ℕ → Folder) (leaves : ℕ) (first : Net) (world : List Happening)
+    → IsWorld promised folders leaves first world → (folder : ℕ) → IsLawfulIn promised folders leaves folder world
+pasts_lawful promised folders leaves first [] is folder = so_far
+pasts_lawful promised folders leaves first (h ∷ world) is folder =
+    by (h.folder == folder) refl (pasts_lawful promised folders leaves first world is.2 folder)
   where
-    by : (here : Bool) → (h.who == who) ≡ here → (what : What) → Comes promised names leaves first world h.who what
-        → IsLawful promised (names who) (station leaves who) (past_of who world)
-        → IsLawful promised (names who) (station leaves who) (past_with here what (past_of who world))
-    by false e what comes rest = rest
-    by true e (Does act) comes rest =
-        (subst (λ (n : ℕ). May promised (names n) (station leaves n) (past_of n world) act) (eqb-true h.who who e) comes.0, rest)
-    by true e (Ends x y) comes rest = tt
+    by : (here : Bool) → (h.folder == folder) ≡ here → IsLawfulIn promised folders leaves folder world
+        → IsLawfulIn promised folders leaves folder (h ∷ world)
+    by true e rest = subst (λ (f : ℕ). IsLawfulIn promised folders leaves f (h ∷ world)) (eqb-true h.folder folder e) is.0
+    by false e rest = subst (λ (b : Bool). IsLawful promised (folders folder).names (station leaves (folders folder).number)
+        (past_with b h.what (past_of folder world))) (sym e) rest

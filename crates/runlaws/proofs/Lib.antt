@@ -1,7 +1,11 @@
 mod Lists
+mod Calls
 mod Stages
 mod Acting
+mod Taking
 mod Ending
+mod Telling
+mod Reporting
 mod Going
 mod Moments
 mod Lawful

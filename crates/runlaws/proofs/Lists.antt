@@ -3,7 +3,8 @@ use Rattle.std.proofs.Common.{◌≡◌, ◌∙◌, ℕ, zero, suc, List, [], �
 use Rattle.procs.specs.Promises.{Promised}
 use Rattle.protocol.specs.Packets.{AcceptedChange}
 use Rattle.processes.specs.Deeds.{Net, Deed, Made, Died, Opened, Unopened, Replaced, Run, after_deed, net_after, AcceptsIn, Stays}
-use Rattle.runlaws.specs.Worlds.{Happening, IsWorld, step_in, steps_of}
+use Rattle.runlaws.specs.Folders.{Folder, Happening}
+use Rattle.runlaws.specs.Worlds.{IsWorld, step_in, steps_of}
 
 -- ---- deeds
 
@@ -46,7 +47,7 @@ AcceptInAll (deed ∷ deeds) old new = (mid : List AcceptedChange) × AcceptsIn 
 -- ---- worlds
 
 -- what had happened before is a world too
-pub IsWorld-before : (promised : Promised) (names : ℕ → List (List ℕ)) (leaves : ℕ) (first : Net) (more world : List Happening)
-    → IsWorld promised names leaves first (more ++ world) → IsWorld promised names leaves first world
-IsWorld-before promised names leaves first [] world is = is
-IsWorld-before promised names leaves first (h ∷ more) world is = IsWorld-before promised names leaves first more world is.1
+pub IsWorld-before : (promised : Promised) (folders : ℕ → Folder) (leaves : ℕ) (first : Net) (more world : List Happening)
+    → IsWorld promised folders leaves first (more ++ world) → IsWorld promised folders leaves first world
+IsWorld-before promised folders leaves first [] world is = is
+IsWorld-before promised folders leaves first (h ∷ more) world is = IsWorld-before promised folders leaves first more world is.2

@@ -1,19 +1,22 @@
 -- What the laws of deeds say of two moments of a world, and of its steps.
-use Rattle.std.proofs.Common.{◌≡◌, ◌∙◌, ◌≤◌, ℕ, List, [], ◌++◌, slice_get, Some, ap, sym, subst}
+use Rattle.std.proofs.Common.{◌≡◌, ◌∙◌, ◌≤◌, ℕ, suc, List, [], ◌++◌, slice_get, Some, refl, ap, sym, subst}
+use Rattle.userfile.specs.declared.change.Change.{Change as UserChange}
+use Rattle.userfile.specs.declared.error.ChangeFault.{ChangeFault}
 use Rattle.sharewire.specs.declared.packet.Packet.{Packet}
+use Rattle.sharewire.specs.declared.packet.Packet.TheVariants.{Change, Accepted, Refused}
 use Rattle.procs.specs.Promises.{Promised}
 use Rattle.botcore.specs.Bots.{Bot}
 use Rattle.botcore.specs.Links.{link_version, link_records}
-use Rattle.botworld.specs.declared.sent.Sent.{Sent}
-use Rattle.botworld.specs.Net.{packet_at}
 use Rattle.botworld.specs.Calling.{Calling}
 use Rattle.processes.specs.Deeds.{Runs, Net, Step, Deed, Made, Run, IsFirst, Stays, net_after, version_in, records_in, shown_version, shown_records, IsTold}
 use Rattle.processes.specs.Promises.{Once, calling_of}
-use Rattle.runlaws.specs.Acts.{bot_in}
-use Rattle.runlaws.specs.Worlds.{Happening, IsWorld, AreDeeds, OnceIn, past_of, sent_in, steps_in}
+use Rattle.runlaws.specs.Folders.{Folder, Happening, bot_of}
+use Rattle.runlaws.specs.Worlds.{IsWorld, AreDeeds, OnceIn, StaysIn, sent_in, told_in, steps_in}
 use Rattle.runlaws.proofs.Lists.{Run-append, net_after-append, step_at, IsWorld-before}
 use Rattle.runlaws.proofs.Ending.{StepsDie}
-use Rattle.runlaws.proofs.Going.{IsNetOf, net_shows, goes, all_goes}
+use Rattle.runlaws.proofs.Stages.{IsNetOf}
+use Rattle.runlaws.proofs.Reporting.{told_still}
+use Rattle.runlaws.proofs.Going.{net_shows, bot_stands, goes, all_goes}
 
 -- ---- what `laws_of_processes` says
 
@@ -50,25 +53,19 @@ pub records_shown : (w : Net) (who : ℕ) (bot : Bot) → slice_get w.processes 
     → shown_records w who ≡ Some (link_records bot.link)
 records_shown w who bot at = ap records_in at
 
--- a packet among those of a net is told in it
-was_told : (w : Net) (packets : List Sent) → w.packets ≡ packets → (packet : Packet)
-    → IsTold (record { processes = []; packets = packets }) packet → IsTold w packet
-was_told w packets same packet told =
-    (told.0, told.1, ap (λ (ps : List Sent). packet_at ps told.0) same ∙ told.2, told.3)
-
-module _ (promised : Promised) (names : ℕ → List (List ℕ)) (count : ℕ) (first : Net) (dies : StepsDie promised) where
+module _ (promised : Promised) (folders : ℕ → Folder) (count : ℕ) (first : Net) (dies : StepsDie promised) where
   -- ---- one moment
 
-  pub are_deeds : (world : List Happening) → IsFirst count first → IsWorld promised names count first world
-      → AreDeeds promised names first world
+  pub are_deeds : (world : List Happening) → IsFirst count first → IsWorld promised folders count first world
+      → AreDeeds promised folders first world
   are_deeds world is_first is =
-      let all = all_goes promised names count first dies world is_first is in
+      let all = all_goes promised folders count first dies world is_first is in
       record {
         deeds = all.deeds;
         run = all.run;
         steps = sym all.steps;
         sent = all.net.sent;
-        shows = net_shows count first world (net_after first all.deeds) all.net;
+        shows = net_shows folders count first world (net_after first all.deeds) all.net;
       }
 
   -- ---- two moments
@@ -77,34 +74,34 @@ module _ (promised : Promised) (names : ℕ → List (List ℕ)) (count : ℕ) (
     was : List Deed
     since : List Deed
     run : Run promised first (was ++ since)
-    stays : (bot : ℕ) → Stays bot since
-    old : IsNetOf count first world (net_after first was)
-    new : IsNetOf count first (more ++ world) (net_after first (was ++ since))
+    stays : (bot : ℕ) → StaysIn folders bot more → Stays bot since
+    old : IsNetOf folders count first world (net_after first was)
+    new : IsNetOf folders count first (more ++ world) (net_after first (was ++ since))
 
-  moments : (more world : List Happening) → IsFirst count first → IsWorld promised names count first (more ++ world)
+  moments : (more world : List Happening) → IsFirst count first → IsWorld promised folders count first (more ++ world)
       → Moments more world
   moments more world is_first is =
-      let one = all_goes promised names count first dies world is_first (IsWorld-before promised names count first more world is) in
-      let next = goes promised names count first dies (net_after first one.deeds) world more one.net is in
+      let one = all_goes promised folders count first dies world is_first (IsWorld-before promised folders count first more world is) in
+      let next = goes promised folders count first dies (net_after first one.deeds) world more one.net is in
       record {
         was = one.deeds;
         since = next.deeds;
         run = Run-append promised first one.deeds next.deeds one.run next.run;
         stays = next.stays;
         old = one.net;
-        new = subst (λ (n : Net). IsNetOf count first (more ++ world) n) (sym (net_after-append first one.deeds next.deeds)) next.net;
+        new = subst (λ (n : Net). IsNetOf folders count first (more ++ world) n) (sym (net_after-append first one.deeds next.deeds)) next.net;
       }
 
-  module _ (more world : List Happening) (is_first : IsFirst count first) (is : IsWorld promised names count first (more ++ world))
-      (one other : ℕ) (a b : Bot) (has_a : bot_in (past_of one world) ≡ Some a) (has_b : bot_in (past_of other (more ++ world)) ≡ Some b) where
+  module _ (more world : List Happening) (is_first : IsFirst count first) (is : IsWorld promised folders count first (more ++ world))
+      (one other : ℕ) (a b : Bot) (has_a : bot_of folders one world ≡ Some a) (has_b : bot_of folders other (more ++ world) ≡ Some b) where
     abbrev both : Moments more world
     both = moments more world is_first is
 
     old_at : slice_get (net_after first both.was).processes one ≡ Some (Runs a)
-    old_at = net_shows count first world (net_after first both.was) both.old one a has_a
+    old_at = bot_stands folders count first world (net_after first both.was) both.old one a has_a
 
     new_at : slice_get (net_after first (both.was ++ both.since)).processes other ≡ Some (Runs b)
-    new_at = net_shows count first (more ++ world) (net_after first (both.was ++ both.since)) both.new other b has_b
+    new_at = bot_stands folders count first (more ++ world) (net_after first (both.was ++ both.since)) both.new other b has_b
 
     pub world_same_records : HaveSameRecords promised → link_version a.link ≡ link_version b.link
         → link_records a.link ≡ link_records b.link
@@ -117,39 +114,58 @@ module _ (promised : Promised) (names : ℕ → List (List ℕ)) (count : ℕ) (
         ∙ records_shown (net_after first (both.was ++ both.since)) other b new_at in
         cc
 
-  pub world_never_back : (more world : List Happening) → IsFirst count first → IsWorld promised names count first (more ++ world)
-      → (who : ℕ) (a b : Bot) → bot_in (past_of who world) ≡ Some a → bot_in (past_of who (more ++ world)) ≡ Some b
-      → NeverGoBack promised → link_version a.link ≤ link_version b.link
-  world_never_back more world is_first is who a b has_a has_b law =
+  pub world_never_back : (more world : List Happening) → IsFirst count first → IsWorld promised folders count first (more ++ world)
+      → (who : ℕ) (a b : Bot) → bot_of folders who world ≡ Some a → bot_of folders who (more ++ world) ≡ Some b
+      → StaysIn folders who more → NeverGoBack promised → link_version a.link ≤ link_version b.link
+  world_never_back more world is_first is who a b has_a has_b stays law =
       let it = moments more world is_first is in
-      law count first it.was it.since is_first it.run who (link_version a.link) (link_version b.link) (it.stays who)
-      (version_shown (net_after first it.was) who a (net_shows count first world (net_after first it.was) it.old who a has_a))
+      law count first it.was it.since is_first it.run who (link_version a.link) (link_version b.link) (it.stays who stays)
+      (version_shown (net_after first it.was) who a (bot_stands folders count first world (net_after first it.was) it.old who a has_a))
       (version_shown (net_after first (it.was ++ it.since)) who b
-      (net_shows count first (more ++ world) (net_after first (it.was ++ it.since)) it.new who b has_b))
+      (bot_stands folders count first (more ++ world) (net_after first (it.was ++ it.since)) it.new who b has_b))
 
   -- ---- all packets and all steps
 
-  pub world_once : (world : List Happening) → IsFirst count first → IsWorld promised names count first world → AcceptOnce promised
-      → OnceIn world
+  -- a report has sent this packet
+  abbrev Reported : List Happening → Packet → Type 0
+  Reported world packet = IsTold (record { processes = []; packets = told_in folders world }) packet
+
+  module _ (world : List Happening) (w : Net) (sent : w.packets ≡ sent_in folders world) where
+    change_told : (n origin request : ℕ) (a : UserChange) → Reported world (Change n origin request a)
+        → IsTold w (Change n origin request a)
+    change_told n origin request a it = told_still folders world w sent (Change n origin request a) (λ leaf last. refl) it
+
+    accepted_told : (to request n : ℕ) → Reported world (Accepted to request n) → IsTold w (Accepted to request n)
+    accepted_told to request n it = told_still folders world w sent (Accepted to request n) (λ leaf last. refl) it
+
+    refused_told : (to request : ℕ) (fault : ChangeFault) → Reported world (Refused to request fault)
+        → IsTold w (Refused to request fault)
+    refused_told to request fault it = told_still folders world w sent (Refused to request fault) (λ leaf last. refl) it
+
+    once_told : Once w → OnceIn folders world
+    once_told once = record {
+      change = λ n m place request a b x y.
+          once.change n m place request a b (change_told n (suc place) request a x) (change_told m (suc place) request b y);
+      accepted = λ n m place request a x y.
+          once.accepted n m place request a (change_told n (suc place) request a x) (accepted_told (suc place) request m y);
+      not_refused = λ n place request a fault x y.
+          once.not_refused n place request a fault (change_told n (suc place) request a x) (refused_told (suc place) request fault y);
+      same = λ n o p r s a b x y. once.same n o p r s a b (change_told n o r a x) (change_told n p s b y);
+    }
+
+  pub world_once : (world : List Happening) → IsFirst count first → IsWorld promised folders count first world → AcceptOnce promised
+      → OnceIn folders world
   world_once world is_first is law =
       let all = are_deeds world is_first is in
-      let once = law count first all.deeds is_first all.run in
-      let told = λ (packet : Packet) (it : IsTold (record { processes = []; packets = sent_in world }) packet).
-      was_told (net_after first all.deeds) (sent_in world) all.sent packet it in
-      record {
-        change = λ n m place request a b x y. once.change n m place request a b (told _ x) (told _ y);
-        accepted = λ n m place request a x y. once.accepted n m place request a (told _ x) (told _ y);
-        not_refused = λ n place request a fault x y. once.not_refused n place request a fault (told _ x) (told _ y);
-        same = λ n o p r s a b x y. once.same n o p r s a b (told _ x) (told _ y);
-      }
+      once_told world (net_after first all.deeds) all.sent (law count first all.deeds is_first all.run)
 
-  pub world_same_calls : (world : List Happening) → IsFirst count first → IsWorld promised names count first world
+  pub world_same_calls : (world : List Happening) → IsFirst count first → IsWorld promised folders count first world
       → (Alike : Calling → Calling → Type 0) → HaveSameCalls promised Alike → (i j one other : ℕ) (s t : Step) (a b : Calling)
-      → slice_get (steps_in names world) i ≡ Some (Made one s) → slice_get (steps_in names world) j ≡ Some (Made other t)
+      → slice_get (steps_in folders world) i ≡ Some (Made one s) → slice_get (steps_in folders world) j ≡ Some (Made other t)
       → s.names ≡ t.names → calling_of s ≡ Some a → calling_of t ≡ Some b → Alike a b → a.calls ≡ b.calls
   world_same_calls world is_first is Alike law i j one other s t a b at_s at_t same is_a is_b alike =
       let all = are_deeds world is_first is in
-      let at = λ (k : ℕ) (deed : Deed) (e : slice_get (steps_in names world) k ≡ Some deed).
+      let at = λ (k : ℕ) (deed : Deed) (e : slice_get (steps_in folders world) k ≡ Some deed).
       step_at all.deeds k deed (ap (λ (ds : List Deed). slice_get ds k) all.steps ∙ e) in
       let x = at i (Made one s) at_s in
       let y = at j (Made other t) at_t in

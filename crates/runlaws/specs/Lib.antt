@@ -1,4 +1,5 @@
-pub mod Acts
+pub mod Calls
+pub mod Folders
 pub mod Worlds
 pub mod Histories
 pub mod Examples

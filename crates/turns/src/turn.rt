@@ -4,8 +4,11 @@ ghost use Rattle.std.specs.List.{AllByRecursion};
 ghost use Rattle.sharelink.specs.Shapes.{HasGoodRecords};
 ghost use Rattle.botcore.specs.declared.report.End.TheVariants.{NoMemory as ends_no_memory};
 ghost use Rattle.turns.specs.Turns.{Turns, IsTold, IsTurnEvent, Stops, AllGood};
+ghost use Rattle.watching.specs.Acts.{MayStep};
+ghost use Rattle.watching.specs.Following.{Follows, IsWatched};
 
 use crate::events::events_of;
+use crate::watched::{watched_line, watched_step};
 use botcore::{Bot, BotEvent, End, Report};
 use bytetext::{NoMemory, Seq};
 use disks::Disk;
@@ -14,6 +17,7 @@ use procs::{ProcStore, Promise, Run};
 use sharewire::Packet;
 use std::alloc::Global;
 use userfile::Change;
+use watching::Watcher;
 
 /// What a bot hears in one turn.
 #[derive(Drop)]
@@ -87,16 +91,24 @@ impl Drop for Told {
 /// Out of memory, only the first of these steps are made, and the call returns their reports, and the lines among
 /// them. The step at which memory ran out leaves the bot as it was, except for what happened to its disks. `lines` may
 /// have taken the bytes in or not: connect again, or end the process.
-pub fn take_turn<P: Promise, D: Disk, B: Run>(
+///
+/// The call tells `watcher` each step, before it and after it. The watcher must have the bot as it is.
+#[tactic(auto, using(watching::proofs::FollowingLemmas::follows_same))]
+pub fn take_turn<P: Promise, D: Disk, B: Run, W: Watcher>(
     alloc: Global,
     bot: &mut Bot<D>,
     store: &ProcStore<P, B>,
     lines: &mut LineReader,
     heard: Heard,
+    watcher: &mut W,
 ) -> Told
     requires good { AllByRecursion HasGoodRecords heard.packets.items }
+    requires watched { IsWatched P.promised store.now W.may (W.past watcher.old) bot.old }
     ensures turn { Turns P.promised store.now bot.old lines.old heard result bot.new lines.new }
     ensures good { AllGood result.reports }
+    // Whatever becomes of the turn, the watcher was told of lawful steps alone, and has the bot as it is now.
+    ensures follows { Follows (MayStep P.promised store.now) (W.past watcher.old) (W.past watcher.new) }
+    ensures watched { IsWatched P.promised store.now W.may (W.past watcher.new) bot.new }
 {
     let mut stepped = Stepped::new(alloc);
     let events = match events_of(alloc, lines, heard) {
@@ -104,7 +116,7 @@ pub fn take_turn<P: Promise, D: Disk, B: Run>(
         Err(NoMemory) => return stepped.into_told(TurnEnd::NoMemory),
     };
     for event in events {
-        match step_one(alloc, bot, store, event, &mut stepped) {
+        match step_one(alloc, bot, store, event, &mut stepped, watcher) {
             Ok(()) => {}
             Err(NoMemory) => return stepped.into_told(TurnEnd::NoMemory),
         }
@@ -175,26 +187,31 @@ impl Stepped {
 
 // Makes a step, and keeps its report, and its line if it has one. Out of memory, it keeps nothing, and the bot is as
 // it was, since no step is a restart.
-fn step_one<P: Promise, D: Disk, B: Run>(
+#[tactic(auto, using(watching::proofs::FollowingLemmas::follows_same))]
+fn step_one<P: Promise, D: Disk, B: Run, W: Watcher>(
     alloc: Global,
     bot: &mut Bot<D>,
     store: &ProcStore<P, B>,
     event: BotEvent,
     stepped: &mut Stepped,
+    watcher: &mut W,
 ) -> Result<(), NoMemory>
     requires good { IsTurnEvent event }
+    requires watched { IsWatched P.promised store.now W.may (W.past watcher.old) bot.old }
     ensures ok { OnOk result (IsTold P.promised store.now bot.old event stepped.old.lines.items stepped.new.lines.items
         stepped.old.reports.items stepped.new.reports.items bot.new) }
     ensures stops { OnErr result (Stops P.promised store.now bot.old event bot.new) }
     ensures lines { OnErr result (stepped.new.lines.items ≡ stepped.old.lines.items) }
     ensures reports { OnErr result (stepped.new.reports.items ≡ stepped.old.reports.items) }
+    ensures follows { Follows (MayStep P.promised store.now) (W.past watcher.old) (W.past watcher.new) }
+    ensures watched { IsWatched P.promised store.now W.may (W.past watcher.new) bot.new }
 {
     stepped.reports.reserve(1)?;
     match event {
         // The bot borrows the line, which is kept with its report.
         BotEvent::Line(line) => {
             stepped.lines.reserve(1)?;
-            let report = bot.take_line(alloc, store, &line);
+            let report = watched_line(alloc, bot, store, &line, watcher);
             let logged = report.logged;
             stepped.put(report)?;
             stepped.lines.push_reserved(HeardLine { line, logged });
@@ -209,7 +226,7 @@ fn step_one<P: Promise, D: Disk, B: Run>(
         | BotEvent::Unbind(_)
         | BotEvent::Compact
         | BotEvent::Restart => {
-            let report = bot.step(alloc, store, event);
+            let report = watched_step(alloc, bot, store, event, watcher);
             stepped.put(report)
         }
     }

@@ -1,6 +1,10 @@
 use Rattle.std.proofs.Common.{subst, List, ℕ}
 use Rattle.turns.specs.Turns.{Turns}
+use Rattle.watching.proofs.FollowingLemmas.{watched_begun}
 use Rattle.live.proofs.turn.bot_turn.Goals as goal
+
+pub take_turn-requires-clause-watched : goal.take_turn-requires-clause-watched
+take_turn-requires-clause-watched g c = watched_begun _ _ _ _ _ _ (λ past act. tt) c.began.ensures
 
 -- the lines begun are as they were when the turn was heard
 pub returns-clause-turn : goal.returns-clause-turn

@@ -1,8 +1,13 @@
+use Rattle.watching.specs.Acts.{MayStep}
+use Rattle.watching.specs.Following.{Follows, IsWatched}
 use Rattle.turns.proofs.LineLemmas.{IsTurning}
 use Rattle.turns.proofs.turn.take_turn.Given as goal
 
--- the events so far are stepped
+-- the events so far are stepped, and the watcher was told of each step
 abbrev pub invariant-loop-event : goal.invariant-loop-event
-invariant-loop-event g l =
-    IsTurning g.P.Promise.promised l.store l.fn.bot l.fn.lines l.fn.heard l.lines l.stepped.lines.items l.stepped.reports.items l.bot
-    l.event-iterator.rest.items
+invariant-loop-event g l = record {
+  turning : IsTurning g.P.Promise.promised l.store l.fn.bot l.fn.lines l.fn.heard l.lines l.stepped.lines.items l.stepped.reports.items
+      l.bot l.event-iterator.rest.items;
+  follows : Follows (MayStep g.P.Promise.promised l.store) (g.W.Watcher.past l.fn.watcher) (g.W.Watcher.past l.watcher);
+  watched : IsWatched g.P.Promise.promised l.store g.W.Watcher.may (g.W.Watcher.past l.watcher) l.bot;
+}

@@ -1,6 +1,16 @@
 use Rattle.std.proofs.Common.{false}
+use Rattle.watching.proofs.FollowingLemmas.{at_same, at_stepped, at_watched}
 use Rattle.botrun.proofs.TakingLemmas.{goes_on_from}
 use Rattle.botrun.proofs.process.Process.hear.Goals as goal
+
+pub take_turn-told-requires-clause-watched : goal.take_turn-told-requires-clause-watched
+take_turn-told-requires-clause-watched g c = at_watched _ _ _ _ _ _ c.requires.at
+
+pub pump-requires : goal.pump-requires
+pump-requires g c = record {
+  at = at_same _ _ _ _ _ _ _ c.pass.ensures.bot
+      (at_stepped _ _ _ _ _ _ _ _ c.requires.at c.take_turn-told.ensures.follows c.take_turn-told.ensures.watched);
+}
 
 pub returns : goal.returns
 returns g c = record {
@@ -25,4 +35,5 @@ returns g c = record {
     turn = c.take_turn-told.ensures.turn;
     rest = goes_on_from _ _ _ _ _ _ _ _ _ _ c.pass.ensures.bot c.pass.ensures.held c.in_ok-pump.ensures.goes_on c.in_ok-compact_if_due.ensures.goes_on;
   };
+  at = c.in_ok-compact_if_due.ensures.at;
 }

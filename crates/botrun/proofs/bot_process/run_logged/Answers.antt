@@ -1,0 +1,38 @@
+use Rattle.std.proofs.Common.{refl}
+use Rattle.watching.proofs.FollowingLemmas.{numbers_first, lawful_first, allows_begin, at_begun, at_watched, at_stepped, may_forget, forgets_lawful, numbers_again}
+use Rattle.botrun.specs.Watched.{station_of}
+use Rattle.botrun.proofs.bot_process.run_logged.Goals as goal
+
+pub loop-life-init : goal.loop-life-init
+loop-life-init g c = record {
+  lawful = lawful_first g.P.Promise.promised c.args.store.now (station_of c.args.settings.now) _ c.requires.unwatched;
+  numbers = numbers_first _ 0 c.requires.unwatched refl;
+}
+
+pub begin-requires-clause-lets : goal.begin-requires-clause-lets
+begin-requires-clause-lets g c =
+    allows_begin g.P.Promise.promised c.args.store.now (station_of c.args.settings.now) g.W.Watcher.may _ c.requires.allows c.loop-life.invariant.lawful
+
+pub bind_all-requires : goal.bind_all-requires
+bind_all-requires g c = record {
+  at = at_begun g.P.Promise.promised c.args.store.now (station_of c.args.settings.now) g.W.Watcher.may _ _ _ c.requires.allows
+      c.loop-life.invariant.lawful c.in_ok-process.ensures.begun;
+}
+
+pub look_back-requires : goal.look_back-requires
+look_back-requires g c = record { watched = at_watched _ _ _ _ _ _ c.in_ok-bind_all.ensures.at }
+
+pub make_turns-requires : goal.make_turns-requires
+make_turns-requires g c = record {
+  at = at_stepped _ _ _ _ _ _ _ _ c.in_ok-bind_all.ensures.at c.look_back.ensures.follows c.look_back.ensures.watched;
+}
+
+pub give_up-requires-clause-allowed : goal.give_up-requires-clause-allowed
+give_up-requires-clause-allowed g c =
+    may_forget _ _ _ _ _ _ c.in_ok-above.ensures.at (rw c.in-Some.is at c.in_ok-above.ensures.again)
+
+pub loop-life-preserved : goal.loop-life-preserved
+loop-life-preserved g c = record {
+  lawful = forgets_lawful _ _ _ _ _ _ _ c.in_ok-above.ensures.at (rw c.in-Some.is at c.in_ok-above.ensures.again) c.give_up.ensures.past;
+  numbers = numbers_again _ _ _ _ c.give_up.ensures.past;
+}

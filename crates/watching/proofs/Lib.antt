@@ -1,0 +1,4 @@
+pub mod FollowingLemmas
+pub mod OpeningLemmas
+pub mod StepLemmas
+mod Walks

@@ -1,0 +1,53 @@
+// Who is told what a process does with its bot.
+ghost use Rattle.std.specs.Prelude.{◌≡◌, ◌∷◌, List};
+ghost use Rattle.botcore.specs.declared.event.BotEvent.TheVariants.{Line as line_event};
+ghost use Rattle.watching.specs.Acts.{Act, Opens, Creates, Began, Told, Made, Forgets};
+
+use botcore::{Bot, BotEvent, Report};
+use disks::Disk;
+use ircline::Line;
+
+/// Is told what a process does with its bot.
+pub trait Watcher {
+    /// What the watcher was told, the newest act first.
+    ghost past: { Self → List Act };
+
+    /// Which acts the watcher allows after a past.
+    ghost may: { List Act → Act → Type 0 };
+
+    /// The process is about to open its bot from the disks `first` and `second`.
+    fn opens<D: Disk>(&mut self, first: &D, second: &D)
+        requires { may (past self.old) (Opens (D.state first.now).seen (D.state second.now).seen) }
+        ensures { past self.new ≡ Opens (D.state first.now).seen (D.state second.now).seen ∷ past self.old };
+
+    /// The process is about to create its bot on the disks `first` and `second`. If the bot is a leaf, its requests are
+    /// numbered above `last`.
+    fn creates<D: Disk>(&mut self, first: &D, second: &D, last: u32)
+        requires { may (past self.old) (Creates (D.state first.now).seen (D.state second.now).seen last) }
+        ensures { past self.new ≡ Creates (D.state first.now).seen (D.state second.now).seen last ∷ past self.old };
+
+    /// The process has opened or created its bot, which is `bot`.
+    fn began<D: Disk>(&mut self, bot: &Bot<D>)
+        requires { may (past self.old) (Began bot.now) }
+        ensures { past self.new ≡ Began bot.now ∷ past self.old };
+
+    /// `bot` is about to make a step of `event`.
+    fn tells<D: Disk>(&mut self, bot: &Bot<D>, event: &BotEvent)
+        requires { may (past self.old) (Told bot.now event.now) }
+        ensures { past self.new ≡ Told bot.now event.now ∷ past self.old };
+
+    /// `bot` is about to make the step of `line`, which stays the caller's.
+    fn tells_line<D: Disk>(&mut self, bot: &Bot<D>, line: &Line)
+        requires { may (past self.old) (Told bot.now (line_event line.now)) }
+        ensures { past self.new ≡ Told bot.now (line_event line.now) ∷ past self.old };
+
+    /// The bot has made its step. It reported `report`, and is now `bot`.
+    fn made<D: Disk>(&mut self, report: &Report, bot: &Bot<D>)
+        requires { may (past self.old) (Made report.now bot.now) }
+        ensures { past self.new ≡ Made report.now bot.now ∷ past self.old };
+
+    /// The process is about to forget the journal of `bot`, to begin again without it.
+    fn forgets<D: Disk>(&mut self, bot: &Bot<D>)
+        requires { may (past self.old) (Forgets bot.now) }
+        ensures { past self.new ≡ Forgets bot.now ∷ past self.old };
+}
