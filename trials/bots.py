@@ -388,6 +388,15 @@ def records_at(version):
     return f"0 version {version} users {len(users)} bans 0\n" + "".join(users)
 
 
+def arrivals(door):
+    """The connections that come to a door, until it is closed."""
+    while True:
+        try:
+            yield door.accept()[0]
+        except OSError:
+            return
+
+
 def shut(*those):
     """Ends connections, also of sockets that are closed already."""
     for it in those:

@@ -20,7 +20,7 @@ import time
 from pathlib import Path
 
 sys.dont_write_bytecode = True
-from bots import Bot, Nowhere, Tally, comes, counts_of, end_all, free_port, program_of, shut
+from bots import Bot, Nowhere, Tally, arrivals, comes, counts_of, end_all, free_port, program_of, shut
 from nets import SECRET
 
 WAIT = 0.03  # seconds each way
@@ -35,11 +35,7 @@ class Far:
         threading.Thread(target=self.run, daemon=True).start()
 
     def run(self):
-        while True:
-            try:
-                leaf, _ = self.door.accept()
-            except OSError:
-                return
+        for leaf in arrivals(self.door):
             time.sleep(2 * WAIT)
             try:
                 hub = socket.create_connection(("127.0.0.1", self.there), 10, source_address=("127.0.77.1", 0))

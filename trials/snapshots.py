@@ -17,7 +17,7 @@ import time
 from pathlib import Path
 
 sys.dont_write_bytecode = True
-from bots import Bot, Nowhere, Tally, comes, end_all, free_port, program_of, shut
+from bots import Bot, Nowhere, Tally, arrivals, comes, end_all, free_port, program_of, shut
 from nets import SECRET, Operator, records_of, version_of
 
 USERS, MASKS = 500, 16
@@ -34,11 +34,7 @@ class Narrow:
         threading.Thread(target=self.run, daemon=True).start()
 
     def run(self):
-        while True:
-            try:
-                leaf, _ = self.door.accept()
-            except OSError:
-                return
+        for leaf in arrivals(self.door):
             hub = socket.socket()
             hub.setsockopt(socket.SOL_SOCKET, socket.SO_RCVBUF, 4096)
             try:
