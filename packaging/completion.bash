@@ -14,7 +14,7 @@ _eggnet() {
   tell:3)
     mapfile -t COMPREPLY < <(compgen -W "@WORDS@" -- "$word")
     ;;
-  run:2 | check:2 | replay:2 | picture:2)
+  run:2 | check:2 | doctor:2 | replay:2 | picture:2)
     compopt -o filenames 2>/dev/null
     mapfile -t COMPREPLY < <(compgen -f -- "$word")
     ;;

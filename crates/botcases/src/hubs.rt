@@ -90,6 +90,7 @@ impl Seat {
         };
         let mut watcher = NoWatcher::new();
         watcher.began(&self.hub);
+        watcher.note_heard(&heard.packets);
         let told = take_turn(
             alloc,
             &mut self.hub,

@@ -1,5 +1,7 @@
 -- A turn in which changes are asked for, and turns one after another.
-use Rattle.std.proofs.Common.{◌≡◌, ℕ, zero, suc, Bool, not, List, Option, refl, sym, subst}
+use Rattle.std.proofs.Common.{◌≡◌, ℕ, zero, suc, Bool, true, false, not, List, Option, refl, sym, subst}
+use Rattle.std.specs.List.{AllByRecursion}
+use Rattle.sharewire.specs.declared.packet.Packet.{Packet}
 use Rattle.userfile.specs.declared.change.Change.{Change}
 use Rattle.procs.specs.Promises.{Promised}
 use Rattle.botcore.specs.Bots.{Bot}
@@ -10,7 +12,7 @@ use Rattle.net.specs.Connections.{Talk}
 use Rattle.botrun.specs.declared.outcome.Outcome.{Outcome}
 use Rattle.botrun.specs.Outcomes.{outcome_of}
 use Rattle.botrun.specs.Passing.{told_of}
-use Rattle.botrun.specs.Taking.{GoesOn, HearsNothing, TakesChanges, TakesQuietTurn, TakesQuietTurns}
+use Rattle.botrun.specs.Taking.{admitted, GoesOn, HearsNothing, TakesChanges, TakesQuietTurn, TakesQuietTurns}
 
 -- ---- turns in which nothing is heard
 
@@ -82,3 +84,15 @@ pub quiet_turn : (promised : Promised) (names : List (List ℕ)) (old : Bot) (he
     → TakesChanges promised names old held changes compacts new after outcome talk new_talk → TakesQuietTurn promised names old held new after
 quiet_turn promised names old held changes compacts new after outcome talk new_talk taken =
     record { heard = taken.heard; told = taken.takes.told; quiet = taken.quiet; turn = taken.takes.turn }
+
+-- ---- the packets of a turn
+
+-- what is true of all packets that wait is true of those that a turn takes
+pub all_admitted : (Holds : Packet → Type 0) (has_room : Bool) (waiting packets : List Packet) → packets ≡ admitted has_room waiting
+    → AllByRecursion Holds waiting → AllByRecursion Holds packets
+all_admitted Holds has_room waiting packets is all =
+    subst (λ (p : List Packet). AllByRecursion Holds p) (sym is) (by has_room)
+  where
+    by : (room : Bool) → AllByRecursion Holds (admitted room waiting)
+    by true = all
+    by false = tt

@@ -273,7 +273,7 @@ impl Admins {
     }
 
     // Offers each admin its unsent bytes, and drops the connections that are over. Returns whether an admin took
-    // a byte.
+    // a byte, or a place is free for somebody who may wait at the door.
     pub(crate) fn send(&mut self) -> bool {
         let mut moved = false;
         for seat in self.seats.iter_mut() {
@@ -281,8 +281,9 @@ impl Admins {
                 moved = true;
             }
         }
+        let seated = self.seats.len();
         self.seats.retain(|seat| !seat.connection.is_over);
-        moved
+        moved || (self.may_come && self.seats.len() < seated)
     }
 }
 

@@ -216,6 +216,7 @@ where
     ensures begun { IfOk result (λ process.
         HasBegun (station_of settings.now) (W.past watcher.old) (W.past watcher.new) process.bot) }
 {
+    let uplink = IrcConnection::new(rt.alloc(), settings)?;
     let bot = bot_of(rt, &folder, settings, last, watcher)?;
     let links = links_of(
         rt,
@@ -232,7 +233,7 @@ where
         folder,
         bot,
         lines: LineReader::new(rt.alloc()),
-        uplink: IrcConnection::new(rt.alloc(), settings)?,
+        uplink,
         admins,
         others: Others::new(rt.alloc(), links),
         bases,

@@ -11,14 +11,14 @@ use crate::checking::{new_bind, old_bind};
 use crate::ending::RunError;
 use crate::outcome::Outcome;
 use crate::process::Process;
-use crate::status::status_of;
-use botcore::BotEvent;
+use botcore::{Bot, BotEvent};
 use bytetext::{NoMemory, Text};
 use control::UnbindWords;
+use disks::FileDisk;
 use net::Log;
 use procs::{ProcStore, Promise, Run};
 use recordtext::put_records;
-use serverlink::{MAX_LINE, Why};
+use serverlink::{IrcConnection, MAX_LINE, Why};
 use settings::{BindWords, Settings};
 use std::alloc::Global;
 use turns::watched_step;
@@ -68,141 +68,140 @@ impl Process {
             outcome => Ok(of_change(rt.alloc(), outcome)?),
         }
     }
+}
 
-    // Returns the version and the records, as a transcript has them.
-    pub(crate) fn show(&self, alloc: Global, settings: &Settings) -> Result<Vec<u8>, RunError> {
-        let mut text = Vec::new(alloc);
-        let version = Some(self.bot.version());
-        put_records(
+// Returns the version and the records of `bot`, as a transcript has them.
+pub(crate) fn show(
+    alloc: Global,
+    bot: &Bot<FileDisk>,
+    settings: &Settings,
+) -> Result<Vec<u8>, RunError> {
+    let mut text = Vec::new(alloc);
+    let version = Some(bot.version());
+    put_records(
+        alloc,
+        &mut text,
+        settings.station.number,
+        version,
+        Some(bot.userfile()),
+    )?;
+    Ok(text)
+}
+
+// Makes a bind of `bot`, which lasts until the bot ends.
+#[tactic(auto, using(watching::proofs::FollowingLemmas::follows_same))]
+pub(crate) fn bind<P: Promise, B: Run, W: Watcher>(
+    alloc: Global,
+    bot: &mut Bot<FileDisk>,
+    store: &ProcStore<P, B>,
+    words: &BindWords,
+    watcher: &mut W,
+) -> Result<Vec<u8>, RunError>
+    requires watched { IsWatched P.promised store.now W.may (W.past watcher.old) bot.old }
+    ensures follows { Follows (MayStep P.promised store.now) (W.past watcher.old) (W.past watcher.new) }
+    ensures watched { IsWatched P.promised store.now W.may (W.past watcher.new) bot.new }
+{
+    match new_bind(alloc, store, words) {
+        Ok(asked) => step_bind(alloc, bot, store, BotEvent::Bind(asked), watcher),
+        Err(why) => Ok(of_no_bind(alloc, why)?),
+    }
+}
+
+// Removes a bind of `bot`.
+#[tactic(auto, using(watching::proofs::FollowingLemmas::follows_same))]
+pub(crate) fn unbind<P: Promise, B: Run, W: Watcher>(
+    alloc: Global,
+    bot: &mut Bot<FileDisk>,
+    store: &ProcStore<P, B>,
+    words: UnbindWords,
+    watcher: &mut W,
+) -> Result<Vec<u8>, RunError>
+    requires watched { IsWatched P.promised store.now W.may (W.past watcher.old) bot.old }
+    ensures follows { Follows (MayStep P.promised store.now) (W.past watcher.old) (W.past watcher.new) }
+    ensures watched { IsWatched P.promised store.now W.may (W.past watcher.new) bot.new }
+{
+    match old_bind(words) {
+        Ok(gone) => step_bind(alloc, bot, store, BotEvent::Unbind(gone), watcher),
+        Err(why) => Ok(of_no_bind(alloc, why)?),
+    }
+}
+
+fn step_bind<P: Promise, B: Run, W: Watcher>(
+    alloc: Global,
+    bot: &mut Bot<FileDisk>,
+    store: &ProcStore<P, B>,
+    event: BotEvent,
+    watcher: &mut W,
+) -> Result<Vec<u8>, RunError>
+    requires good { IsGoodEvent event }
+    requires takes { MayTake (W.past watcher.old) event }
+    requires watched { IsWatched P.promised store.now W.may (W.past watcher.old) bot.old }
+    ensures follows { Follows (MayStep P.promised store.now) (W.past watcher.old) (W.past watcher.new) }
+    ensures watched { IsWatched P.promised store.now W.may (W.past watcher.new) bot.new }
+{
+    let report = watched_step(alloc, bot, store, event, watcher);
+    Ok(of_bind(alloc, &report)?)
+}
+
+// Queues a line for the server, after the lines before it.
+pub(crate) fn say(
+    alloc: Global,
+    uplink: &mut IrcConnection,
+    line: Text,
+) -> Result<Vec<u8>, RunError> {
+    if uplink.session().is_none() {
+        return Ok(Vec::from_slice(
             alloc,
-            &mut text,
-            settings.station.number,
-            version,
-            Some(self.bot.userfile()),
-        )?;
-        Ok(text)
+            b"refused no server: wait until the bot is connected\n",
+        )?);
     }
+    if !uplink.own.has_room() {
+        return Ok(Vec::from_slice(alloc, b"refused 64 lines wait: say it later\n")?);
+    }
+    uplink.own.put(line)?;
+    Ok(Vec::from_slice(alloc, b"said\n")?)
+}
 
-    // Returns the bot's state.
-    pub(crate) fn status(&self, alloc: Global, settings: &Settings) -> Result<Vec<u8>, RunError> {
-        Ok(status_of(alloc, self, settings)?)
+// Disconnects from this server. The next one is tried after a wait.
+pub(crate) fn jump<R: AllocGlobal>(
+    rt: &R,
+    log: &mut Log,
+    uplink: &mut IrcConnection,
+    settings: &Settings,
+    now: u64,
+) -> Result<Vec<u8>, RunError>
+    requires moment { now < MOMENTS_END }
+{
+    if uplink.session().is_none() {
+        return Ok(Vec::from_slice(
+            rt.alloc(),
+            b"refused no server: the next is tried in time\n",
+        )?);
     }
+    uplink.tell(log, settings, b"QUIT :changing servers", now)?;
+    let _sent = uplink.send();
+    uplink.lose(log, Why::Jump, now);
+    Ok(Vec::from_slice(rt.alloc(), b"jumping\n")?)
+}
 
-    // Makes a bind, which lasts until the bot ends.
-    #[tactic(auto, using(watching::proofs::FollowingLemmas::follows_same))]
-    pub(crate) fn bind<P: Promise, B: Run, W: Watcher>(
-        &mut self,
-        alloc: Global,
-        store: &ProcStore<P, B>,
-        words: &BindWords,
-        watcher: &mut W,
-    ) -> Result<Vec<u8>, RunError>
-        requires watched { IsWatched P.promised store.now W.may (W.past watcher.old) self.old.bot }
-        ensures follows { Follows (MayStep P.promised store.now) (W.past watcher.old) (W.past watcher.new) }
-        ensures watched { IsWatched P.promised store.now W.may (W.past watcher.new) self.new.bot }
-    {
-        match new_bind(alloc, store, words) {
-            Ok(asked) => self.step_bind(alloc, store, BotEvent::Bind(asked), watcher),
-            Err(why) => Ok(of_no_bind(alloc, why)?),
-        }
+// Queues a QUIT for the server, and marks the process to end: `until` is the second until which it waits for what is still
+// unsent.
+pub(crate) fn die<R: AllocGlobal>(
+    rt: &R,
+    log: &mut Log,
+    uplink: &mut IrcConnection,
+    until: &mut Option<u64>,
+    settings: &Settings,
+    text: &Text,
+    now: u64,
+) -> Result<Vec<u8>, RunError> {
+    let line = quit_line(rt.alloc(), text.as_bytes())?;
+    uplink.own.clear();
+    uplink.tell(log, settings, line.as_slice(), now)?;
+    if until.is_none() {
+        *until = Some(now.saturating_add(LAST_SECONDS));
     }
-
-    // Removes a bind.
-    #[tactic(auto, using(watching::proofs::FollowingLemmas::follows_same))]
-    pub(crate) fn unbind<P: Promise, B: Run, W: Watcher>(
-        &mut self,
-        alloc: Global,
-        store: &ProcStore<P, B>,
-        words: UnbindWords,
-        watcher: &mut W,
-    ) -> Result<Vec<u8>, RunError>
-        requires watched { IsWatched P.promised store.now W.may (W.past watcher.old) self.old.bot }
-        ensures follows { Follows (MayStep P.promised store.now) (W.past watcher.old) (W.past watcher.new) }
-        ensures watched { IsWatched P.promised store.now W.may (W.past watcher.new) self.new.bot }
-    {
-        match old_bind(words) {
-            Ok(gone) => self.step_bind(alloc, store, BotEvent::Unbind(gone), watcher),
-            Err(why) => Ok(of_no_bind(alloc, why)?),
-        }
-    }
-
-    fn step_bind<P: Promise, B: Run, W: Watcher>(
-        &mut self,
-        alloc: Global,
-        store: &ProcStore<P, B>,
-        event: BotEvent,
-        watcher: &mut W,
-    ) -> Result<Vec<u8>, RunError>
-        requires good { IsGoodEvent event }
-        requires no_restart { MayTake event }
-        requires watched { IsWatched P.promised store.now W.may (W.past watcher.old) self.old.bot }
-        ensures follows { Follows (MayStep P.promised store.now) (W.past watcher.old) (W.past watcher.new) }
-        ensures watched { IsWatched P.promised store.now W.may (W.past watcher.new) self.new.bot }
-    {
-        let report = watched_step(alloc, &mut self.bot, store, event, watcher);
-        Ok(of_bind(alloc, &report)?)
-    }
-
-    // Queues a line for the server, after the lines before it.
-    pub(crate) fn say(&mut self, alloc: Global, line: Text) -> Result<Vec<u8>, RunError>
-        ensures bot { self.new.bot ≡ self.old.bot }
-    {
-        if self.uplink.session().is_none() {
-            return Ok(Vec::from_slice(
-                alloc,
-                b"refused no server: wait until the bot is connected\n",
-            )?);
-        }
-        if !self.uplink.own.has_room() {
-            return Ok(Vec::from_slice(alloc, b"refused 64 lines wait: say it later\n")?);
-        }
-        self.uplink.own.put(line)?;
-        Ok(Vec::from_slice(alloc, b"said\n")?)
-    }
-
-    // Disconnects from this server. The next one is tried after a wait.
-    pub(crate) fn jump<R: AllocGlobal>(
-        &mut self,
-        rt: &R,
-        log: &mut Log,
-        settings: &Settings,
-        now: u64,
-    ) -> Result<Vec<u8>, RunError>
-        requires moment { now < MOMENTS_END }
-        ensures bot { self.new.bot ≡ self.old.bot }
-    {
-        if self.uplink.session().is_none() {
-            return Ok(Vec::from_slice(
-                rt.alloc(),
-                b"refused no server: the next is tried in time\n",
-            )?);
-        }
-        self.uplink
-            .tell(log, settings, b"QUIT :changing servers", now)?;
-        let _sent = self.uplink.send();
-        self.uplink.lose(log, Why::Jump, now);
-        Ok(Vec::from_slice(rt.alloc(), b"jumping\n")?)
-    }
-
-    // Marks the process to end, and queues a QUIT for the server.
-    pub(crate) fn die<R: AllocGlobal>(
-        &mut self,
-        rt: &R,
-        log: &mut Log,
-        settings: &Settings,
-        text: &Text,
-        now: u64,
-    ) -> Result<Vec<u8>, RunError>
-        ensures bot { self.new.bot ≡ self.old.bot }
-    {
-        let line = quit_line(rt.alloc(), text.as_bytes())?;
-        self.uplink.own.clear();
-        self.uplink.tell(log, settings, line.as_slice(), now)?;
-        if self.until.is_none() {
-            self.until = Some(now.saturating_add(LAST_SECONDS));
-        }
-        Ok(Vec::from_slice(rt.alloc(), b"ending\n")?)
-    }
+    Ok(Vec::from_slice(rt.alloc(), b"ending\n")?)
 }
 
 // QUIT and a text, truncated to the length of a line.

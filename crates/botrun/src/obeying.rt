@@ -5,9 +5,12 @@ ghost use Rattle.watching.specs.Following.{IsAt};
 ghost use Rattle.botrun.specs.Watched.{station_of};
 
 use crate::answers::of_advice;
+use crate::deeds::{bind, die, jump, say, show, unbind};
 use crate::ending::RunError;
 use crate::entry::Entry;
+use crate::keeping::{renew, trust};
 use crate::process::Process;
+use crate::status::status_of;
 use bytetext::Failure;
 use control::AdminCommand;
 use net::Log;
@@ -116,16 +119,22 @@ impl Process {
             AdminCommand::Change(change) => {
                 self.change(rt, log, store, settings, change, now, watcher)
             }
-            AdminCommand::Show => self.show(alloc, settings),
-            AdminCommand::Status => self.status(alloc, settings),
-            AdminCommand::Bind(words) => self.bind(alloc, store, &words, watcher),
-            AdminCommand::Unbind(words) => self.unbind(alloc, store, words, watcher),
-            AdminCommand::Say(line) => self.say(alloc, line),
+            AdminCommand::Show => show(alloc, &self.bot, settings),
+            AdminCommand::Status => Ok(status_of(alloc, self, settings)?),
+            AdminCommand::Bind(words) => bind(alloc, &mut self.bot, store, &words, watcher),
+            AdminCommand::Unbind(words) => unbind(alloc, &mut self.bot, store, words, watcher),
+            AdminCommand::Say(line) => say(alloc, &mut self.uplink, line),
             AdminCommand::Compact => self.compact_now(rt, log, store, settings, now, watcher),
-            AdminCommand::Jump => self.jump(rt, log, settings, now),
-            AdminCommand::Renew(leaf) => self.renew(rt, log, settings, leaf, now),
-            AdminCommand::Trust => self.trust(rt, settings),
-            AdminCommand::Die(text) => self.die(rt, log, settings, &text, now),
+            AdminCommand::Jump => jump(rt, log, &mut self.uplink, settings, now),
+            AdminCommand::Renew(leaf) => {
+                let links = &mut self.others.links;
+                renew(rt, log, &self.folder, links, settings, leaf, now)
+            }
+            AdminCommand::Trust => trust(rt, &self.folder, &mut self.others.links, settings),
+            AdminCommand::Die(text) => {
+                let until = &mut self.until;
+                die(rt, log, &mut self.uplink, until, settings, &text, now)
+            }
         }
     }
 }

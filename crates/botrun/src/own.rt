@@ -2,40 +2,39 @@
 ghost use Rattle.std.specs.Prelude.{◌≡◌, IfOk};
 ghost use Rattle.botrun.specs.Owns.{held_of, last_replies, lasts_of};
 
-use crate::process::Process;
+use crate::kept_sum::KeptSum;
 use botcore::Bot;
 use bytetext::NoMemory;
 use disks::FileDisk;
-use peers::{HeldParts, Own};
+use peers::{HeldParts, Links, Own};
 use std::alloc::Global;
 
-impl Process {
-    // If the connections have something to tell about the bot in this turn, lets them know what. A bot's version changes
-    // only in the steps after that.
-    pub(crate) fn tell_own(&mut self, alloc: Global) -> Result<(), NoMemory>
-        ensures bot { self.new.bot ≡ self.old.bot }
-    {
-        if self.others.links.wants_own() {
-            let own = self.own(alloc)?;
-            self.others.links.tell_own(own);
-        }
-        Ok(())
+// If the connections have something to tell about the bot in this turn, lets them know what. A bot's version changes
+// only in the steps after that.
+pub(crate) fn tell_own(
+    alloc: Global,
+    bot: &Bot<FileDisk>,
+    kept_sum: &mut KeptSum,
+    links: &mut Links,
+) -> Result<(), NoMemory> {
+    if links.wants_own() {
+        let own = own_of(alloc, bot, kept_sum)?;
+        links.tell_own(own);
     }
+    Ok(())
+}
 
-    // What the bot is at now.
-    fn own(&mut self, alloc: Global) -> Result<Own, NoMemory>
-        ensures bot { self.new.bot ≡ self.old.bot }
-    {
-        let version = self.bot.version();
-        let sum = self.kept_sum.at(alloc, version, self.bot.userfile())?;
-        let lasts = lasts_of(alloc, &self.bot)?;
-        Ok(Own {
-            version,
-            sum,
-            lasts,
-            held: held_of(&self.bot),
-        })
-    }
+// What the bot is at now.
+fn own_of(alloc: Global, bot: &Bot<FileDisk>, kept_sum: &mut KeptSum) -> Result<Own, NoMemory> {
+    let version = bot.version();
+    let sum = kept_sum.at(alloc, version, bot.userfile())?;
+    let lasts = lasts_of(alloc, bot)?;
+    Ok(Own {
+        version,
+        sum,
+        lasts,
+        held: held_of(bot),
+    })
 }
 
 // At a hub, the number of the last request that it replied to, of each leaf at the place of its number; at a leaf, the

@@ -8,17 +8,20 @@ ghost use Rattle.botrun.specs.Watched.{station_of};
 use crate::admins::Admins;
 use crate::bases::Bases;
 use crate::ending::RunError;
+use crate::keeping::{enter_new_leaves, keep_new_doubt, keep_new_net};
 use crate::kept_sum::KeptSum;
 use crate::others::Others;
+use crate::own::tell_own;
 use crate::seconds::Seconds;
 use crate::space::Space;
-use crate::sums::Sums;
+use crate::sums::{Sums, tell_sum};
 use botcore::Bot;
 use botfolder::BotFolder;
 use bytetext::NoMemory;
 use disks::FileDisk;
 use ircline::LineReader;
 use net::{Log, Registry, Watch};
+use peers::Links;
 use procs::{ProcStore, Promise, Run};
 use serverlink::IrcConnection;
 use settings::Settings;
@@ -78,7 +81,7 @@ pub(crate) enum Turned {
     //
     // - It reads the server and the other bots until a read would block. It reads admins so too, unless they have
     //   first to take answers; an event announces that they do.
-    // - It polls the door until nobody waits or no place is left, and again at the next second.
+    // - It polls the door until nobody waits or no place is left, again once a place is free, and at the next second.
     // - It reads the answer to a lookup until a read would block, and looks at the time that it takes at each second.
     // - It offers unsent bytes until all are taken or none is; then an event announces room for more.
     // - A turn is busy if it executed a command, took a packet or began a connection to a server, or if a hello got due
@@ -118,25 +121,30 @@ impl Process {
         let now = seconds.wall;
         self.uplink.wake(watch.tokens(), seconds.steady);
         self.others.links.wake(watch.tokens(), seconds.steady);
-        let connected = self.connect(rt, log, watch.registry(), settings, now)?;
+        let (uplink, links) = (&mut self.uplink, &mut self.others.links);
+        let registry = watch.registry();
+        let connected = connect(rt, log, registry, self.until, uplink, links, settings, now)?;
         let mut is_busy = connected;
         is_busy |= self.uplink.read()?;
         is_busy |= self
             .admins
             .read(rt, log, watch, &self.others.asks, seconds)?;
-        self.tell_own(rt.alloc())?;
+        let links = &mut self.others.links;
+        tell_own(rt.alloc(), &self.bot, &mut self.kept_sum, links)?;
         is_busy |= self.others.links.read(rt, log, now)?;
         if let Some(last) = self.to_begin_after() {
             return Ok(Turned::BeginsAbove(last));
         }
-        self.keep_new_doubt(rt, log, now)?;
-        self.keep_new_net(rt, log, now)?;
-        self.enter_new_leaves(rt, log, now)?;
+        let links = &mut self.others.links;
+        keep_new_doubt(rt, log, &self.folder, &mut self.space, links, now)?;
+        keep_new_net(rt, log, &self.folder, &mut self.space, links, now)?;
+        enter_new_leaves(rt, log, &self.folder, &self.space, links, now)?;
         is_busy |= self.hear(rt, log, store, settings, connected, now, watcher)?;
         is_busy |= self.obey_all(rt, log, store, settings, now, watcher)?;
         is_busy |= self.send(rt, log, settings, now)?;
         let has_ended = self.has_ended(now);
-        self.tell_sum(rt, log, has_ended, now)?;
+        let (kept, sums) = (&mut self.kept_sum, &mut self.sums);
+        tell_sum(rt, log, &self.bot, kept, sums, has_ended, now)?;
         if has_ended {
             return Ok(Turned::Ended);
         }
@@ -152,26 +160,6 @@ impl Process {
             return None;
         }
         self.others.links.to_begin_after()
-    }
-
-    // Unless the process is to end, connects what is lost and due, and accepts other bots. Returns whether a connection
-    // to a server began.
-    fn connect<R: AllocGlobal + Net + Files<File = File> + RandomSource>(
-        &mut self,
-        rt: &R,
-        log: &mut Log,
-        registry: &Registry,
-        settings: &Settings,
-        now: u64,
-    ) -> Result<bool, NoMemory>
-        requires moment { now < MOMENTS_END }
-        ensures bot { self.new.bot ≡ self.old.bot }
-    {
-        if self.until.is_some() {
-            return Ok(false);
-        }
-        let _linking = self.others.links.connect(rt, log, registry, settings, now)?;
-        self.uplink.connect(rt, log, registry, settings, now)
     }
 
     // Keeps up the connection to the server, offers each connection its unsent bytes, and closes the connections that
@@ -236,4 +224,25 @@ impl Process {
             None => false,
         }
     }
+}
+
+// Unless the process is to end, connects what is lost and due, and accepts other bots. Returns whether a connection to a
+// server began.
+fn connect<R: AllocGlobal + Net + Files<File = File> + RandomSource>(
+    rt: &R,
+    log: &mut Log,
+    registry: &Registry,
+    until: Option<u64>,
+    uplink: &mut IrcConnection,
+    links: &mut Links,
+    settings: &Settings,
+    now: u64,
+) -> Result<bool, NoMemory>
+    requires moment { now < MOMENTS_END }
+{
+    if until.is_some() {
+        return Ok(false);
+    }
+    let _linking = links.connect(rt, log, registry, settings, now)?;
+    uplink.connect(rt, log, registry, settings, now)
 }

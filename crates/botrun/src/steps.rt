@@ -22,7 +22,7 @@ use procs::{ProcStore, Promise, Run};
 use settings::Settings;
 use sharelink::MAX_ASKS;
 use std::alloc::Global;
-use turns::{Heard, Told, TurnEnd, take_turn};
+use turns::{Heard, Told, TurnEnd, take_turn, watched_packets};
 use userfile::Change;
 use watching::Watcher;
 
@@ -54,7 +54,7 @@ impl Process {
     {
         let alloc = rt.alloc();
         let bytes = self.uplink.take_heard(alloc);
-        let waiting = self.others.links.take_packets(alloc)?;
+        let waiting = watched_packets(alloc, &self.bot, store, &mut self.others, watcher)?;
         let said = !waiting.is_empty();
         let packets = self.space.admit(alloc, waiting);
         let pumps = self.others.is_pump_due(now);

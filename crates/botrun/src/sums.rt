@@ -3,8 +3,10 @@ ghost use Rattle.std.specs.Prelude.{◌≡◌};
 ghost use Rattle.botrun.specs.Sums.{is_due, told_at, untold};
 
 use crate::entry::Entry;
-use crate::process::Process;
+use crate::kept_sum::KeptSum;
+use botcore::Bot;
 use bytetext::NoMemory;
+use disks::FileDisk;
 use net::Log;
 
 // At least this many seconds pass between two of these lines, except at the bot's end, so that their cost is bounded.
@@ -49,23 +51,21 @@ impl Sums {
     }
 }
 
-impl Process {
-    // Logs the sum of the bot's records if that is due at second `now`. `is_last` says whether the bot ends.
-    pub(crate) fn tell_sum<R: AllocGlobal>(
-        &mut self,
-        rt: &R,
-        log: &mut Log,
-        is_last: bool,
-        now: u64,
-    ) -> Result<(), NoMemory>
-        ensures bot { self.new.bot ≡ self.old.bot }
-    {
-        let version = self.bot.version();
-        if self.sums.is_due(version, is_last, now) {
-            let sum = self.kept_sum.at(rt.alloc(), version, self.bot.userfile())?;
-            log.note(now, &Entry::Records(version, &sum));
-            self.sums.tell(version, now);
-        }
-        Ok(())
+// Logs the sum of the records of `bot` if that is due at second `now`. `is_last` says whether the bot ends.
+pub(crate) fn tell_sum<R: AllocGlobal>(
+    rt: &R,
+    log: &mut Log,
+    bot: &Bot<FileDisk>,
+    kept_sum: &mut KeptSum,
+    sums: &mut Sums,
+    is_last: bool,
+    now: u64,
+) -> Result<(), NoMemory> {
+    let version = bot.version();
+    if sums.is_due(version, is_last, now) {
+        let sum = kept_sum.at(rt.alloc(), version, bot.userfile())?;
+        log.note(now, &Entry::Records(version, &sum));
+        sums.tell(version, now);
     }
+    Ok(())
 }

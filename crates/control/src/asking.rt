@@ -4,9 +4,11 @@ use crate::answer::body_of;
 use crate::fault::{AskError, AskFault, command_error, machine_error, socket_error};
 use botfolder::{FolderFault, MAX_PATH, control_of};
 use bytetext::Failure;
-use net::{Bounds, Connection, UnixSocket, Watch};
+use net::{Bounds, Connection, Registry, UnixSocket, Watch};
+use std::io::ErrorKind;
 use std::net::Net;
-use std::time::Clock;
+use std::time::{Clock, Duration};
+use std::{io, thread};
 
 /// How many seconds a bot may say nothing before [`ask`] gives up.
 pub const PATIENCE: u64 = 60;
@@ -25,6 +27,11 @@ const BOUNDS: Bounds = Bounds {
 
 // The token of the only connection.
 const TOKEN: usize = 0;
+
+// A bot at whose socket too many wait is tried so often, with so many milliseconds between two tries: 5 seconds in all.
+const TRIES: u32 = 250;
+
+const PAUSE: u64 = 20;
 
 /// Sends the command `line` to the bot that runs on `folder`, and returns the lines of its answer, without the full
 /// stop after them. After `die` it returns only once the bot has disconnected, so a caller that waits for this call
@@ -51,12 +58,7 @@ pub fn ask<R: AllocGlobal + Net + Clock>(
         Ok(watch) => watch,
         Err(error) => return Err(machine_error(&error)),
     };
-    let mut connection = match UnixSocket::connect_path(
-        rt,
-        watch.registry(),
-        TOKEN,
-        path.as_str(),
-    ) {
+    let mut connection = match connect(rt, watch.registry(), path.as_str()) {
         Ok(socket) => Connection::new(rt.alloc(), socket, BOUNDS),
         Err(error) => return Err(socket_error(&error)),
     };
@@ -66,6 +68,19 @@ pub fn ask<R: AllocGlobal + Net + Clock>(
         Some(body) => Ok(Vec::from_slice(rt.alloc(), body)?),
         None => Err(Failure::Refused(AskFault::LetGo)),
     }
+}
+
+// Connects to the bot at `path`. While too many wait there, tries again for five seconds.
+fn connect<R: Net + Clock>(rt: &R, registry: &Registry, path: &str) -> io::Result<UnixSocket> {
+    for _try in 1..TRIES {
+        match UnixSocket::connect_path(rt, registry, TOKEN, path) {
+            Err(error) if error.kind() == ErrorKind::WouldBlock => {
+                thread::sleep(rt, Duration::from_millis(PAUSE));
+            }
+            ended => return ended,
+        }
+    }
+    UnixSocket::connect_path(rt, registry, TOKEN, path)
 }
 
 fn is_die(command: &AdminCommand) -> bool {

@@ -1,9 +1,10 @@
 // The bot of a configuration file.
 use botrun::{RunError, Subject, check, run};
 use bytetext::Failure;
+use doctor::{DoctorFault, examine};
 use eggprocs::Ours;
 use procs::{ProcStore, Run};
-use replaying::{FAULT, STREAM_FAULT, out_of_memory};
+use replaying::{FAULT, STREAM_FAULT, not_written, out_of_memory};
 use settings::{MAX_FILE, Settings};
 use std::fs::File;
 use std::net::Net;
@@ -45,6 +46,26 @@ pub fn check_file<R: Eprint + AllocGlobal + Files<File = File>, B: Run>(
     match check(rt.alloc(), store, &settings) {
         Ok(()) => 0,
         Err(error) => told(rt, file, &settings, error),
+    }
+}
+
+/// Looks at what the bot of the configuration file `file` needs, and prints what to change, with the procs in `store`.
+/// Changes nothing. Returns the exit status: that of [`check_file`] if the file is faulty.
+pub fn doctor_file<
+    R: Print + Eprint + AllocGlobal + Net + Clock + Files<File = File> + RandomSource,
+    B: Run,
+>(rt: &R, store: &ProcStore<Ours, B>, file: &str) -> u8 {
+    let settings = match settings_of(rt, file) {
+        Ok(settings) => settings,
+        Err(status) => return status,
+    };
+    if let Err(error) = check(rt.alloc(), store, &settings) {
+        return told(rt, file, &settings, error);
+    }
+    match examine(rt, file, &settings) {
+        Ok(status) => status,
+        Err(DoctorFault::Write) => not_written(rt),
+        Err(DoctorFault::NoMemory) => out_of_memory(rt),
     }
 }
 

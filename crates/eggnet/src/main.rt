@@ -1,7 +1,8 @@
 //! Bots of IRC that share a userfile: each as a process of its own, and nets of them for trying things out.
 //!
 //! `eggnet run CONFIG` runs the bot of a configuration file, until it is asked to end. `eggnet check CONFIG` reads the
-//! file and ends; it opens nothing else. `eggnet tell FOLDER WORDS..` gives a command to the bot that runs on this
+//! file and ends; it opens nothing else. `eggnet doctor CONFIG` looks at all that the file names, prints a line for each
+//! finding, and changes nothing ([`doctor`]). `eggnet tell FOLDER WORDS..` gives a command to the bot that runs on this
 //! folder, and prints its answer. `eggnet show FOLDER` prints the version and the records of a bot, whether it runs or
 //! not. `eggnet key SECRETFILE N` prints the secret file of leaf N, by the net's secret in SECRETFILE. A leaf that has
 //! this file alone can't speak as another one.
@@ -30,7 +31,7 @@ mod serve;
 mod talk;
 mod words;
 
-use crate::configuration::{check_file, run_file};
+use crate::configuration::{check_file, doctor_file, run_file};
 use crate::leaf_key::print_leaf_key;
 use crate::scripts::live_script;
 use crate::serve::serve_port;
@@ -59,6 +60,7 @@ fn main(rt: HostRuntime) -> ExitCode {
     let status = match &task {
         Task::Run(file) => run_file(&rt, &store, file),
         Task::Check(file) => check_file(&rt, &store, file),
+        Task::Doctor(file) => doctor_file(&rt, &store, file),
         Task::Tell(folder, line) => print_answer(&rt, folder, ask(&rt, folder, line.as_slice())),
         Task::Show(folder) => print_answer(&rt, folder, show(&rt, folder)),
         Task::Key(file, leaf) => print_leaf_key(&rt, file, *leaf),

@@ -24,6 +24,8 @@ pub enum Task<'a> {
     Run(&'a str),
     /// Check this configuration file.
     Check(&'a str),
+    /// Look at what the bot of this configuration file needs.
+    Doctor(&'a str),
     /// Send this line to the bot of this folder.
     Tell(&'a str, Vec<u8>),
     /// Print the version and the records of this folder's bot.
@@ -65,6 +67,7 @@ pub fn task_of<'a>(
     match matches.subcommand() {
         Some(("run", said)) => Ok(Task::Run(said.get_str("CONFIG").unwrap_or(""))),
         Some(("check", said)) => Ok(Task::Check(said.get_str("CONFIG").unwrap_or(""))),
+        Some(("doctor", said)) => Ok(Task::Doctor(said.get_str("CONFIG").unwrap_or(""))),
         Some(("show", said)) => Ok(Task::Show(said.get_str("FOLDER").unwrap_or(""))),
         Some(("tell", said)) => Ok(Task::Tell(
             said.get_str("FOLDER").unwrap_or(""),
@@ -101,6 +104,7 @@ fn command<'a>(alloc: Global, version: &'a str) -> Result<Command<'a>, AllocErro
         .subcommand_required(true)
         .subcommand(run_command(alloc)?)?
         .subcommand(check_command(alloc)?)?
+        .subcommand(doctor_command(alloc)?)?
         .subcommand(tell_command(alloc)?)?
         .subcommand(show_command(alloc)?)?
         .subcommand(key_command(alloc)?)?
@@ -119,6 +123,14 @@ fn run_command<'a>(alloc: Global) -> Result<Command<'a>, AllocError> {
 fn check_command<'a>(alloc: Global) -> Result<Command<'a>, AllocError> {
     Command::new(alloc, "check")
         .about("Read a configuration file and say what is wrong with it; nothing is opened")
+        .arg(config_word(alloc))
+}
+
+fn doctor_command<'a>(alloc: Global) -> Result<Command<'a>, AllocError> {
+    Command::new(alloc, "doctor")
+        .about(
+            "Look at what a configuration file's bot needs and say what to change; nothing is changed",
+        )
         .arg(config_word(alloc))
 }
 

@@ -40,19 +40,19 @@ use Rattle.eggprocs.specs.Bans.{asked_by_ban, asked_by_unban}
 use Rattle.eggprocs.specs.Channel.{put, asked_for_mode, asked_for_newcomer, change_for, asked_by_kick, asked_by_topic, asked_by_invite}
 use Rattle.eggprocs.specs.Everyone.{is_own_join, gives_bot_op, flags_of_member, is_left, mode_for}
 use Rattle.eggprocs.specs.Infos.{info_by, set_by, asked_by_known, greeting}
-use Rattle.eggprocs.specs.Laws.{Lacks, DoesNothing, AsksNoChange, is_ask, is_ask_for_owners, is_own, IsOnlyWithInfo, is_due_to, is_due, GivesWhatIsDue, KeepsChannelsApart}
+use Rattle.eggprocs.specs.Laws.{has_one_of, op_letters, DoesNothing, AsksNoChange, is_ask, is_ask_for_owners, is_own, IsOnlyWithInfo, is_due_to, is_due, GivesWhatIsDue, KeepsChannelsApart}
 use Rattle.eggprocs.specs.Lines.{privmsg, mode, who}
 use Rattle.eggprocs.specs.Marks.{stick, unstick, left_out, told_ban, told_bans, asked_by_bans}
 use Rattle.eggprocs.specs.Outcomes.{mask_added}
 use Rattle.eggprocs.specs.People.{told, warned, for_owners, is_for_owners, asked_unless, asked_by_master, asked_by_command, plus_user, minus_user, plus_host, minus_host, chattr, asked_by_whois}
 use Rattle.eggprocs.specs.Procs.{name_of, actions_by, actions_if, ours}
-use Rattle.eggprocs.specs.Rights.{has_flag, flags_by, is_bot_op, is_from_op, is_from_voice, is_join, is_pub, is_msg, global_by, is_owner, is_master, standing_if, standing_of}
+use Rattle.eggprocs.specs.Rights.{has_flag, has_op, flags_by, is_bot_op, is_from_op, is_from_voice, is_join, is_pub, is_msg, global_by, is_owner, is_master, standing_if, standing_of}
 use Rattle.eggprocs.specs.Whereabouts.{sought, shared, known_text, whereabouts_if}
 use Rattle.eggprocs.proofs.Names.{which_named-name_of}
 
 -- ---- tests
 
-and-false : (a b : Bool) → b ≡ false → (a && b) ≡ false
+pub and-false : (a b : Bool) → b ≡ false → (a && b) ≡ false
 and-false false b e = refl
 and-false true b e = e
 
@@ -65,36 +65,51 @@ same-either true actions = refl
 
 -- ---- rights
 
-pub has_flag-lacks : (letter : ℕ) (call : Call) (seen : Seen) → Lacks letter call seen → has_flag letter (flags_by call seen) ≡ false
-has_flag-lacks letter call seen lacks =
-    or-false (has_letter (flags_by call seen).global letter) (has_letter (flags_by call seen).chan letter) lacks.0 lacks.1
+-- the letters of operators are those that give their rights, and the letters of those whom bans spare likewise
+pub has_one_of-ops : (flags : PersonFlags) → has_one_of op_letters flags ≡ has_op flags
+has_one_of-ops flags = by (has_flag OP flags) (has_flag MASTER flags) (has_flag OWNER flags)
+  where
+    by : (op master owner : Bool) → (op || (master || (owner || false))) ≡ (op || (master || owner))
+    by true master owner = refl
+    by false true owner = refl
+    by false false true = refl
+    by false false false = refl
 
-pub is_from_op-lacks : (call : Call) (seen : Seen) → Lacks OP call seen → is_from_op call seen ≡ false
+-- the same with one letter more
+pub has_one_of-more : (letter : ℕ) (flags : PersonFlags) → has_one_of (OP ∷ MASTER ∷ OWNER ∷ letter ∷ []) flags ≡ (has_op flags || has_flag letter flags)
+has_one_of-more letter flags = by (has_flag OP flags) (has_flag MASTER flags) (has_flag OWNER flags) (has_flag letter flags)
+  where
+    by : (op master owner more : Bool) → (op || (master || (owner || (more || false)))) ≡ ((op || (master || owner)) || more)
+    by true master owner more = refl
+    by false true owner more = refl
+    by false false true more = refl
+    by false false false true = refl
+    by false false false false = refl
+
+pub is_from_op-lacks : (call : Call) (seen : Seen) → has_op (flags_by call seen) ≡ false → is_from_op call seen ≡ false
 is_from_op-lacks call seen lacks =
-    and-false (is_pub call.kind) (is_bot_op call seen && has_flag OP (flags_by call seen))
-    (and-false (is_bot_op call seen) (has_flag OP (flags_by call seen)) (has_flag-lacks OP call seen lacks))
+    and-false (is_pub call.kind) (is_bot_op call seen && has_op (flags_by call seen)) (and-false (is_bot_op call seen) (has_op (flags_by call seen)) lacks)
 
 pub is_from_op-bot : (call : Call) (seen : Seen) → is_bot_op call seen ≡ false → is_from_op call seen ≡ false
 is_from_op-bot call seen denied =
-    and-false (is_pub call.kind) (is_bot_op call seen && has_flag OP (flags_by call seen))
-    (ap (λ (x : Bool). x && has_flag OP (flags_by call seen)) denied)
+    and-false (is_pub call.kind) (is_bot_op call seen && has_op (flags_by call seen)) (ap (λ (x : Bool). x && has_op (flags_by call seen)) denied)
 
-pub is_from_voice-lacks : (call : Call) (seen : Seen) → Lacks OP call seen → Lacks VOICE call seen → is_from_voice call seen ≡ false
-is_from_voice-lacks call seen op voice =
-    let either : Bool = has_flag OP (flags_by call seen) || has_flag VOICE (flags_by call seen) in
-    and-false (is_pub call.kind) (is_bot_op call seen && either)
-    (and-false (is_bot_op call seen) either
-    (or-false (has_flag OP (flags_by call seen)) (has_flag VOICE (flags_by call seen)) (has_flag-lacks OP call seen op) (has_flag-lacks VOICE call seen voice)))
+pub is_from_voice-lacks : (call : Call) (seen : Seen) → (has_op (flags_by call seen) || has_flag VOICE (flags_by call seen)) ≡ false
+    → is_from_voice call seen ≡ false
+is_from_voice-lacks call seen lacks =
+    let either : Bool = has_op (flags_by call seen) || has_flag VOICE (flags_by call seen) in
+    and-false (is_pub call.kind) (is_bot_op call seen && either) (and-false (is_bot_op call seen) either lacks)
 
 pub is_from_voice-bot : (call : Call) (seen : Seen) → is_bot_op call seen ≡ false → is_from_voice call seen ≡ false
 is_from_voice-bot call seen denied =
-    let either : Bool = has_flag OP (flags_by call seen) || has_flag VOICE (flags_by call seen) in
+    let either : Bool = has_op (flags_by call seen) || has_flag VOICE (flags_by call seen) in
     and-false (is_pub call.kind) (is_bot_op call seen && either) (ap (λ (x : Bool). x && either) denied)
 
-change_for-lacks : (flags : PersonFlags) → has_flag AUTO_OP flags ≡ false → has_flag AUTO_VOICE flags ≡ false → change_for flags ≡ None
-change_for-lacks flags op voice =
-    ap (λ (x : Bool). if x then Some (codes "+o") else (if has_flag AUTO_VOICE flags then Some (codes "+v") else None)) op
-    ∙ ap (λ (x : Bool). if x then Some (codes "+v") else None) voice
+change_for-lacks : (op voice : Bool) → (op || (voice || false)) ≡ false
+    → (if op then Some (codes "+o") else (if voice then Some (codes "+v") else None)) ≡ None
+change_for-lacks true voice lacks = cc
+change_for-lacks false true lacks = cc
+change_for-lacks false false lacks = refl
 
 pub is_master-lacks : (call : Call) (seen : Seen) → has_letter (global_by call seen) MASTER ≡ false → has_letter (global_by call seen) OWNER ≡ false
     → is_master call seen ≡ false
@@ -103,7 +118,7 @@ is_master-lacks call seen = or-false (has_letter (global_by call seen) MASTER) (
 -- ---- answers
 
 -- a reply that keeps the promise of a proc's name asks for what that proc asks for
-actions-kept : (w : ProcName) (call : Call) (seen : Seen) (reply : ProcReply) → IsKept ours (name_of w) call seen reply
+pub actions-kept : (w : ProcName) (call : Call) (seen : Seen) (reply : ProcReply) → IsKept ours (name_of w) call seen reply
     → reply.actions ≡ actions_by w call seen
 actions-kept w call seen reply kept = kept.actions ∙ ap (λ (named : Option ProcName). actions_if named call seen) (which_named-name_of w)
 
@@ -152,12 +167,13 @@ pub unban-refused : (call : Call) (seen : Seen) → is_from_op call seen ≡ fal
 unfolding actions_by
 unban-refused call seen denied = ap (λ (may : Bool). asked_by_unban may call) denied
 
-pub autoop-lacks : (call : Call) (seen : Seen) → Lacks AUTO_OP call seen → Lacks AUTO_VOICE call seen → actions_by which.AutoOp call seen ≡ []
+pub autoop-lacks : (call : Call) (seen : Seen) → has_one_of (AUTO_OP ∷ AUTO_VOICE ∷ []) (flags_by call seen) ≡ false
+    → actions_by which.AutoOp call seen ≡ []
 unfolding actions_by
-autoop-lacks call seen op voice =
+autoop-lacks call seen lacks =
     let may : Bool = is_join call.kind && is_bot_op call seen in
     ap (λ (change : Option (List ℕ)). if may then asked_for_newcomer call change else [])
-    (change_for-lacks (flags_by call seen) (has_flag-lacks AUTO_OP call seen op) (has_flag-lacks AUTO_VOICE call seen voice))
+    (change_for-lacks (has_flag AUTO_OP (flags_by call seen)) (has_flag AUTO_VOICE (flags_by call seen)) lacks)
     ∙ same-either may []
 
 pub autoop-bot : (call : Call) (seen : Seen) → is_bot_op call seen ≡ false → actions_by which.AutoOp call seen ≡ []
@@ -303,7 +319,7 @@ all-of p q xs more all =
     list_all-from_AllPass q xs (λ k d within. more (get_or xs k d) (AllPass-from_list_all p xs all k d within))
 
 -- each of these is of an element that gives it
-all-given : {X Y : Type 0} (h : X → Option Y) (is_of : Y → X → Bool) → ((x : X) (y : Y) → h x ≡ Some y → is_of y x ≡ true)
+pub all-given : {X Y : Type 0} (h : X → Option Y) (is_of : Y → X → Bool) → ((x : X) (y : Y) → h x ≡ Some y → is_of y x ≡ true)
     → (xs : List X) → list_all (λ y. list_any (is_of y) xs) (filter_map h xs) ≡ true
 all-given h is_of gives [] = refl
 all-given {X} {Y} h is_of gives (x ∷ xs) =

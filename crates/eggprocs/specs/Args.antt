@@ -25,6 +25,13 @@ channel_of call = arg_at call.args 3
 abbrev pub said_of : Call → List ℕ
 said_of call = arg_at call.args 4
 
+-- a change of mode as its sign and letter, such as +o, and its argument: a nick or a mask
+abbrev pub mode_change : Call → List ℕ
+mode_change call = arg_at call.args 4
+
+abbrev pub mode_argument : Call → List ℕ
+mode_argument call = arg_at call.args 5
+
 -- a timer's text
 abbrev pub timer_text : Call → List ℕ
 timer_text call = arg_at call.args 0

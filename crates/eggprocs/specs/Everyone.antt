@@ -3,7 +3,6 @@
 use Rattle.std.specs.Prelude.{ℕ, not, ◌&&◌, ◌||◌, List, [], ◌∷◌, ◌++◌, take, Bool, if◌then◌else◌, codes, Option, Some, None}
 use Rattle.std.specs.List.{filter_map}
 use Rattle.std.specs.Option.{option_map}
-use Rattle.std.specs.Str.{bytes_eq}
 use Rattle.rfccase.specs.Casemapping.{is_same}
 use Rattle.userfile.specs.declared.flags.PersonFlags.{PersonFlags}
 use Rattle.userfile.specs.Persons.{flags_of, handle_of}
@@ -15,10 +14,10 @@ use Rattle.procs.specs.declared.call.Call.{Call}
 use Rattle.procs.specs.declared.limits.TheConstants.{MAX_ACTIONS}
 use Rattle.procs.specs.Seen.{Seen}
 use Rattle.eggprocs.specs.declared.rights.TheConstants.{AUTO_OP, AUTO_VOICE}
-use Rattle.eggprocs.specs.Args.{arg_at, nick_of, channel_of}
+use Rattle.eggprocs.specs.Args.{mode_argument, nick_of, channel_of}
 use Rattle.eggprocs.specs.Channel.{put}
 use Rattle.eggprocs.specs.Lines.{mode, who}
-use Rattle.eggprocs.specs.Rights.{has_flag, is_join, is_mode}
+use Rattle.eggprocs.specs.Rights.{has_flag, is_change, is_join}
 
 -- ---- the events that call it
 
@@ -28,8 +27,7 @@ is_own_join call seen = is_join call.kind && is_same (nick_of call) seen.sight.c
 
 -- a mode that gives op to the bot itself
 abbrev pub gives_bot_op : Call → Seen → Bool
-gives_bot_op call seen =
-    is_mode call.kind && (bytes_eq (arg_at call.args 4) (codes "+o") && is_same (arg_at call.args 5) seen.sight.channels.nick)
+gives_bot_op call seen = is_change (codes "+o") call && is_same (mode_argument call) seen.sight.channels.nick
 
 -- ---- members
 

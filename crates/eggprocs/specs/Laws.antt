@@ -1,10 +1,11 @@
 -- Laws of the procs: when nothing is done, and for whose call.
-use Rattle.std.specs.Prelude.{◌≡◌, ℕ, ◌&&◌, ◌||◌, Bool, true, false, List, [], None, codes}
+use Rattle.std.specs.Prelude.{◌≡◌, ℕ, not, ◌&&◌, ◌||◌, Bool, true, false, List, [], ◌∷◌, Option, Some, None, codes}
 use Rattle.std.specs.List.{list_all, list_any}
 use Rattle.std.specs.Str.{bytes_eq}
 use Rattle.flagexpr.specs.Letters.{has_letter}
 use Rattle.userfile.specs.declared.change.Change.{Change}
 use Rattle.userfile.specs.declared.change.Change.TheVariants.{AddUser, DelUser, AddHost, DelHost, SetGlobal, SetChan, SetBot, AddBan, DelBan, SetInfo, SetSticky}
+use Rattle.userfile.specs.declared.flags.PersonFlags.{PersonFlags}
 use Rattle.userfile.specs.Held.{user_of}
 use Rattle.chanstate.specs.declared.member.Member.{Member}
 use Rattle.chanstate.specs.Views.{members_in}
@@ -14,33 +15,29 @@ use Rattle.procs.specs.declared.call.Call.{Call}
 use Rattle.procs.specs.declared.reply.ProcReply.{ProcReply}
 use Rattle.procs.specs.Promises.{IsKept}
 use Rattle.procs.specs.Seen.{Seen}
-use Rattle.eggprocs.specs.declared.rights.TheConstants.{AUTO_OP, AUTO_VOICE, MASTER, OWNER}
-use Rattle.eggprocs.specs.Args.{handle_of, channel_of}
+use Rattle.eggprocs.specs.declared.rights.TheConstants.{AUTO_OP, AUTO_VOICE, OP, FRIEND, MASTER, OWNER}
+use Rattle.eggprocs.specs.Args.{handle_of, channel_of, mode_argument}
 use Rattle.eggprocs.specs.Everyone.{is_own_join, flags_of_member}
 use Rattle.eggprocs.specs.Infos.{info_by}
-use Rattle.eggprocs.specs.Lines.{mode}
+use Rattle.eggprocs.specs.Keeping.{is_by_bot, is_by_server, is_by_trusted, flags_named, is_hit, is_self}
+use Rattle.eggprocs.specs.Lines.{mode, kick}
 use Rattle.eggprocs.specs.People.{is_for_owners}
 use Rattle.eggprocs.specs.Procs.{ours}
-use Rattle.eggprocs.specs.Rights.{flags_by, has_flag, global_by, is_bot_op}
+use Rattle.eggprocs.specs.Rights.{flags_by, has_flag, has_bot, global_by, is_bot_op}
 use Rattle.eggprocs.specs.Whereabouts.{shared}
 
--- the caller has a flag neither everywhere nor on the call's channel
-abbrev pub Lacks : ℕ → Call → Seen → Type 0
-Lacks letter call seen =
-    (has_letter (flags_by call seen).global letter ≡ false) × (has_letter (flags_by call seen).chan letter ≡ false)
+-- whether a person has one of these flags, everywhere or on the channel
+abbrev pub has_one_of : List ℕ → PersonFlags → Bool
+has_one_of letters flags = list_any (λ letter. has_flag letter flags) letters
 
 -- whatever the proc of this name answers, it requests nothing
 abbrev pub DoesNothing : List ℕ → Call → Seen → Type 0
 DoesNothing name call seen = (reply : ProcReply) → IsKept ours name call seen reply → reply.actions ≡ []
 
--- a proc does nothing for a caller who lacks this flag
-abbrev pub IsOnlyFor : ℕ → List ℕ → Type 0
-IsOnlyFor letter name = (call : Call) (seen : Seen) → Lacks letter call seen → DoesNothing name call seen
-
--- a proc does nothing for a caller who lacks both these flags
-abbrev pub IsOnlyForEither : ℕ → ℕ → List ℕ → Type 0
-IsOnlyForEither one other name =
-    (call : Call) (seen : Seen) → Lacks one call seen → Lacks other call seen → DoesNothing name call seen
+-- a proc does nothing for a caller who has none of these flags
+abbrev pub IsOnlyForOneOf : List ℕ → List ℕ → Type 0
+IsOnlyForOneOf letters name =
+    (call : Call) (seen : Seen) → has_one_of letters (flags_by call seen) ≡ false → DoesNothing name call seen
 
 -- a proc does nothing if the bot is no operator of the call's channel
 abbrev pub IsOnlyByOps : List ℕ → Type 0
@@ -144,6 +141,92 @@ abbrev pub GivesWhatIsDue : List ℕ → Type 0
 GivesWhatIsDue name =
     (call : Call) (seen : Seen) → is_own_join call seen ≡ false
     → (reply : ProcReply) → IsKept ours name call seen reply → list_all (is_due call seen) reply.actions ≡ true
+
+-- ---- keeping a channel
+
+-- a proc does nothing for what the bot itself does
+abbrev pub IsOnlyForOthers : List ℕ → Type 0
+IsOnlyForOthers name = (call : Call) (seen : Seen) → is_by_bot call seen ≡ true → DoesNothing name call seen
+
+-- a proc does nothing for a caller who has one of the flags m and n, everywhere or on the channel, or b everywhere
+abbrev pub LeavesTrusted : List ℕ → Type 0
+LeavesTrusted name = (call : Call) (seen : Seen) → is_by_trusted call seen ≡ true → DoesNothing name call seen
+
+-- a proc does nothing for what a server does
+abbrev pub LeavesServers : List ℕ → Type 0
+LeavesServers name = (call : Call) (seen : Seen) → is_by_server call ≡ true → DoesNothing name call seen
+
+-- whatever the proc of this name answers, each action passes this test
+abbrev pub DoesOnly : (Call → Seen → Action → Bool) → List ℕ → Type 0
+DoesOnly is_right name =
+    (call : Call) (seen : Seen) (reply : ProcReply) → IsKept ours name call seen reply → list_all (is_right call seen) reply.actions ≡ true
+
+-- the same for a caller who has one of the flags m and n, everywhere or on the channel, or b everywhere
+abbrev pub DoesOnlyForTrusted : (Call → Seen → Action → Bool) → List ℕ → Type 0
+DoesOnlyForTrusted is_right name =
+    (call : Call) (seen : Seen) → is_by_trusted call seen ≡ true
+    → (reply : ProcReply) → IsKept ours name call seen reply → list_all (is_right call seen) reply.actions ≡ true
+
+-- this line for the server
+abbrev pub is_line : List ℕ → Action → Bool
+is_line line (Put wish) = bytes_eq wish.line line
+is_line line (Ask change) = false
+is_line line (Timer wish) = false
+is_line line (Utimer wish) = false
+is_line line (KillTimer name) = false
+is_line line (SendBot wish) = false
+
+-- the flags of operators, and the flags of those whom bans spare
+abbrev pub op_letters : List ℕ
+op_letters = OP ∷ MASTER ∷ OWNER ∷ []
+
+abbrev pub spared_letters : List ℕ
+spared_letters = OP ∷ MASTER ∷ OWNER ∷ FRIEND ∷ []
+
+-- whether a member, if there is one, has one of the flags of operators, and whether it has none of them, nor b everywhere
+abbrev pub has_op_flag : Option PersonFlags → Bool
+has_op_flag None = false
+has_op_flag (Some flags) = has_one_of op_letters flags
+
+abbrev pub lacks_op_flag : Option PersonFlags → Bool
+lacks_op_flag None = false
+lacks_op_flag (Some flags) = not (has_one_of op_letters flags || has_bot flags)
+
+-- op for the member whom the change names, who has one of the flags o, m and n
+abbrev pub is_op_of_known : Call → Seen → Action → Bool
+is_op_of_known call seen action =
+    has_op_flag (flags_named call seen) && is_line (mode (channel_of call) (codes "+o") (mode_argument call)) action
+
+-- the end of op for the member whom the change names, who has none of these flags, nor b everywhere
+abbrev pub is_deop_of_unknown : Call → Seen → Action → Bool
+is_deop_of_unknown call seen action =
+    lacks_op_flag (flags_named call seen) && is_line (mode (channel_of call) (codes "-o") (mode_argument call)) action
+
+-- a member who is the bot, or has one of the flags o, m, n and f
+abbrev pub is_bot_or_known : Call → Seen → Member → Bool
+is_bot_or_known call seen member = is_self seen member || has_one_of spared_letters (flags_of_member call seen member)
+
+-- the end of the ban that the change sets, whose mask matches such a member
+abbrev pub is_end_of_ban : Call → Seen → Action → Bool
+is_end_of_ban call seen action =
+    list_any (λ member. is_hit (mode_argument call) member && is_bot_or_known call seen member) (members_in (channel_of call) seen.sight.channels)
+    && is_line (mode (channel_of call) (codes "-b") (mode_argument call)) action
+
+-- the end of the ban that the change sets, whose mask matches the bot itself
+abbrev pub is_end_of_ban_on_bot : Call → Seen → Action → Bool
+is_end_of_ban_on_bot call seen action =
+    list_any (λ member. is_hit (mode_argument call) member && is_self seen member) (members_in (channel_of call) seen.sight.channels)
+    && is_line (mode (channel_of call) (codes "-b") (mode_argument call)) action
+
+-- a kick of a member whom the ban's mask matches, and who is neither the bot nor has one of these flags
+abbrev pub is_kick_of : Call → Seen → Action → Member → Bool
+is_kick_of call seen action member =
+    (is_hit (mode_argument call) member && not (is_bot_or_known call seen member))
+    && is_line (kick (channel_of call) member.nick (codes "banned")) action
+
+-- the same for some member of the call's channel
+abbrev pub is_kick_of_banned : Call → Seen → Action → Bool
+is_kick_of_banned call seen action = list_any (is_kick_of call seen action) (members_in (channel_of call) seen.sight.channels)
 
 -- ---- where people are
 

@@ -1,6 +1,7 @@
 -- Which callers may use a proc, by the flags of the handle that the bot gives to a call (Eggdrop's flags, in its
 -- document on users and flags).
 use Rattle.std.specs.Prelude.{ℕ, List, ◌&&◌, ◌||◌, Bool, true, false, []}
+use Rattle.std.specs.Str.{bytes_eq}
 use Rattle.flagexpr.specs.Letters.{has_letter}
 use Rattle.userfile.specs.declared.flags.PersonFlags.{PersonFlags}
 use Rattle.userfile.specs.Persons.{flags_of}
@@ -10,10 +11,10 @@ use Rattle.procs.specs.declared.call_kind.CallKind.{CallKind}
 use Rattle.procs.specs.declared.call_kind.CallKind.TheVariants.{Raw, Msg, Msgm, Notc, Pub, Pubm, Join, Part, Sign, Kick, Nick, Mode, Topc}
 use Rattle.procs.specs.declared.call_kind.CallKind.TheVariants.{Bot, Time, Cron, Timer}
 use Rattle.procs.specs.Seen.{Seen}
-use Rattle.eggprocs.specs.declared.rights.TheConstants.{OP, VOICE, MASTER, OWNER}
+use Rattle.eggprocs.specs.declared.rights.TheConstants.{OP, VOICE, FRIEND, MASTER, OWNER, BOT}
 use Rattle.eggprocs.specs.declared.rights.Requester.{Requester}
 use Rattle.eggprocs.specs.declared.rights.Requester.TheVariants.{Elsewhere, Stranger, Master}
-use Rattle.eggprocs.specs.Args.{handle_of, channel_of}
+use Rattle.eggprocs.specs.Args.{handle_of, channel_of, mode_change}
 
 -- what a call is for: the first word of a text on a channel, a join, the first word of a text to the bot, a timer, or a
 -- mode
@@ -112,6 +113,10 @@ is_mode Time = false
 is_mode Cron = false
 is_mode Timer = false
 
+-- a mode that changes so, as +o
+abbrev pub is_change : List ℕ → Call → Bool
+is_change change call = is_mode call.kind && bytes_eq (mode_change call) change
+
 -- the flags of the caller, with those on the call's channel
 abbrev pub flags_by : Call → Seen → PersonFlags
 flags_by call seen = flags_of seen.sight.records.users (handle_of call) (channel_of call)
@@ -119,6 +124,22 @@ flags_by call seen = flags_of seen.sight.records.users (handle_of call) (channel
 -- whether a person has a flag, everywhere or on the channel
 abbrev pub has_flag : ℕ → PersonFlags → Bool
 has_flag letter flags = has_letter flags.global letter || has_letter flags.chan letter
+
+-- whether a person has the rights of a channel's master: the flag m, or n, which gives m
+abbrev pub has_master : PersonFlags → Bool
+has_master flags = has_flag MASTER flags || has_flag OWNER flags
+
+-- whether a person has the rights of a channel's operator: the flag o, or those of a master, since m gives o
+abbrev pub has_op : PersonFlags → Bool
+has_op flags = has_flag OP flags || has_master flags
+
+-- whether a person is a bot by the userfile: the flag b, everywhere
+abbrev pub has_bot : PersonFlags → Bool
+has_bot flags = has_letter flags.global BOT
+
+-- whether bans spare a person: an operator or a friend
+abbrev pub is_protected : PersonFlags → Bool
+is_protected flags = has_op flags || has_flag FRIEND flags
 
 -- whether the bot itself is an operator of a channel
 abbrev pub is_op_of : List ℕ → Seen → Bool
@@ -128,13 +149,14 @@ is_op_of channel seen = is_op (member_in channel seen.sight.channels.nick seen.s
 abbrev pub is_bot_op : Call → Seen → Bool
 is_bot_op call seen = is_op_of (channel_of call) seen
 
--- a word on a channel on which the bot is an operator, from a caller who has the flag o, or one of o and v
+-- a word on a channel on which the bot is an operator, from a caller with the rights of an operator, or with these or
+-- the flag v
 abbrev pub is_from_op : Call → Seen → Bool
-is_from_op call seen = is_pub call.kind && (is_bot_op call seen && has_flag OP (flags_by call seen))
+is_from_op call seen = is_pub call.kind && (is_bot_op call seen && has_op (flags_by call seen))
 
 abbrev pub is_from_voice : Call → Seen → Bool
 is_from_voice call seen =
-    is_pub call.kind && (is_bot_op call seen && (has_flag OP (flags_by call seen) || has_flag VOICE (flags_by call seen)))
+    is_pub call.kind && (is_bot_op call seen && (has_op (flags_by call seen) || has_flag VOICE (flags_by call seen)))
 
 -- the flags that the caller has everywhere
 abbrev pub global_by : Call → Seen → ℕ

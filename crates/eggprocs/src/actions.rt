@@ -9,6 +9,7 @@ use crate::channel::{
 };
 use crate::everyone::asked_by_opall;
 use crate::infos::{asked_by_greet, asked_by_info};
+use crate::keeping::{asked_by_bitch, asked_by_enforcebans, asked_by_guard, asked_by_protectops};
 use crate::marks::asked_by_bans;
 use crate::orders::{Order, asked_by_order};
 use crate::people::asked_by_whois;
@@ -59,5 +60,9 @@ pub(crate) fn actions_by(
         ProcName::Bans => asked_by_bans(alloc, call, view),
         ProcName::Seen => asked_by_seen(alloc, call, view),
         ProcName::OpAll => asked_by_opall(alloc, call, view),
+        ProcName::ProtectOps => asked_by_protectops(alloc, call, view),
+        ProcName::Bitch => asked_by_bitch(alloc, call, view),
+        ProcName::Guard => asked_by_guard(alloc, call, view),
+        ProcName::EnforceBans => asked_by_enforcebans(alloc, call, view),
     }
 }

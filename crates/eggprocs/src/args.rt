@@ -1,6 +1,6 @@
 // The arguments of a call.
 ghost use Rattle.std.specs.Prelude.{◌≡◌};
-ghost use Rattle.eggprocs.specs.Args.{arg_at, last_of, nick_of, handle_of, channel_of, said_of, timer_text, told_of, or_else};
+ghost use Rattle.eggprocs.specs.Args.{arg_at, last_of, nick_of, handle_of, channel_of, said_of, mode_change, mode_argument, timer_text, told_of, or_else};
 
 use bytetext::Text;
 use procs::Call;
@@ -51,6 +51,20 @@ pub(crate) fn said_of(call: &Call) -> &[u8]
     ensures { result.now ≡ said_of call.now }
 {
     arg_at(call.args.as_slice(), 4)
+}
+
+// A change of mode as its sign and letter, such as +o.
+pub(crate) fn mode_change(call: &Call) -> &[u8]
+    ensures { result.now ≡ mode_change call.now }
+{
+    arg_at(call.args.as_slice(), 4)
+}
+
+// The argument of a change of mode: a nick or a mask.
+pub(crate) fn mode_argument(call: &Call) -> &[u8]
+    ensures { result.now ≡ mode_argument call.now }
+{
+    arg_at(call.args.as_slice(), 5)
 }
 
 // A timer's text.

@@ -5,10 +5,10 @@ ghost use Rattle.std.specs.Option.{option_copied, option_to_list};
 ghost use Rattle.procs.specs.declared.limits.TheConstants.{MAX_ACTIONS};
 ghost use Rattle.eggprocs.specs.Everyone.{is_own_join, gives_bot_op, address_of, flags_of_member, is_left, change_lacked, change_of, mode_for, asked_by_opall};
 
-use crate::args::{arg_at, channel_of, nick_of};
+use crate::args::{channel_of, mode_argument, nick_of};
 use crate::channel::one_line;
 use crate::lines::{mode, who};
-use crate::rights::{AUTO_OP, AUTO_VOICE, has_flag, is_join, is_mode};
+use crate::rights::{AUTO_OP, AUTO_VOICE, has_flag, is_change, is_join};
 use bytetext::{Failure, NoMemory, Text};
 use chanstate::Member;
 use outqueue::Queue;
@@ -47,10 +47,7 @@ fn is_own_join(call: &Call, view: &View<'_>) -> bool
 fn gives_bot_op(call: &Call, view: &View<'_>) -> bool
     ensures { result ≡ gives_bot_op call.now view.now }
 {
-    let args = call.args.as_slice();
-    is_mode(call.kind)
-        && arg_at(args, 4) == b"+o".as_slice()
-        && same(arg_at(args, 5), view.channels().own_nick())
+    is_change(b"+o", call) && same(mode_argument(call), view.channels().own_nick())
 }
 
 // Modes for the first members that lack one.
@@ -71,7 +68,7 @@ fn modes_for(
 }
 
 // Appends an action, if there is one and the list has fewer than eight.
-fn push_if_room(actions: &mut Actions, wish: Option<Action>) -> Result<(), NoMemory>
+pub(crate) fn push_if_room(actions: &mut Actions, wish: Option<Action>) -> Result<(), NoMemory>
     ensures room { OnOk result (length actions.old < MAX_ACTIONS → actions.new ≡ actions.old ++ option_to_list wish) }
     ensures full { OnOk result (MAX_ACTIONS ≤ length actions.old → actions.new ≡ actions.old) }
 {
@@ -123,7 +120,7 @@ fn is_left(view: &View<'_>, member: &Member) -> bool
 }
 
 // The flags of a member, with those on the call's channel.
-fn flags_of_member(
+pub(crate) fn flags_of_member(
     alloc: Global,
     call: &Call,
     view: &View<'_>,
@@ -138,7 +135,7 @@ fn flags_of_member(
 }
 
 // A member as nick!user@host.
-fn address_of(alloc: Global, member: &Member) -> Result<Text, NoMemory>
+pub(crate) fn address_of(alloc: Global, member: &Member) -> Result<Text, NoMemory>
     ensures { IfOk result (λ who. who ≡ address_of member.now) }
 {
     let mut who = Vec::from_slice(alloc, member.nick.as_bytes())?;

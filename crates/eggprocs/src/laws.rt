@@ -1,26 +1,28 @@
 // Laws of the procs: when nothing is done, and for whose call.
-ghost use Rattle.std.specs.Prelude.{codes};
-ghost use Rattle.eggprocs.specs.Laws.{IsOnlyFor, IsOnlyForEither, IsOnlyByOps, IsOnlyForMasters, SparesOwners};
+ghost use Rattle.std.specs.Prelude.{codes, ◌∷◌, []};
+ghost use Rattle.eggprocs.specs.Laws.{IsOnlyForOneOf, IsOnlyByOps, IsOnlyForMasters, SparesOwners};
 ghost use Rattle.eggprocs.specs.Laws.{ChangesOwnInfo, IsOnlyForKnown, IsOnlyWithInfo, GivesWhatIsDue, KeepsChannelsApart};
+ghost use Rattle.eggprocs.specs.Laws.{IsOnlyForOthers, DoesOnly, is_op_of_known, is_deop_of_unknown, is_end_of_ban, is_kick_of_banned};
+ghost use Rattle.eggprocs.specs.Laws.{LeavesTrusted, LeavesServers, DoesOnlyForTrusted, is_end_of_ban_on_bot};
 
-use crate::rights::{AUTO_OP, AUTO_VOICE, OP, VOICE};
+use crate::rights::{AUTO_OP, AUTO_VOICE, MASTER, OP, OWNER, VOICE};
 
-/// A law; calling it does nothing. The commands of a channel's operators do nothing for a caller who has the flag `o`
-/// neither everywhere nor on the channel. `voice` and `devoice` require one of `o` and `v`, and `autoop` one of `a` and
-/// `g`. `opall`, except when the bot itself joins, gives op to members who have the flag `a` and voice to those who
-/// have `g`, and does nothing else. This holds for any answer that [`Ours`](crate::Ours) allows, whatever body a store
-/// has.
+/// A law; calling it does nothing. The commands of a channel's operators do nothing for a caller who has none of the
+/// flags `o`, `m` and `n`, neither everywhere nor on the channel. `voice` and `devoice` require one of these and `v`, and
+/// `autoop` one of `a` and `g`. `opall`, except when the bot itself joins, gives op to members who have the flag `a` and
+/// voice to those who have `g`, and does nothing else. This holds for any answer that [`Ours`](crate::Ours) allows,
+/// whatever body a store has.
 pub fn commands_want_flags()
-    ensures op { IsOnlyFor OP (codes "op") }
-    ensures deop { IsOnlyFor OP (codes "deop") }
-    ensures kick { IsOnlyFor OP (codes "kick") }
-    ensures topic { IsOnlyFor OP (codes "topic") }
-    ensures invite { IsOnlyFor OP (codes "invite") }
-    ensures ban { IsOnlyFor OP (codes "ban") }
-    ensures unban { IsOnlyFor OP (codes "unban") }
-    ensures voice { IsOnlyForEither OP VOICE (codes "voice") }
-    ensures devoice { IsOnlyForEither OP VOICE (codes "devoice") }
-    ensures autoop { IsOnlyForEither AUTO_OP AUTO_VOICE (codes "autoop") }
+    ensures op { IsOnlyForOneOf (OP ∷ MASTER ∷ OWNER ∷ []) (codes "op") }
+    ensures deop { IsOnlyForOneOf (OP ∷ MASTER ∷ OWNER ∷ []) (codes "deop") }
+    ensures kick { IsOnlyForOneOf (OP ∷ MASTER ∷ OWNER ∷ []) (codes "kick") }
+    ensures topic { IsOnlyForOneOf (OP ∷ MASTER ∷ OWNER ∷ []) (codes "topic") }
+    ensures invite { IsOnlyForOneOf (OP ∷ MASTER ∷ OWNER ∷ []) (codes "invite") }
+    ensures ban { IsOnlyForOneOf (OP ∷ MASTER ∷ OWNER ∷ []) (codes "ban") }
+    ensures unban { IsOnlyForOneOf (OP ∷ MASTER ∷ OWNER ∷ []) (codes "unban") }
+    ensures voice { IsOnlyForOneOf (OP ∷ MASTER ∷ OWNER ∷ VOICE ∷ []) (codes "voice") }
+    ensures devoice { IsOnlyForOneOf (OP ∷ MASTER ∷ OWNER ∷ VOICE ∷ []) (codes "devoice") }
+    ensures autoop { IsOnlyForOneOf (AUTO_OP ∷ AUTO_VOICE ∷ []) (codes "autoop") }
     ensures opall { GivesWhatIsDue (codes "opall") }
 {}
 
@@ -36,6 +38,46 @@ pub fn commands_want_an_operator()
     ensures invite { IsOnlyByOps (codes "invite") }
     ensures ban { IsOnlyByOps (codes "ban") }
     ensures unban { IsOnlyByOps (codes "unban") }
+    ensures protectops { IsOnlyByOps (codes "protectops") }
+    ensures bitch { IsOnlyByOps (codes "bitch") }
+    ensures guard { IsOnlyByOps (codes "guard") }
+    ensures enforcebans { IsOnlyByOps (codes "enforcebans") }
+{}
+
+/// A law; calling it does nothing. Flags count everywhere and on the channel.
+///
+/// - `protectops` gives op only to the member from whom somebody takes it, if that one has a flag of `o`, `m` and `n`.
+/// - `bitch` takes op only from the member to whom somebody gives it, if that one has none of these flags and does not
+///   have `b` everywhere.
+/// - `guard` removes only the ban that somebody sets, if its mask matches the bot or a member with a flag of `o`, `m`,
+///   `n` and `f`.
+/// - `enforcebans` kicks only members whom the ban's mask matches, and neither the bot nor a member with one of these
+///   four flags.
+///
+/// None of them does anything else.
+pub fn keeping_spares_operators()
+    ensures protectops { DoesOnly is_op_of_known (codes "protectops") }
+    ensures bitch { DoesOnly is_deop_of_unknown (codes "bitch") }
+    ensures guard { DoesOnly is_end_of_ban (codes "guard") }
+    ensures enforcebans { DoesOnly is_kick_of_banned (codes "enforcebans") }
+{}
+
+/// A law; calling it does nothing. Some callers may change modes as they like:
+///
+/// - `protectops`, `bitch` and `guard` do nothing for a change that the bot itself makes, so that they reverse nothing
+///   that its own procs do.
+/// - `protectops` and `bitch` do nothing for a caller who has one of the flags `m` and `n`, everywhere or on the channel,
+///   or `b` everywhere. So two bots don't undo each other's changes without end.
+/// - For such a caller, `guard` removes only the ban that the caller sets, if its mask matches the bot itself.
+/// - `bitch` does nothing for a change that a server makes.
+pub fn keeping_answers_others()
+    ensures protectops { IsOnlyForOthers (codes "protectops") }
+    ensures bitch { IsOnlyForOthers (codes "bitch") }
+    ensures guard { IsOnlyForOthers (codes "guard") }
+    ensures protectops_trusted { LeavesTrusted (codes "protectops") }
+    ensures bitch_trusted { LeavesTrusted (codes "bitch") }
+    ensures guard_trusted { DoesOnlyForTrusted is_end_of_ban_on_bot (codes "guard") }
+    ensures bitch_servers { LeavesServers (codes "bitch") }
 {}
 
 /// A law; calling it does nothing. The commands of masters request no change of the userfile for a caller who has

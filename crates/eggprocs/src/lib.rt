@@ -7,8 +7,9 @@
 //!
 //! The caller is the person whose word or event calls the proc. A proc that is bound to another kind of event than its
 //! own requests nothing. If a table lists flags, the caller needs one of them, everywhere or on the channel, under the
-//! handle by which the bot knows the caller. A caller without the flag causes no action ([`commands_want_flags`]).
-//! Except for `opall` and `greet`, these procs also do nothing on a channel on which the bot itself is no operator
+//! handle by which the bot knows the caller. A caller without the flag causes no action ([`commands_want_flags`]). The
+//! flag `n` gives `m`, and `m` gives `o`. So if a table lists `o`, one of `m` and `n` also serves. Except for `opall`
+//! and `greet`, the procs of the first two tables also do nothing on a channel on which the bot itself is no operator
 //! ([`commands_want_an_operator`]).
 //!
 //! On a channel, where the words are those after the bind's own word:
@@ -42,6 +43,31 @@
 //!
 //! A command that lacks its nick, its text or a hostmask does nothing. Modes and kicks go into the mode queue, topics,
 //! invitations and WHO into the server queue, and greetings into the help queue.
+//!
+//! When somebody changes the modes of a channel. The flags in this table are those of members, and the caller needs none
+//! ([`keeping_spares_operators`]):
+//!
+//! | Proc | Kind | Change | What it requests |
+//! |---|---|---|---|
+//! | `protectops` | `mode` | `-o NICK` | `MODE CHANNEL +o NICK`, if NICK is a member with `o` |
+//! | `bitch` | `mode` | `+o NICK` | `MODE CHANNEL -o NICK`, if NICK is a member without `o` and `b` |
+//! | `guard` | `mode` | `+b MASK` | `MODE CHANNEL -b MASK`, if MASK matches the bot, or a member with `o` or `f` |
+//! | `enforcebans` | `mode` | `+b MASK` | `KICK CHANNEL NICK :banned`, for members without `o` and `f` whom MASK matches |
+//!
+//! - `protectops`, `bitch` and `guard` do nothing for a change that the bot itself makes.
+//! - `protectops` and `bitch` do nothing for a change by a master or a bot, as in Eggdrop. That is a caller who has one
+//!   of the flags `m` and `n`, everywhere or on the channel, or the flag `b` everywhere. For such a caller, `guard` acts
+//!   only if MASK matches the bot itself. So two bots don't undo each other's changes without end
+//!   ([`keeping_answers_others`]).
+//! - `bitch` does nothing if a server gives op. `protectops` and `guard` also undo what a server does.
+//! - `protectops` and `bitch` do nothing if NICK is the bot, and `protectops` does nothing if NICK is the caller.
+//! - `bitch` also takes op from members whom the userfile does not know. It leaves op to members who have the flag `b`
+//!   everywhere.
+//! - `enforcebans` never kicks the bot itself. It kicks the first eight such members, in the order in which they came,
+//!   also for a ban of the bot's own.
+//! - `guard` and `enforcebans` do nothing if MASK is no hostmask.
+//! - All four look up a member by the host that the server has sent. A member whose host the bot does not know yet is a
+//!   stranger to it. So bind `opall` to joins too: it asks for the hosts when the bot itself joins.
 //!
 //! In private messages, for callers who have one of the flags `m` and `n` everywhere. Anyone else gets a NOTICE that
 //! says so, and no change ([`changes_want_a_master`]). An owner is a user with the flag `n`. A caller with `m` alone
@@ -108,6 +134,7 @@ mod channel;
 mod everyone;
 mod full_store;
 mod infos;
+mod keeping;
 mod laws;
 mod lines;
 mod marks;
@@ -126,8 +153,9 @@ pub use crate::full_store::store;
 pub use crate::laws::{
     answers_keep_channels_apart, changes_of_owners_want_an_owner, changes_want_a_master,
     commands_want_an_operator, commands_want_flags, greetings_want_an_info, info_is_of_who_asks,
+    keeping_answers_others, keeping_spares_operators,
 };
 pub use crate::orders::Order;
 pub use crate::proc_name::{EVERY, PROC_COUNT, ProcName};
 pub use crate::promise::Ours;
-pub use crate::rights::{AUTO_OP, AUTO_VOICE, MASTER, OP, OWNER, Requester, VOICE};
+pub use crate::rights::{AUTO_OP, AUTO_VOICE, BOT, FRIEND, MASTER, OP, OWNER, Requester, VOICE};

@@ -5,7 +5,7 @@ ghost use Rattle.eggprocs.specs.Procs.{name_of, code_by};
 use procs::Code;
 
 /// The number of procs.
-pub const PROC_COUNT: usize = 30;
+pub const PROC_COUNT: usize = 34;
 
 /// Every proc, in the order in which [`store`](crate::store) adds them.
 pub const EVERY: [ProcName; PROC_COUNT] = [
@@ -39,6 +39,10 @@ pub const EVERY: [ProcName; PROC_COUNT] = [
     ProcName::Bans,
     ProcName::Seen,
     ProcName::OpAll,
+    ProcName::ProtectOps,
+    ProcName::Bitch,
+    ProcName::Guard,
+    ProcName::EnforceBans,
 ];
 
 /// A proc of the programs. The crate's first page says what each is for.
@@ -104,6 +108,14 @@ pub enum ProcName {
     Seen,
     /// `opall`: gives op and voice to the members of a channel when the bot gets op there.
     OpAll,
+    /// `protectops`: gives op again to an operator from whom somebody takes it.
+    ProtectOps,
+    /// `bitch`: takes op from a member who is to have none, when somebody gives it.
+    Bitch,
+    /// `guard`: removes a ban that hits the bot, an operator or a friend.
+    Guard,
+    /// `enforcebans`: kicks the members whom a ban hits.
+    EnforceBans,
 }
 
 impl ProcName {
@@ -142,6 +154,10 @@ impl ProcName {
             ProcName::Bans => b"bans",
             ProcName::Seen => b"seen",
             ProcName::OpAll => b"opall",
+            ProcName::ProtectOps => b"protectops",
+            ProcName::Bitch => b"bitch",
+            ProcName::Guard => b"guard",
+            ProcName::EnforceBans => b"enforcebans",
         }
     }
 
@@ -180,7 +196,11 @@ impl ProcName {
             | ProcName::Unstick
             | ProcName::Bans
             | ProcName::Seen
-            | ProcName::OpAll => Code::Zero,
+            | ProcName::OpAll
+            | ProcName::ProtectOps
+            | ProcName::Bitch
+            | ProcName::Guard
+            | ProcName::EnforceBans => Code::Zero,
         }
     }
 }

@@ -129,6 +129,7 @@ fn bot_turn<P: Promise, B: Run>(
     let heard = seat.take_heard(alloc, packets, now, pump);
     let mut watcher = NoWatcher::new();
     watcher.began(bot);
+    watcher.note_heard(&heard.packets);
     take_turn(alloc, bot, store, &mut seat.lines, heard, &mut watcher)
 }
 

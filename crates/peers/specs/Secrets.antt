@@ -30,12 +30,12 @@ secret_cause code = secret_cause_in secret_causes code
 abbrev pub without_cr : List ℕ → List ℕ
 without_cr line = if bytes_eq (drop (length line - 1) line) (13 ∷ []) then take (length line - 1) line else line
 
--- the bytes before an LF at this place, without a CR that stands right before it; all bytes if there is no LF
+-- the bytes before an LF at this place, or all bytes if there is no LF, without the CR that ends them, if one does
 abbrev pub line_to : Option ℕ → List ℕ → List ℕ
-line_to None bytes = bytes
+line_to None bytes = without_cr bytes
 line_to (Some end) bytes = without_cr (take end bytes)
 
--- the first line of these bytes, without the LF or CR LF that ends it
+-- the first line of these bytes, without the LF, CR LF or CR that ends it
 abbrev pub secret_line : List ℕ → List ℕ
 secret_line bytes = line_to (position (λ b. b == 10) bytes) bytes
 

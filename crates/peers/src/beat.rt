@@ -80,7 +80,9 @@ fn number_in(bytes: &[u8]) -> u32
     requires { length bytes.now ≡ 4 }
     ensures { to_be_bytes w32 result ≡ bytes.now }
 {
-    u32::from_be_bytes([bytes[0], bytes[1], bytes[2], bytes[3]])
+    let mut four = [0; 4];
+    four.copy_from_slice(bytes);
+    u32::from_be_bytes(four)
 }
 
 // The bytes of which these are the digits; zeros if they are no digits.

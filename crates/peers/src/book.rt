@@ -1,9 +1,10 @@
 // Which folder is which leaf.
-ghost use Rattle.std.specs.Prelude.{◌≡◌, None, IfOk, replicate};
+ghost use Rattle.std.specs.Prelude.{◌≡◌};
 ghost use Rattle.peers.specs.Books.{place_beside};
 
 use crate::book_line::{BookLine, first_line};
 use crate::drawn_number::DrawnNumber;
+use crate::places::empty_places;
 use bytetext::{Failure, NoMemory};
 use std::alloc::Global;
 use std::marker::Model;
@@ -108,7 +109,7 @@ impl Book {
         ensures says { IfOk result (λ book. Says book []) }
     {
         Ok(Book {
-            folders: no_folders(alloc, usize::from(leaves) + 1)?,
+            folders: empty_places(alloc, usize::from(leaves) + 1)?,
             barred: Vec::new(alloc),
         })
     }
@@ -237,15 +238,4 @@ fn place_beside(kept: Option<DrawnNumber>, made: &DrawnNumber) -> Place
         }
         None => Place::Free,
     }
-}
-
-// No folder, for each of `count` leaves.
-fn no_folders(alloc: Global, count: usize) -> Result<Vec<Option<DrawnNumber>>, NoMemory>
-    ensures { IfOk result (λ folders. folders.items ≡ replicate count None) }
-{
-    let mut folders = Vec::new(alloc);
-    for _leaf in 0..count {
-        folders.push(None)?;
-    }
-    Ok(folders)
 }

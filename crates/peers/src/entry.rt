@@ -7,7 +7,7 @@ use std::fmt::Display;
 use std::net::SocketAddr;
 
 // An event that is logged.
-#[derive(Drop)]
+#[derive(Clone, Copy)]
 pub(crate) enum Entry<'a> {
     // A leaf is linked.
     Joined(u16, SocketAddr),
@@ -32,28 +32,33 @@ impl Display for Entry<'_> {
             Entry::LeafGone(leaf, address, gone) => {
                 write!(f, "leaf {leaf} at {address} gone: {gone}")
             }
-            Entry::GuestGone(Some(leaf), address, gone) => {
-                write!(f, "leaf {leaf} at {address} refused: {gone}")
-            }
-            Entry::GuestGone(None, address, gone) => {
-                write!(f, "a connection from {address} closed: {gone}")
-            }
+            Entry::GuestGone(leaf, address, gone) => put_guest(f, leaf, address, gone),
             Entry::Dialled(host, address) => {
-                write!(
-                    f,
-                    "connecting to the hub {} at {address}",
-                    host.escape_bytes()
-                )
+                let host = host.escape_bytes();
+                write!(f, "connecting to the hub {host} at {address}")
             }
             Entry::NotDialled(host, fault, due) => {
+                let host = host.escape_bytes();
                 write!(
                     f,
-                    "not connecting to the hub {}: {fault}; next try at {due}",
-                    host.escape_bytes()
+                    "not connecting to the hub {host}: {fault}; next try at {due}"
                 )
             }
             Entry::Linked(address) => write!(f, "linked to the hub at {address}"),
             Entry::HubGone(gone, due) => write!(f, "hub lost: {gone}; next try at {due}"),
         }
+    }
+}
+
+// A guest's end, and the number of the leaf, if it has shown its code.
+fn put_guest<W: fmt::Write>(
+    f: &mut fmt::Formatter<W>,
+    leaf: Option<u16>,
+    address: SocketAddr,
+    gone: Gone,
+) -> fmt::Result {
+    match leaf {
+        Some(leaf) => write!(f, "leaf {leaf} at {address} refused: {gone}"),
+        None => write!(f, "a connection from {address} closed: {gone}"),
     }
 }

@@ -19,6 +19,7 @@ use crate::inbox::Inbox;
 use crate::links::FIRST_TOKEN;
 use crate::own::Own;
 use crate::picking::is_request;
+use crate::places::empty_places;
 use crate::seat::Seat;
 use crate::stations::HubStation;
 use bytetext::NoMemory;
@@ -133,10 +134,10 @@ impl HubLinks {
         } = station;
         let places = usize::from(leaves) + 1;
         let rights = rights_of(alloc, places, readers.as_slice())?;
-        let seats = no_seats(alloc, places)?;
+        let seats = empty_places(alloc, places)?;
         let doubts = first_doubts(alloc, places, doubt)?;
         let is_doubt_kept = first_doubt(doubts.as_slice()).is_some();
-        let slots = no_slots(alloc, places + MAX_GUESTS)?;
+        let slots = empty_places(alloc, places + MAX_GUESTS)?;
         let inbox = Inbox::new(alloc, places)?;
         match TcpDoor::open(rt, registry, DOOR, address) {
             Ok(door) => Ok(HubLinks {
@@ -287,9 +288,7 @@ fn beat_of(own: &Option<Own>) -> Option<Beat> {
 // What each leaf may do, by its number.
 fn rights_of(alloc: Global, places: usize, readers: &[u16]) -> Result<Vec<LeafRights>, NoMemory> {
     let mut rights = Vec::new(alloc);
-    for _place in 0..places {
-        rights.push(LeafRights::Asks)?;
-    }
+    rights.resize(places, LeafRights::Asks)?;
     for leaf in readers {
         if let Some(right) = rights.get_mut(usize::from(*leaf)) {
             *right = LeafRights::Reads;
@@ -298,46 +297,19 @@ fn rights_of(alloc: Global, places: usize, readers: &[u16]) -> Result<Vec<LeafRi
     Ok(rights)
 }
 
-// Creates `places` empty seats.
-fn no_seats(alloc: Global, places: usize) -> Result<Vec<Option<Seat>>, NoMemory> {
-    let mut seats = Vec::new(alloc);
-    for _place in 0..places {
-        seats.push(None)?;
-    }
-    Ok(seats)
-}
-
 // At most this leaf is in doubt.
 fn first_doubts(
     alloc: Global,
     places: usize,
     doubt: Option<Doubted>,
 ) -> Result<Vec<Option<Doubted>>, NoMemory> {
-    let mut doubts = no_doubts(alloc, places)?;
+    let mut doubts = empty_places(alloc, places)?;
     if let Some(doubted) = doubt {
         if let Some(place) = doubts.get_mut(usize::from(doubted.doubt.leaf)) {
             *place = Some(doubted);
         }
     }
     Ok(doubts)
-}
-
-// No leaf is in doubt.
-fn no_doubts(alloc: Global, places: usize) -> Result<Vec<Option<Doubted>>, NoMemory> {
-    let mut doubts = Vec::new(alloc);
-    for _place in 0..places {
-        doubts.push(None)?;
-    }
-    Ok(doubts)
-}
-
-// Creates `places` tokens that name no connection.
-fn no_slots(alloc: Global, places: usize) -> Result<Vec<Option<Who>>, NoMemory> {
-    let mut slots = Vec::new(alloc);
-    for _place in 0..places {
-        slots.push(None)?;
-    }
-    Ok(slots)
 }
 
 // Whether a guest has shown its code.

@@ -159,6 +159,7 @@ mod nonce;
 mod outbox;
 mod own;
 mod picking;
+mod places;
 mod pulse;
 mod pumps;
 mod queue;

@@ -5,9 +5,6 @@ use bytetext::NoMemory;
 use std::alloc::Global;
 use std::marker::Model;
 
-// An outbox that becomes empty keeps at most this much room.
-const KEPT: usize = 65_536;
-
 // The frames that wait to be sealed, in order. Contracts see their bytes. Those that were sealed stay in front until they
 // are half of all, and are then removed at once: a snapshot of some megabytes goes out in thousands of pieces.
 pub(crate) struct Outbox {
@@ -86,7 +83,7 @@ impl Outbox {
     }
 }
 
-// Removes the first `count` bytes. Gives back the room that a large amount took.
+// Removes the first `count` bytes. If none is left, gives back the room: a hub has an outbox for each leaf, mostly empty.
 fn remove_front(bytes: &mut Vec<u8>, count: usize)
     requires { count ≤ length bytes.old.items }
     ensures { bytes.new.items ≡ drop count bytes.old.items }
@@ -95,6 +92,6 @@ fn remove_front(bytes: &mut Vec<u8>, count: usize)
     bytes.copy_within(count.., 0);
     bytes.truncate(left);
     if left == 0 {
-        bytes.shrink_to(KEPT);
+        bytes.shrink_to_fit();
     }
 }

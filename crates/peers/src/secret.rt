@@ -81,8 +81,8 @@ pub enum Secret {
     },
 }
 
-/// Reads the secret in the first line of the file at `path`. The line has 16 to 200 bytes without its end, which is LF or
-/// CR LF, or the end of the file. A line that begins with `leaf-key ` is that of a leaf's key, `leaf-key N KEY` with 64
+/// Reads the secret in the first line of the file at `path`. The line has 16 to 200 bytes without its end: LF or CR LF, or
+/// the end of the file, where a CR before it does not count. A line that begins with `leaf-key ` is that of a leaf's key, `leaf-key N KEY` with 64
 /// hexadecimal digits; [`leaf_file_line`] makes it. Every other line is the net's secret.
 ///
 /// # Errors
@@ -247,13 +247,13 @@ fn fault_of_code(code: u32) -> SecretFault
     }
 }
 
-// The bytes of the first line, without its LF or CR LF.
+// The bytes of the first line, without its LF, CR LF or CR.
 fn first_line(bytes: &[u8]) -> &[u8]
     ensures { result.now ≡ secret_line bytes.now }
 {
     match line_end(bytes) {
         Some(end) => without_cr(&bytes[..end]),
-        None => bytes,
+        None => without_cr(bytes),
     }
 }
 

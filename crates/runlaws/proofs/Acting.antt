@@ -1,12 +1,13 @@
 -- What each act of a process is among the deeds.
 use Rattle.std.proofs.Common.{◌≡◌, ◌+◌, ◌==◌, ℕ, Bool, true, false, if◌then◌else◌, List, ◌∷◌, ◌++◌, length, slice_get, slice_set, Option, Some, refl, ap, sym, subst, append-nil, eq-eqb, eqb-true}
+use Rattle.sharewire.specs.declared.packet.Packet.{Packet}
 use Rattle.procs.specs.Promises.{Promised}
 use Rattle.botcore.specs.declared.event.BotEvent.{BotEvent}
 use Rattle.botcore.specs.declared.report.Report.{Report}
 use Rattle.botcore.specs.Bots.{Bot}
 use Rattle.botworld.specs.declared.sent.Sent.{Sent}
 use Rattle.botworld.specs.Net.{posted}
-use Rattle.watching.specs.Acts.{Act, Opens, Creates, Began, Told, Made, Forgets, HasNoBot, Begins, IsBotOf, IsKept, EndsStep, May, bot_in}
+use Rattle.watching.specs.Acts.{Act, Opens, Creates, Began, Told, Made, Forgets, Hears, HasNoBot, Begins, IsBotOf, IsKept, EndsStep, May, bot_in}
 use Rattle.processes.specs.Deeds.{Process, Runs, Ended, Net, Made as MadeStep, Opened, WasTold}
 use Rattle.runlaws.specs.Calls.{Doing, Nothing, Opening, Telling, doing}
 use Rattle.runlaws.specs.Folders.{Folder, Does, Happening, HasFiles, Holder, NoneYet, NoneNow, Holds, past_of, files_of, is_holder, holder_after}
@@ -24,6 +25,7 @@ keeps_none_yet folder (Began bot) = refl
 keeps_none_yet folder (Told bot event) = refl
 keeps_none_yet folder (Made report bot) = refl
 keeps_none_yet folder (Forgets bot) = refl
+keeps_none_yet folder (Hears heard) = refl
 
 keeps_none_now : (folder : ℕ) (act : Act) → holder_after folder (Does act) NoneNow ≡ NoneNow
 keeps_none_now folder (Opens x y) = refl
@@ -32,6 +34,7 @@ keeps_none_now folder (Began bot) = refl
 keeps_none_now folder (Told bot event) = refl
 keeps_none_now folder (Made report bot) = refl
 keeps_none_now folder (Forgets bot) = refl
+keeps_none_now folder (Hears heard) = refl
 
 keeps_other : (folder other : ℕ) → (folder == other) ≡ false → (act : Act) → holder_after folder (Does act) (Holds other) ≡ Holds other
 keeps_other folder other e (Opens x y) = refl
@@ -40,6 +43,7 @@ keeps_other folder other e (Began bot) = refl
 keeps_other folder other e (Told bot event) = refl
 keeps_other folder other e (Made report bot) = refl
 keeps_other folder other e (Forgets bot) = ap (λ (b : Bool). if b then NoneNow else Holds other) e
+keeps_other folder other e (Hears heard) = refl
 
 module _ (promised : Promised) (folders : ℕ → Folder) (leaves : ℕ) (first w : Net) (world : List Happening) (folder : ℕ)
     (packets : w.packets ≡ sent_in folders world) (many : length w.processes ≡ leaves + 1) where
@@ -87,6 +91,13 @@ module _ (promised : Promised) (folders : ℕ → Folder) (leaves : ℕ) (first 
     forgets_goes : (bot : Bot) → GoesBy (Forgets bot) true NoneNow
     forgets_goes bot = no_deed promised w number (Grows (Forgets bot)) (Stays (Forgets bot))
         (Stands (Forgets bot) NoneNow) (λ old new same. same) (some_process at)
+
+    hears_goes : (heard : List Packet) (bot : Bot) → bot_in (past_of folder world) ≡ Some bot → GoesBy (Hears heard) true (Holds folder)
+    hears_goes heard bot is =
+        let it = has bot is at in
+        no_deed promised w number (Grows (Hears heard)) (Stays (Hears heard)) (Stands (Hears heard) (Holds folder))
+        (λ old new same. same)
+        (refl, holding_here folder (Does (Hears heard)) world (Lives bot refl is it.runs it.kept))
 
     began_goes : (bot : Bot) → Begins (past_of folder world) bot → IsBotOf (station leaves number) bot → IsKept bot
         → GoesBy (Began bot) true (Holds folder)
@@ -160,6 +171,8 @@ module _ (promised : Promised) (folders : ℕ → Folder) (leaves : ℕ) (first 
         subst (λ (b : Bool). GoesBy (Made report after) b (Holds folder)) (sym (eq-eqb folder folder refl)) (made_goes report after may.0 may.1)
     holder_goes (Forgets bot) may meets =
         subst (both (Forgets bot)) (sym (eq-eqb folder folder refl)) (forgets_goes bot)
+    holder_goes (Hears heard) may meets =
+        subst (λ (b : Bool). GoesBy (Hears heard) b (Holds folder)) (sym (eq-eqb folder folder refl)) (hears_goes heard may.0 may.1)
 
   -- ---- in any folder
 

@@ -6,7 +6,7 @@ use Rattle.botcore.specs.declared.report.Report.{Report}
 use Rattle.botcore.specs.Bots.{Bot}
 use Rattle.botcore.specs.Steps.{TakesStep}
 use Rattle.watching.specs.Openings.{IsOpened}
-use Rattle.watching.specs.Acts.{Act, Opens, Creates, Began, Told, Made, Forgets, Station, HasNoBot, Begins, IsBotOf, EndsStep, bot_in}
+use Rattle.watching.specs.Acts.{Act, Opens, Creates, Began, Told, Made, Forgets, Hears, Station, HasNoBot, Begins, IsBotOf, EndsStep, bot_in}
 use Rattle.runlaws.specs.Calls.{Doing, Nothing, Opening, Creating, Telling, Forgetting, doing}
 
 -- ---- before a bot has begun
@@ -19,6 +19,7 @@ no_bot (Began bot ∷ past) none = absurd none
 no_bot (Told bot event ∷ past) none = absurd none
 no_bot (Made report bot ∷ past) none = absurd none
 no_bot (Forgets bot ∷ past) none = refl
+no_bot (Hears packets ∷ past) none = absurd none
 
 -- it has none, and is in no step
 pub has_none : (past : List Act) (bot : Bot) → HasNoBot past → bot_in past ≡ Some bot → ⊥
@@ -32,6 +33,7 @@ no_step (Began one ∷ past) bot event none is = absurd none
 no_step (Told one other ∷ past) bot event none is = absurd none
 no_step (Made report one ∷ past) bot event none is = absurd none
 no_step (Forgets one ∷ past) bot event none is = cc
+no_step (Hears packets ∷ past) bot event none is = absurd none
 
 -- ---- when a bot begins
 
@@ -49,6 +51,7 @@ begins_opened (Began one ∷ past) bot x y begins is = absurd begins
 begins_opened (Told one event ∷ past) bot x y begins is = absurd begins
 begins_opened (Made report one ∷ past) bot x y begins is = absurd begins
 begins_opened (Forgets one ∷ past) bot x y begins is = absurd begins
+begins_opened (Hears packets ∷ past) bot x y begins is = absurd begins
 
 -- as the bot of this number in a net of so many bots
 pub opened_as : (past : List Act) (bot : Bot) (x y : List ℕ) (station : Station) (bots : ℕ) → Begins past bot
@@ -67,6 +70,7 @@ no_beginning (Began one ∷ past) bot begins is = absurd begins
 no_beginning (Told one event ∷ past) bot begins is = absurd begins
 no_beginning (Made report one ∷ past) bot begins is = absurd begins
 no_beginning (Forgets one ∷ past) bot begins is = absurd begins
+no_beginning (Hears packets ∷ past) bot begins is = absurd begins
 
 pub no_beginning_in_step : (past : List Act) (bot was : Bot) (event : BotEvent) → Begins past bot → doing past ≡ Telling was event → ⊥
 no_beginning_in_step [] bot was event begins is = absurd begins
@@ -76,6 +80,7 @@ no_beginning_in_step (Began one ∷ past) bot was event begins is = absurd begin
 no_beginning_in_step (Told one other ∷ past) bot was event begins is = absurd begins
 no_beginning_in_step (Made report one ∷ past) bot was event begins is = absurd begins
 no_beginning_in_step (Forgets one ∷ past) bot was event begins is = absurd begins
+no_beginning_in_step (Hears packets ∷ past) bot was event begins is = absurd begins
 
 -- ---- when a step ends
 
@@ -97,3 +102,4 @@ module _ (promised : Promised) (names : List (List ℕ)) where
   ends_call (Told was event ∷ past) report after ends = ends
   ends_call (Made other bot ∷ past) report after ends = ends
   ends_call (Forgets bot ∷ past) report after ends = ends
+  ends_call (Hears packets ∷ past) report after ends = ends

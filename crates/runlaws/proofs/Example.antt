@@ -31,7 +31,7 @@ use Rattle.botcore.specs.Bots.{Bot, new_bot}
 use Rattle.botcore.specs.Reports.{answer_report}
 use Rattle.botcore.specs.Steps.{TakesStep}
 use Rattle.watching.specs.Openings.{CrashesIn, IsOpened}
-use Rattle.watching.specs.Acts.{Act, Opens, Creates, Began, Told, Made, IsKept}
+use Rattle.watching.specs.Acts.{Act, Opens, Creates, Began, Told, Made, Hears, IsKept}
 use Rattle.watching.specs.Following.{IsLawful}
 use Rattle.watching.specs.Following.Follows.{so_far, more}
 use Rattle.processes.specs.Deeds.{Process, Runs, Net, IsNew, IsFirst}
@@ -321,6 +321,7 @@ module _ (config : Config) where
         ∷ does 1 (Opens (bytes_with (base_of 1) applied) closed_gate)
         ∷ record { folder = 1; what = Ends (bytes_with (base_of 1) applied) closed_gate }
         ∷ does 1 (Told leaf (Receive packet))
+        ∷ does 1 (Hears (packet ∷ []))
         ∷ does 0 (Made (report_of accepting) hub_grown)
         ∷ does 0 (Told hub_asked Pump)
         ∷ does 0 (Made (report_of queued) hub_asked)
@@ -362,8 +363,11 @@ module _ (config : Config) where
     leaf_begun : (place : ℕ) → Lawful (suc place) (Began leaf ∷ Creates [] [] 0 ∷ [])
     leaf_begun place = more (leaf_created (suc place)) (refl, (refl, refl), leaf_kept)
 
-    leaf_told : Lawful 1 (Told leaf (Receive packet) ∷ Began leaf ∷ Creates [] [] 0 ∷ [])
-    leaf_told = more (leaf_begun 0) (refl, tt)
+    leaf_heard : Lawful 1 (Hears (packet ∷ []) ∷ Began leaf ∷ Creates [] [] 0 ∷ [])
+    leaf_heard = more (leaf_begun 0) (leaf, refl)
+
+    leaf_told : Lawful 1 (Told leaf (Receive packet) ∷ Hears (packet ∷ []) ∷ Began leaf ∷ Creates [] [] 0 ∷ [])
+    leaf_told = more leaf_heard (refl, inl (inl refl))
 
     leaf_opens : Lawful 1 (Opens (bytes_with (base_of 1) applied) closed_gate ∷ [])
     leaf_opens = more so_far tt
@@ -387,18 +391,22 @@ module _ (config : Config) where
             leaf_told,
             (1, 0, refl),
             (
-              hub_has_accepted,
+              leaf_heard,
               tt,
               (
-                hub_pumps,
+                hub_has_accepted,
                 tt,
                 (
-                  hub_was_asked,
+                  hub_pumps,
                   tt,
                   (
-                    hub_told,
+                    hub_was_asked,
                     tt,
-                    (leaf_begun 0, refl, (leaf_created 1, tt, (hub_begun, refl, (hub_created, tt, tt)))),
+                    (
+                      hub_told,
+                      tt,
+                      (leaf_begun 0, refl, (leaf_created 1, tt, (hub_begun, refl, (hub_created, tt, tt)))),
+                    ),
                   ),
                 ),
               ),

@@ -2,7 +2,7 @@
 use Rattle.std.specs.Prelude.{ℕ, List, [], ◌∷◌}
 use Rattle.botcore.specs.declared.event.BotEvent.{BotEvent}
 use Rattle.botcore.specs.Bots.{Bot}
-use Rattle.watching.specs.Acts.{Act, Opens, Creates, Began, Told, Made, Forgets}
+use Rattle.watching.specs.Acts.{Act, Opens, Creates, Began, Told, Made, Forgets, Hears}
 
 -- A call that has not returned. A process that ends now ends in this call.
 pub data Doing : Type 0 where
@@ -20,3 +20,4 @@ doing (Began bot ∷ past) = Nothing
 doing (Told bot event ∷ past) = Telling bot event
 doing (Made report bot ∷ past) = Nothing
 doing (Forgets bot ∷ past) = Forgetting
+doing (Hears packets ∷ past) = Nothing

@@ -4,8 +4,8 @@
 //! (`specs/Folders.antt`):
 //!
 //! - The process does something with its bot. This is an *act* of the crate `watching`: it is about to open the bot from its
-//!   disks, or to create it; it has the bot; it is about to tell the bot an event; the bot has made that step; it is about
-//!   to forget the bot's journal.
+//!   disks, or to create it; it has the bot; it takes packets from its connections; it is about to tell the bot an event;
+//!   the bot has made that step; it is about to forget the bot's journal.
 //! - The process has begun a bot, and the folder *takes the number* of that bot. From then on the bot of this number is the
 //!   one in this folder, until another folder takes the number, or this one creates or forgets its journal.
 //! - The process ends, at whatever moment, and leaves bytes on the folder's two disks.
@@ -22,7 +22,8 @@
 //! The laws rest on premises, which are definitions:
 //!
 //! - Each act is one that its process may do after what it did before (`IsLawful` of `watching`): it tells the bot that it
-//!   has, each step is one that the bot makes, and a crash between two steps leaves on the disks what the bot keeps.
+//!   has, and only packets that it took; each step is one that the bot makes; and a crash between two steps leaves on the
+//!   disks what the bot keeps.
 //! - The network (`IsDelivered`): a bot gets only packets that a report had sent to it. They come whole, but from
 //!   any bot, as often and as late as may be. [`only_what_was_queued_is_read`] says that sealed connections do no more,
 //!   unless somebody forges a record.

@@ -4,7 +4,7 @@ ghost use Rattle.std.specs.List.{AllByRecursion};
 ghost use Rattle.sharelink.specs.Shapes.{HasGoodRecords};
 ghost use Rattle.botcore.specs.declared.report.End.TheVariants.{NoMemory as ends_no_memory};
 ghost use Rattle.turns.specs.Turns.{Turns, IsTold, IsTurnEvent, Stops, AllGood};
-ghost use Rattle.watching.specs.Acts.{MayStep};
+ghost use Rattle.watching.specs.Acts.{IsHeard, MayStep, MayTake};
 ghost use Rattle.watching.specs.Following.{Follows, IsWatched};
 
 use crate::events::events_of;
@@ -26,8 +26,9 @@ pub struct Heard {
     pub connected: bool,
     /// What the server sent.
     pub bytes: Vec<u8>,
-    /// The packets of the other bots, in the order in which the bot takes them, as `Inbox::take` of the crate `peers`
-    /// returns them. The records of a part are well-formed, as those of a decoded packet are.
+    /// The packets of the other bots, in the order in which the bot takes them, as
+    /// [`watched_packets`](crate::watched_packets) returns them. The records of a part are well-formed, as those of a
+    /// decoded packet are.
     pub packets: Vec<Packet>,
     /// The changes that commands ask for, in order. The report of each has its note.
     pub changes: Vec<Change>,
@@ -92,7 +93,8 @@ impl Drop for Told {
 /// them. The step at which memory ran out leaves the bot as it was, except for what happened to its disks. `lines` may
 /// have taken the bytes in or not: connect again, or end the process.
 ///
-/// The call tells `watcher` each step, before it and after it. The watcher must have the bot as it is.
+/// The call tells `watcher` each step, before it and after it. The watcher must have the bot as it is, and have taken each
+/// packet for the process.
 #[tactic(auto, using(watching::proofs::FollowingLemmas::follows_same))]
 pub fn take_turn<P: Promise, D: Disk, B: Run, W: Watcher>(
     alloc: Global,
@@ -103,6 +105,7 @@ pub fn take_turn<P: Promise, D: Disk, B: Run, W: Watcher>(
     watcher: &mut W,
 ) -> Told
     requires good { AllByRecursion HasGoodRecords heard.packets.items }
+    requires heard { AllByRecursion (IsHeard (W.past watcher.old)) heard.packets.items }
     requires watched { IsWatched P.promised store.now W.may (W.past watcher.old) bot.old }
     ensures turn { Turns P.promised store.now bot.old lines.old heard result bot.new lines.new }
     ensures good { AllGood result.reports }
@@ -197,6 +200,7 @@ fn step_one<P: Promise, D: Disk, B: Run, W: Watcher>(
     watcher: &mut W,
 ) -> Result<(), NoMemory>
     requires good { IsTurnEvent event }
+    requires takes { MayTake (W.past watcher.old) event }
     requires watched { IsWatched P.promised store.now W.may (W.past watcher.old) bot.old }
     ensures ok { OnOk result (IsTold P.promised store.now bot.old event stepped.old.lines.items stepped.new.lines.items
         stepped.old.reports.items stepped.new.reports.items bot.new) }

@@ -1,4 +1,5 @@
 pub mod FollowingLemmas
+pub mod HearingLemmas
 pub mod OpeningLemmas
 pub mod StepLemmas
 mod Walks

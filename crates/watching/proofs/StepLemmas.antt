@@ -11,7 +11,7 @@ use Rattle.watching.specs.Following.Follows.{so_far, more}
 use Rattle.watching.proofs.FollowingLemmas.{lets_on}
 
 module _ (promised : Promised) (names : List (List ℕ)) (may : List Act → Act → Type 0) (past : List Act) (bot : Bot)
-    (event : BotEvent) (watched : IsWatched promised names may past bot) (takes : MayTake event) where
+    (event : BotEvent) (watched : IsWatched promised names may past bot) (takes : MayTake past event) where
   -- the watcher may be told of the step
   pub may_tell : may past (Told bot event)
   may_tell = watched.lets past (Told bot event) so_far (watched.bot_is, takes)

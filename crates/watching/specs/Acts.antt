@@ -1,5 +1,6 @@
 -- What a process does with its bot, as its watcher is told, and which of these acts are lawful.
-use Rattle.std.specs.Prelude.{◌≡◌, ◌+◌, ℕ, List, [], ◌∷◌, Option, Some, None}
+use Rattle.std.specs.Prelude.{◌≡◌, ◌⊎◌, ◌+◌, ℕ, List, [], ◌∷◌, Option, Some, None}
+use Rattle.sharewire.specs.declared.packet.Packet.{Packet}
 use Rattle.procs.specs.Promises.{Promised}
 use Rattle.sharelink.specs.BotLinks.{MayLeave}
 use Rattle.botcore.specs.declared.config.Config.{Config}
@@ -26,6 +27,8 @@ pub data Act : Type 0 where
   Made : Report → Bot → Act
   -- the journal of the bot, which is this one, is to be forgotten
   Forgets : Bot → Act
+  -- these packets of other bots are taken from the process's connections
+  Hears : List Packet → Act
 
 -- A past is a list of acts, the newest first. This is the bot of the process after it; none before the bot has begun,
 -- and none in the middle of an act.
@@ -37,6 +40,7 @@ bot_in (Began bot ∷ past) = Some bot
 bot_in (Told bot event ∷ past) = None
 bot_in (Made report bot ∷ past) = Some bot
 bot_in (Forgets bot ∷ past) = None
+bot_in (Hears packets ∷ past) = bot_in past
 
 -- ---- how a bot may begin
 
@@ -58,6 +62,7 @@ HasNoBot (Began bot ∷ past) = ⊥
 HasNoBot (Told bot event ∷ past) = ⊥
 HasNoBot (Made report bot ∷ past) = ⊥
 HasNoBot (Forgets bot ∷ past) = Unit {0}
+HasNoBot (Hears packets ∷ past) = ⊥
 
 -- the requests of the first bot of a process are numbered from 1 on
 abbrev pub NumbersAbove : List Act → ℕ → Type 0
@@ -68,6 +73,7 @@ NumbersAbove (Began bot ∷ past) last = ⊥
 NumbersAbove (Told bot event ∷ past) last = ⊥
 NumbersAbove (Made report bot ∷ past) last = ⊥
 NumbersAbove (Forgets bot ∷ past) last = Unit {0}
+NumbersAbove (Hears packets ∷ past) last = ⊥
 
 -- a bot that was opened is the one that its disks held, and one that was created is new
 abbrev pub Begins : List Act → Bot → Type 0
@@ -78,6 +84,7 @@ Begins (Began other ∷ past) bot = ⊥
 Begins (Told other event ∷ past) bot = ⊥
 Begins (Made report other ∷ past) bot = ⊥
 Begins (Forgets other ∷ past) bot = ⊥
+Begins (Hears packets ∷ past) bot = ⊥
 
 -- the bot is this station's
 abbrev pub IsBotOf : Station → Bot → Type 0
@@ -95,21 +102,41 @@ MayBegin station past (Began bot) = Begins past bot × IsBotOf station bot × Is
 MayBegin station past (Told bot event) = ⊥
 MayBegin station past (Made report bot) = ⊥
 MayBegin station past (Forgets bot) = ⊥
+MayBegin station past (Hears packets) = ⊥
+
+-- ---- what a process has heard
+
+-- the packet is one of these
+abbrev pub IsOneOf : List Packet → Packet → Type 0
+IsOneOf [] packet = ⊥
+IsOneOf (one ∷ packets) packet = (packet ≡ one) ⊎ IsOneOf packets packet
+
+-- the process has taken this packet from its connections since its bot has begun
+abbrev pub IsHeard : List Act → Packet → Type 0
+IsHeard [] packet = ⊥
+IsHeard (Opens first second ∷ past) packet = ⊥
+IsHeard (Creates first second last ∷ past) packet = ⊥
+IsHeard (Began bot ∷ past) packet = ⊥
+IsHeard (Told bot event ∷ past) packet = IsHeard past packet
+IsHeard (Made report bot ∷ past) packet = IsHeard past packet
+IsHeard (Forgets bot ∷ past) packet = ⊥
+IsHeard (Hears packets ∷ past) packet = IsOneOf packets packet ⊎ IsHeard past packet
 
 -- ---- which steps a bot may make
 
--- a process does not restart its bot: another process opens it
-abbrev pub MayTake : BotEvent → Type 0
-MayTake Connect = Unit {0}
-MayTake (Line line) = Unit {0}
-MayTake (Ask change) = Unit {0}
-MayTake Pump = Unit {0}
-MayTake (Receive packet) = Unit {0}
-MayTake (Clock now) = Unit {0}
-MayTake (Bind asked) = Unit {0}
-MayTake (Unbind gone) = Unit {0}
-MayTake Compact = Unit {0}
-MayTake Restart = ⊥
+-- A packet that the bot is told was taken from the process's connections. A process does not restart its bot: another
+-- process opens it.
+abbrev pub MayTake : List Act → BotEvent → Type 0
+MayTake past Connect = Unit {0}
+MayTake past (Line line) = Unit {0}
+MayTake past (Ask change) = Unit {0}
+MayTake past Pump = Unit {0}
+MayTake past (Receive packet) = IsHeard past packet
+MayTake past (Clock now) = Unit {0}
+MayTake past (Bind asked) = Unit {0}
+MayTake past (Unbind gone) = Unit {0}
+MayTake past Compact = Unit {0}
+MayTake past Restart = ⊥
 
 module _ (promised : Promised) (names : List (List ℕ)) where
   -- the step that was begun ends so
@@ -121,15 +148,18 @@ module _ (promised : Promised) (names : List (List ℕ)) where
   EndsStep (Told was event ∷ past) report after = TakesStep promised names was event report after
   EndsStep (Made other bot ∷ past) report after = ⊥
   EndsStep (Forgets bot ∷ past) report after = ⊥
+  EndsStep (Hears packets ∷ past) report after = ⊥
 
-  -- the acts of a step: the bot is the one of the past, and the step is one that it takes with the procs of these names
+  -- The acts of a step: the bot is the one of the past, and the step is one that it takes with the procs of these names.
+  -- Packets are taken between two steps.
   abbrev pub MayStep : List Act → Act → Type 0
   MayStep past (Opens first second) = ⊥
   MayStep past (Creates first second last) = ⊥
   MayStep past (Began bot) = ⊥
-  MayStep past (Told bot event) = (bot_in past ≡ Some bot) × MayTake event
+  MayStep past (Told bot event) = (bot_in past ≡ Some bot) × MayTake past event
   MayStep past (Made report bot) = EndsStep past report bot × IsKept bot
   MayStep past (Forgets bot) = ⊥
+  MayStep past (Hears packets) = (bot : Bot) × (bot_in past ≡ Some bot)
 
   -- ---- all acts
 
@@ -142,3 +172,4 @@ module _ (promised : Promised) (names : List (List ℕ)) where
   May station past (Told bot event) = MayStep past (Told bot event)
   May station past (Made report bot) = MayStep past (Made report bot)
   May station past (Forgets bot) = (bot_in past ≡ Some bot) × (link_version bot.link ≡ 0)
+  May station past (Hears packets) = MayStep past (Hears packets)

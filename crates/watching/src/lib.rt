@@ -9,6 +9,9 @@
 //! are allowed, must therefore prove each act lawful before it tells the watcher. So at each moment all that it has done
 //! is lawful.
 //!
+//! The packets of other bots come from a [`Mailbox`]. The watcher itself takes them there for the process, and a step of a
+//! packet is lawful only if the packet was taken so. So no process can have its bot take a packet that it made up.
+//!
 //! In `specs/`, `Acts` defines the acts and which of them are lawful (`May`). `Openings` says what a bot that was opened
 //! has to do with the bytes of its disks, and what a crash leaves there. `Following` has the words of contracts: a past
 //! that `Follows` another one by lawful acts, a watcher that `Lets` lawful acts happen, and a bot that `IsAt` where its
@@ -24,8 +27,10 @@
 //! ```
 #![tactic(auto)]
 
+mod mailbox;
 mod no_watcher;
 mod watcher;
 
+pub use crate::mailbox::Mailbox;
 pub use crate::no_watcher::NoWatcher;
 pub use crate::watcher::Watcher;

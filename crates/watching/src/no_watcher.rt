@@ -1,12 +1,16 @@
 // The watcher of a program that nobody watches.
 ghost use Rattle.std.specs.Prelude.{◌≡◌, ◌∷◌, [], List};
 ghost use Rattle.std.specs.Borrow.{ftrue};
-ghost use Rattle.watching.specs.Acts.{Act};
+ghost use Rattle.watching.specs.Acts.{Act, Hears};
 
+use crate::mailbox::Mailbox;
 use crate::watcher::Watcher;
 use botcore::{Bot, BotEvent, Report};
+use bytetext::NoMemory;
 use disks::Disk;
 use ircline::Line;
+use sharewire::Packet;
+use std::alloc::Global;
 use std::marker::Model;
 
 /// A watcher that allows every act and does nothing.
@@ -27,6 +31,13 @@ impl NoWatcher {
         ensures { result.acts ≡ [] }
     {
         NoWatcher {}
+    }
+
+    /// Notes that the process has these packets, from wherever it took them.
+    pub fn note_heard(&mut self, packets: &Vec<Packet>)
+        ensures { self.new.acts ≡ Hears packets.now.items ∷ self.old.acts }
+    {
+        *self = self.after(packets, packets, packets);
     }
 
     // The watcher after one more act, which is about `_first`, `_second` and `_third`.
@@ -69,5 +80,15 @@ impl Watcher for NoWatcher {
 
     fn forgets<D: Disk>(&mut self, bot: &Bot<D>) {
         *self = self.after(bot, bot, bot);
+    }
+
+    fn hears<M: Mailbox>(
+        &mut self,
+        alloc: Global,
+        mailbox: &mut M,
+    ) -> Result<Vec<Packet>, NoMemory> {
+        let packets = mailbox.take_packets(alloc)?;
+        *self = self.after(&packets, &packets, &packets);
+        Ok(packets)
     }
 }

@@ -1,11 +1,18 @@
 // Who is told what a process does with its bot.
-ghost use Rattle.std.specs.Prelude.{◌≡◌, ◌∷◌, List};
+ghost use Rattle.std.specs.Prelude.{◌≡◌, ◌∷◌, List, IfOk, OnErr};
+ghost use Rattle.std.specs.List.{AllByRecursion};
+ghost use Rattle.sharewire.specs.declared.packet.Packet.{Packet as Arrived};
+ghost use Rattle.sharelink.specs.Shapes.{HasGoodRecords};
 ghost use Rattle.botcore.specs.declared.event.BotEvent.TheVariants.{Line as line_event};
-ghost use Rattle.watching.specs.Acts.{Act, Opens, Creates, Began, Told, Made, Forgets};
+ghost use Rattle.watching.specs.Acts.{Act, Opens, Creates, Began, Told, Made, Forgets, Hears};
 
+use crate::mailbox::Mailbox;
 use botcore::{Bot, BotEvent, Report};
+use bytetext::NoMemory;
 use disks::Disk;
 use ircline::Line;
+use sharewire::Packet;
+use std::alloc::Global;
 
 /// Is told what a process does with its bot.
 pub trait Watcher {
@@ -50,4 +57,15 @@ pub trait Watcher {
     fn forgets<D: Disk>(&mut self, bot: &Bot<D>)
         requires { may (past self.old) (Forgets bot.now) }
         ensures { past self.new ≡ Forgets bot.now ∷ past self.old };
+
+    /// Takes for the process the packets that wait in `mailbox`, and returns them.
+    ///
+    /// # Errors
+    /// `NoMemory` if an allocation fails.
+    fn hears<M: Mailbox>(&mut self, alloc: Global, mailbox: &mut M) -> Result<Vec<Packet>, NoMemory>
+        requires { (packets : List Arrived) → may (past self.old) (Hears packets) }
+        ensures past { IfOk result (λ packets. past self.new ≡ Hears packets.items ∷ past self.old) }
+        ensures same { OnErr result (past self.new ≡ past self.old) }
+        ensures good { IfOk result (λ packets. AllByRecursion HasGoodRecords packets.items) }
+        ensures gives { IfOk result (λ packets. M.gives mailbox.old packets.items mailbox.new) };
 }

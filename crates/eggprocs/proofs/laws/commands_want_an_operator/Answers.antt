@@ -1,5 +1,6 @@
 use Rattle.eggprocs.specs.declared.proc_name.ProcName.TheVariants as which
 use Rattle.eggprocs.proofs.LawLemmas.{does-nothing, is_from_op-bot, is_from_voice-bot, autoop-bot, op-refused, deop-refused, kick-refused, topic-refused, invite-refused, ban-refused, unban-refused, voice-refused, devoice-refused}
+use Rattle.eggprocs.proofs.KeepingLemmas.{protectops-bot, bitch-bot, guard-bot, enforcebans-bot}
 use Rattle.eggprocs.proofs.laws.commands_want_an_operator.Goals as goal
 
 pub returns-clause-op : goal.returns-clause-op
@@ -31,3 +32,15 @@ returns-clause-ban c = λ call seen denied. does-nothing which.Ban call seen (ba
 
 pub returns-clause-unban : goal.returns-clause-unban
 returns-clause-unban c = λ call seen denied. does-nothing which.Unban call seen (unban-refused call seen (is_from_op-bot call seen denied))
+
+pub returns-clause-protectops : goal.returns-clause-protectops
+returns-clause-protectops c = protectops-bot
+
+pub returns-clause-bitch : goal.returns-clause-bitch
+returns-clause-bitch c = bitch-bot
+
+pub returns-clause-guard : goal.returns-clause-guard
+returns-clause-guard c = guard-bot
+
+pub returns-clause-enforcebans : goal.returns-clause-enforcebans
+returns-clause-enforcebans c = enforcebans-bot

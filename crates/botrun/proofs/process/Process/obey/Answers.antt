@@ -1,5 +1,5 @@
 use Rattle.std.proofs.Common.{Result, Ok, Err, OnOk}
-use Rattle.watching.proofs.FollowingLemmas.{at_same, at_stepped, at_watched}
+use Rattle.watching.proofs.FollowingLemmas.{at_stepped, at_watched}
 use Rattle.botrun.proofs.process.Process.obey.Goals as goal
 
 -- what holds in any case holds where a call succeeds
@@ -16,9 +16,6 @@ unbind-requires g c = record { watched = at_watched _ _ _ _ _ _ c.requires.at }
 pub returns-in-Show : goal.returns-in-Show
 returns-in-Show g c = record { at = always c.show.result c.requires.at }
 
-pub returns-in-Status : goal.returns-in-Status
-returns-in-Status g c = record { at = always c.status.result c.requires.at }
-
 pub returns-in-Bind : goal.returns-in-Bind
 returns-in-Bind g c = record {
   at = always c.bind.result (at_stepped _ _ _ _ _ _ _ _ c.requires.at c.bind.ensures.follows c.bind.ensures.watched);
@@ -30,16 +27,16 @@ returns-in-Unbind g c = record {
 }
 
 pub returns-in-Say : goal.returns-in-Say
-returns-in-Say g c = record { at = always c.say.result (at_same _ _ _ _ _ _ _ c.say.ensures.bot c.requires.at) }
+returns-in-Say g c = record { at = always c.say.result c.requires.at }
 
 pub returns-in-Jump : goal.returns-in-Jump
-returns-in-Jump g c = record { at = always c.jump.result (at_same _ _ _ _ _ _ _ c.jump.ensures.bot c.requires.at) }
+returns-in-Jump g c = record { at = always c.jump.result c.requires.at }
 
 pub returns-in-Renew : goal.returns-in-Renew
-returns-in-Renew g c = record { at = always c.renew.result (at_same _ _ _ _ _ _ _ c.renew.ensures.bot c.requires.at) }
+returns-in-Renew g c = record { at = always c.renew.result c.requires.at }
 
 pub returns-in-Trust : goal.returns-in-Trust
-returns-in-Trust g c = record { at = always c.trust.result (at_same _ _ _ _ _ _ _ c.trust.ensures.bot c.requires.at) }
+returns-in-Trust g c = record { at = always c.trust.result c.requires.at }
 
 pub returns-in-Die : goal.returns-in-Die
-returns-in-Die g c = record { at = always c.die.result (at_same _ _ _ _ _ _ _ c.die.ensures.bot c.requires.at) }
+returns-in-Die g c = record { at = always c.die.result c.requires.at }

@@ -1,0 +1,163 @@
+// Whether somebody answers at an address.
+use crate::verdict::{Bad, Fine, Verdict};
+use bytetext::{Failure, NoMemory};
+use net::{DialFault, DialTokens, Dialled, Dialling, TcpSocket, Watch};
+use settings::Address;
+use std::fs::File;
+use std::io;
+use std::io::ErrorKind;
+use std::net::Net;
+use std::random::RandomSource;
+use std::rt::Files;
+use std::time::Clock;
+use streams::{Given, Stream as _};
+
+// How long a name server has, and then the host, in milliseconds.
+const LIMIT: u64 = 5_000;
+
+// The longest single wait for a socket, in milliseconds.
+const REST: u64 = 500;
+
+// Nothing is tried twice, so any wait serves.
+const LONGEST_WAIT: u16 = 300;
+
+const TOKENS: DialTokens = DialTokens {
+    connection: 1,
+    lookup: 2,
+};
+
+// Looks the host up and connects to it, for at most `LIMIT` each. Sends nothing.
+pub(crate) fn dial_verdict<R: AllocGlobal + Net + Clock + Files<File = File> + RandomSource>(
+    rt: &R,
+    address: &Address,
+) -> Result<Verdict, NoMemory> {
+    match dial(rt, address) {
+        Ok(verdict) => Ok(verdict),
+        Err(Failure::Refused(bad)) => Ok(Verdict::Bad(bad)),
+        Err(Failure::NoMemory) => Err(NoMemory),
+    }
+}
+
+fn dial<R: AllocGlobal + Net + Clock + Files<File = File> + RandomSource>(
+    rt: &R,
+    address: &Address,
+) -> Result<Verdict, Failure<Bad>> {
+    let mut watch = match Watch::new(rt, 16) {
+        Ok(watch) => watch,
+        Err(error) => return Err(untried(&error)),
+    };
+    let Dialled { socket, address } = begin(rt, &mut watch, address)?;
+    let mut socket = socket;
+    match outcome_of(rt, &mut watch, &mut socket)? {
+        Attempt::Made => Ok(Verdict::Fine(Fine::Answers(address))),
+        Attempt::Failed => Err(Failure::Refused(Bad::Refuses(address))),
+        Attempt::Pending => Err(Failure::Refused(Bad::Silent(address))),
+    }
+}
+
+// Looks the host up, and begins a connection.
+fn begin<R: AllocGlobal + Net + Clock + Files<File = File> + RandomSource>(
+    rt: &R,
+    watch: &mut Watch,
+    address: &Address,
+) -> Result<Dialled, Failure<Bad>> {
+    let host = address.host.as_bytes();
+    let mut dialling = Dialling::new(0, LONGEST_WAIT, 1);
+    let end = milliseconds(rt)?.saturating_add(LIMIT);
+    for _ in 0..u64::MAX {
+        let now = milliseconds(rt)?;
+        let steady = now / 1_000;
+        match dialling.connect(rt, watch.registry(), TOKENS, host, address.port, steady) {
+            Ok(Some(dialled)) => return Ok(dialled),
+            Ok(None) => {}
+            Err(Failure::Refused(fault)) => {
+                return Err(Failure::Refused(bad_of(fault)));
+            }
+            Err(Failure::NoMemory) => return Err(Failure::NoMemory),
+        }
+        if now >= end {
+            break;
+        }
+        rest(watch, end - now)?;
+    }
+    Err(Failure::Refused(Bad::Host(DialFault::Unanswered)))
+}
+
+// Why no connection can even begin.
+fn bad_of(fault: DialFault) -> Bad {
+    match fault {
+        DialFault::Unreached => Bad::NoWay,
+        DialFault::Unreadable | DialFault::Unknown | DialFault::Unanswered => Bad::Host(fault),
+    }
+}
+
+// What has become of a connection.
+#[derive(Clone, Copy)]
+enum Attempt {
+    // It is still being made.
+    Pending,
+    Made,
+    Failed,
+}
+
+// Waits until the connection is made or has failed, at most `LIMIT`, and returns what has become of it.
+fn outcome_of<R: Clock>(
+    rt: &R,
+    watch: &mut Watch,
+    socket: &mut TcpSocket,
+) -> Result<Attempt, Failure<Bad>> {
+    let end = milliseconds(rt)?.saturating_add(LIMIT);
+    for _ in 0..u64::MAX {
+        match attempt_of(socket) {
+            Attempt::Pending => {}
+            ended => return Ok(ended),
+        }
+        let now = milliseconds(rt)?;
+        if now >= end {
+            break;
+        }
+        rest(watch, end - now)?;
+    }
+    Ok(Attempt::Pending)
+}
+
+fn attempt_of(socket: &mut TcpSocket) -> Attempt {
+    if socket.other_port().is_some() {
+        return Attempt::Made;
+    }
+    let mut piece = [0; 1];
+    match socket.give(&mut piece) {
+        Given::Stall => Attempt::Pending,
+        Given::Fault => Attempt::Failed,
+        Given::Bytes(_) | Given::End => Attempt::Made,
+    }
+}
+
+// Waits for a socket, at most so many milliseconds.
+fn rest(watch: &mut Watch, most: u64) -> Result<(), Failure<Bad>> {
+    match watch.wait(most.min(REST)) {
+        Ok(()) => Ok(()),
+        Err(error) => Err(untried(&error)),
+    }
+}
+
+// Milliseconds of the monotonic clock, which nobody sets.
+fn milliseconds<R: Clock>(rt: &R) -> Result<u64, Failure<Bad>> {
+    match rt.monotonic() {
+        Ok(passed) => Ok(
+            passed
+                .as_secs()
+                .saturating_mul(1_000)
+                .saturating_add(u64::from(passed.subsec_millis())),
+        ),
+        Err(error) => Err(untried(&error)),
+    }
+}
+
+// What it means that the system gives no socket or no time.
+fn untried(error: &io::Error) -> Failure<Bad> {
+    match error.kind() {
+        ErrorKind::OutOfMemory => Failure::NoMemory,
+        _ => Failure::Refused(Bad::Untried),
+    }
+}

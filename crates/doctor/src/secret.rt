@@ -1,0 +1,56 @@
+// The file of the net's secret, or of a leaf's key.
+ghost use Rattle.std.specs.Prelude.{◌≡◌};
+ghost use Rattle.doctor.specs.Secrets.{verdict_of_secret};
+
+use crate::fault::DoctorFault;
+use crate::modes::{FileMode, Seen, mode_to_give};
+use crate::report::Report;
+use crate::subject::Subject;
+use crate::verdict::{Bad, Fine, Note, Verdict};
+use peers::{Secret, SecretFault, key_of};
+use std::fs::File;
+use std::rt::Files;
+use std::{fs, str};
+
+// Looks at the file `name`, for the bot of this number in its net, and tells what it finds.
+pub(crate) fn look_at_secret<R: Print + Files<File = File>>(
+    rt: &R,
+    report: &mut Report,
+    name: &[u8],
+    number: u16,
+) -> Result<(), DoctorFault> {
+    let secret = Subject::Secret(name);
+    let Ok(path) = str::from_utf8(name) else {
+        let fault = Bad::Secret(SecretFault::Unreadable);
+        return report.tell(rt, secret, Verdict::Bad(fault));
+    };
+    report.tell(rt, secret, verdict_of_secret(number, key_of(rt, path)))?;
+    match open_mode(rt, path) {
+        Some(mode) => report.tell(rt, secret, Verdict::Bad(Bad::OpenSecret(mode))),
+        None => Ok(()),
+    }
+}
+
+// Whether the bot of this number in its net can use what was read.
+fn verdict_of_secret(number: u16, found: Result<Secret, SecretFault>) -> Verdict
+    ensures { result ≡ verdict_of_secret number found }
+{
+    match found {
+        Err(fault) => Verdict::Bad(Bad::Secret(fault)),
+        Ok(Secret::Net(_)) if number == 0 => Verdict::Fine(Fine::Secret),
+        Ok(Secret::Net(_)) => Verdict::Note(Note::NetsSecret(number)),
+        Ok(Secret::Leaf { leaf: _, key: _ }) if number == 0 => {
+            Verdict::Bad(Bad::Secret(SecretFault::LeafKey))
+        }
+        Ok(Secret::Leaf { leaf, key: _ }) if leaf == number => Verdict::Fine(Fine::Secret),
+        Ok(Secret::Leaf { leaf: _, key: _ }) => Verdict::Bad(Bad::Secret(SecretFault::OtherLeaf)),
+    }
+}
+
+// The mode that the file at `path` is to get, if others may read it.
+pub(crate) fn open_mode<R: Files>(rt: &R, path: &str) -> Option<FileMode> {
+    match fs::metadata(rt, path) {
+        Ok(found) => mode_to_give(Seen::of(&found)),
+        Err(_) => None,
+    }
+}

@@ -1,0 +1,36 @@
+// What was looked at.
+use serverlink::{Shown, put};
+use settings::Address;
+use std::fmt;
+use std::fmt::Display;
+
+// What was looked at: the front of a line.
+#[derive(Clone, Copy)]
+pub(crate) enum Subject<'a> {
+    Config(&'a [u8]),
+    Folder(&'a [u8]),
+    Files,
+    Secret(&'a [u8]),
+    Server(&'a Address),
+    Hub(&'a Address),
+    Listen(&'a Address),
+}
+
+impl Display for Subject<'_> {
+    fn fmt<W: fmt::Write>(&self, f: &mut fmt::Formatter<W>) -> fmt::Result {
+        match *self {
+            Subject::Config(name) => put(f, "configuration ", &Shown(name)),
+            Subject::Folder(name) => put(f, "folder ", &Shown(name)),
+            Subject::Files => f.write_str("the limit of open files"),
+            Subject::Secret(name) => put(f, "secret ", &Shown(name)),
+            Subject::Server(address) => at(f, "server ", address),
+            Subject::Hub(address) => at(f, "hub ", address),
+            Subject::Listen(address) => at(f, "listen ", address),
+        }
+    }
+}
+
+fn at<W: fmt::Write>(f: &mut fmt::Formatter<W>, word: &str, address: &Address) -> fmt::Result {
+    put(f, word, &Shown(address.host.as_bytes()))?;
+    put(f, " ", &address.port)
+}

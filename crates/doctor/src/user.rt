@@ -1,0 +1,69 @@
+// Who this process is.
+use crate::modes::{Seen, may_make};
+use crate::words::{has_number, number_after};
+use bytetext::NoMemory;
+use std::fs::File;
+use std::io::ErrorKind;
+use std::rt::Files;
+use streams::{Duplex, ReadError, read_up_to};
+
+// The most bytes of a text of the system that are read.
+const MAX_TEXT: usize = 65_536;
+
+// The user of this process, and what the system says of the process.
+pub(crate) struct User {
+    pub(crate) number: u64,
+    status: Vec<u8>,
+}
+
+// By hand, so that this is proved once, and not in each function in which one ends.
+impl Drop for User {
+    fn drop(self) {
+        let User {
+            number: _,
+            status: _,
+        } = self;
+    }
+}
+
+impl User {
+    // Returns who this process is, or `None` if the system does not say it.
+    pub(crate) fn of_process<R: AllocGlobal + Files<File = File>>(
+        rt: &R,
+    ) -> Result<Option<User>, NoMemory> {
+        let status = text_of(rt, "/proc/self/status")?;
+        match number_after(status.as_slice(), b"Uid:") {
+            Some(number) => Ok(Some(User { number, status })),
+            None => Ok(None),
+        }
+    }
+
+    // Returns whether the user may make a folder in `folder`, as far as its mode says it.
+    pub(crate) fn may_make_in(&self, folder: Seen) -> bool {
+        let group = u64::from(folder.group);
+        let status = self.status.as_slice();
+        let is_member = number_after(status, b"Gid:") == Some(group)
+            || has_number(status, b"Groups:", group);
+        may_make(self.number, is_member, folder)
+    }
+}
+
+// Returns the text of a file of the system, and nothing if it can't be read.
+pub(crate) fn text_of<R: AllocGlobal + Files<File = File>>(
+    rt: &R,
+    path: &str,
+) -> Result<Vec<u8>, NoMemory> {
+    let file = match File::open(rt, path) {
+        Ok(file) => file,
+        Err(error) => match error.kind() {
+            ErrorKind::OutOfMemory => return Err(NoMemory),
+            _ => return Ok(Vec::new(rt.alloc())),
+        },
+    };
+    let mut stream = Duplex::new(file, Vec::new(rt.alloc()));
+    match read_up_to(rt.alloc(), &mut stream, MAX_TEXT) {
+        Ok(text) => Ok(text),
+        Err(ReadError::Fault) => Ok(Vec::new(rt.alloc())),
+        Err(ReadError::NoMemory) => Err(NoMemory),
+    }
+}
