@@ -1,3 +1,4 @@
 mod Adding
 pub mod TakingLemmas
 mod OwnLemmas
+mod QuietLemmas

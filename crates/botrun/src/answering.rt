@@ -1,6 +1,8 @@
 // What a turn's reports mean for the other bots, and for those who asked for changes.
 ghost use Rattle.std.specs.Prelude.{◌≡◌, ◌++◌, OnOk};
 ghost use Rattle.sharelink.specs.Shapes.{AreGood};
+ghost use Rattle.watching.specs.Acts.{sent_by};
+ghost use Rattle.watching.specs.Following.{LetsSend, after_sends};
 ghost use Rattle.botrun.specs.Askers.{admin_if, noted, proc_askers, settled};
 
 use crate::admins::Admins;
@@ -15,30 +17,58 @@ use botcore::{End, Note, Refusal, Report};
 use bytetext::NoMemory;
 use net::Log;
 use serverlink::IrcConnection;
-use sharelink::LinkFault;
+use sharelink::{LinkFault, Outgoing};
+use std::alloc::Global;
+use watching::Watcher;
 
 impl Others {
-    // Queues the packets of a step for the other bots, in order, and notes the changes that the step asked for. A leaf
-    // decides from the note of the link when to say hello.
-    pub(crate) fn pass<R: AllocGlobal>(
+    // Has `watcher` queue `packets` for the other bots, in order.
+    pub(crate) fn send_all<W: Watcher>(
+        &mut self,
+        alloc: Global,
+        packets: &[Outgoing],
+        now: u64,
+        watcher: &mut W,
+    ) -> Result<(), NoMemory>
+        requires good { AreGood packets.now }
+        requires lets { LetsSend W.may (W.past watcher.old) packets.now }
+        requires told { self.old.mail.account.told ≡ sent_by (W.past watcher.old) }
+        ensures past { OnOk result (W.past watcher.new ≡ after_sends packets.now (W.past watcher.old)) }
+        ensures told { OnOk result (self.new.mail.account.told ≡ sent_by (W.past watcher.new)) }
+        ensures asks { OnOk result (self.new.asks ≡ self.old.asks) }
+    {
+        let mut rest = packets;
+        while let Some((outgoing, behind)) = rest.split_first() {
+            watcher.sends(alloc, self, outgoing, now)?;
+            rest = behind;
+        }
+        Ok(())
+    }
+
+    // Has `watcher` queue the packets of a step for the other bots, in order, and notes the changes that the step asked
+    // for. A leaf decides from the note of the link when to say hello.
+    pub(crate) fn pass<R: AllocGlobal, W: Watcher>(
         &mut self,
         rt: &R,
         log: &mut Log,
         report: &Report,
         now: u64,
+        watcher: &mut W,
     ) -> Result<(), NoMemory>
         requires good { AreGood report.now.packets }
+        requires lets { LetsSend W.may (W.past watcher.old) report.now.packets }
+        requires told { self.old.mail.account.told ≡ sent_by (W.past watcher.old) }
+        ensures past { OnOk result (W.past watcher.new ≡ after_sends report.now.packets (W.past watcher.old)) }
+        ensures told { OnOk result (self.new.mail.account.told ≡ sent_by (W.past watcher.new)) }
         ensures asks { OnOk result (self.new.asks.askers.items
             ≡ noted self.old.asks.asker report.now.note (self.old.asks.askers.items ++ proc_askers report.now)) }
         ensures asker { OnOk result (self.new.asks.asker ≡ self.old.asks.asker) }
     {
-        for outgoing in report.packets.as_slice() {
-            self.links.tell(rt.alloc(), outgoing, now)?;
-        }
+        self.send_all(rt.alloc(), report.packets.as_slice(), now, watcher)?;
         let count = self.asks.len();
         self.asks.put_procs(rt.alloc(), report)?;
         if self.asks.len() > count {
-            self.links.ask();
+            self.mail.links.ask();
         }
         log_layout(log, report.end, now);
         let Some(Note::Link(note)) = &report.note else {
@@ -46,7 +76,7 @@ impl Others {
         };
         // Whether more changes wait than are out.
         let more = self.asks.len() > requests_in(report.packets.as_slice());
-        self.links.note(note, more);
+        self.mail.links.note(note, more);
         if let sharelink::LinkNote::Queued = note {
             let asker = admin_if(self.asks.asker);
             self.asks.put(asker)?;
@@ -69,10 +99,11 @@ impl Others {
         ensures asks { OnOk result (self.new.asks.askers.items
             ≡ settled settles outcome self.old.asks.askers.items) }
         ensures asker { OnOk result (self.new.asks.asker ≡ self.old.asks.asker) }
+        ensures mail { self.new.mail ≡ self.old.mail }
         ensures server { uplink.new.session ≡ uplink.old.session }
     {
         let is_obeying = self.asks.asker.is_some();
-        if settles || !self.links.is_leaf() {
+        if settles || !self.mail.links.is_leaf() {
             log_outcome(log, outcome, is_obeying, now);
         }
         if !settles {

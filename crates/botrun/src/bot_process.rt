@@ -1,8 +1,8 @@
 // A bot's process, from its start to its end.
-ghost use Rattle.std.specs.Prelude.{◌≡◌, ◌<◌, ◌∷◌, [], IfOk, IfSome, length};
+ghost use Rattle.std.specs.Prelude.{◌≡◌, ◌<◌, ◌∷◌, [], IfOk, IfSome, OnOk, length};
 ghost use Rattle.bytetext.specs.declared.moment.TheConstants.{MOMENTS_END};
-ghost use Rattle.watching.specs.Acts.{Forgets, MayBegin, MayStep, NumbersAbove};
-ghost use Rattle.watching.specs.Following.{Allows, Follows, HasBegun, IsAt, IsWatched, Lets};
+ghost use Rattle.watching.specs.Acts.{Forgets, MayBegin, NumbersAbove};
+ghost use Rattle.watching.specs.Following.{Allows, HasBegun, IsAt, IsReported, IsSettled, IsUp, IsWatched, Lets};
 ghost use Rattle.botrun.specs.Renewals.{HasNoRecords};
 ghost use Rattle.botrun.specs.Stations.{IsKnownWhereWanted, IsLinkedAs};
 ghost use Rattle.botrun.specs.Watched.{station_of};
@@ -13,13 +13,14 @@ use crate::checking::check;
 use crate::ending::{RunError, of_folder};
 use crate::entry::Entry;
 use crate::kept_sum::KeptSum;
-use crate::netting::{count_out, is_nets, links_of, secret_of};
+use crate::netting::{is_nets, links_of, requests_in, secret_of};
 use crate::others::Others;
 use crate::process::{Process, Turned};
 use crate::seconds::Seconds;
 use crate::space::Space;
 use crate::starting::{bind_all, bot_of, folder_of, forget_journal};
 use crate::sums::Sums;
+use botcore::{BotEvent, End};
 use botfolder::BotFolder;
 use ircline::LineReader;
 use net::{Log, Timeline, Watch};
@@ -33,6 +34,7 @@ use std::net::Net;
 use std::random::RandomSource;
 use std::rt::Files;
 use std::time::Clock;
+use turns::watched_step;
 use watching::Watcher;
 
 // The most events that one wait reports.
@@ -56,7 +58,9 @@ const EVENTS: usize = 64;
 /// The call tells `watcher` each act of the process with its bot: before the act, and after it. It knows no more of the
 /// watcher than that it allows lawful acts ([`watching`]). So whatever the process has done, at whatever moment somebody
 /// kills it, is lawful: it opens the bot from what its disks hold, or creates it, and then makes only steps that the bot
-/// takes, each from the bot that the step before has left.
+/// takes, each from the bot that the step before has left. It queues for the other bots what the bot has reported for
+/// them, in order, each packet once and to the bot that the report names. Before it waits again, it has queued all, and
+/// has told the bot the time.
 pub fn run<R, P: Promise, B: Run, W: Watcher>(
     rt: &R,
     store: &ProcStore<P, B>,
@@ -102,8 +106,8 @@ where
     for _life in 0..u64::MAX {
         let mut process = begin(rt, &watch, folder, settings, secret, last, watcher)?;
         bind_all(rt.alloc(), &mut process.bot, store, settings, watcher)?;
-        look_back(rt.alloc(), &mut process, store, watcher)?;
         let up = timeline.read_clocks(rt)?;
+        look_back(rt.alloc(), &mut process, store, up, watcher)?;
         log.note(up, &Entry::Up(process.bot.version()));
         process.space.tell_start(log, up);
         match make_turns(
@@ -167,7 +171,8 @@ fn make_turns<R, P: Promise, B: Run, W: Watcher>(
 ) -> Result<Option<u32>, RunError>
 where
     R: AllocGlobal + Net + Clock + Files<File = File> + Print + RandomSource,
-    requires at { IsAt P.promised store.now (station_of settings.now) W.may (W.past watcher.old) process.old.bot }
+    requires up { IsUp P.promised store.now (station_of settings.now) W.may (W.past watcher.old) process.old.bot
+        process.old.others.mail.account.told }
     // A bot with records never begins again.
     ensures again { IfOk result (λ above. IfSome above (λ _. HasNoRecords process.new.bot)) }
     ensures at { IfOk result (λ _.
@@ -176,6 +181,7 @@ where
     let mut turned = Turned::Busy;
     for _turn in 0..u64::MAX {
         log.flush(rt);
+        watcher.waits();
         let seconds = wait(rt, watch, timeline, turned)?;
         let is_awake = turned == Turned::Busy || !watch.tokens().is_empty();
         process.space.look_if_due(log, is_awake, seconds);
@@ -212,7 +218,8 @@ where
     requires known { IsKnownWhereWanted settings.now.station secret }
     requires lets { Lets (MayBegin (station_of settings.now)) W.may (W.past watcher.old) }
     requires numbers { NumbersAbove (W.past watcher.old) last }
-    ensures station { IfOk result (λ process. IsLinkedAs settings.now.station process.others.links) }
+    ensures station { IfOk result (λ process. IsLinkedAs settings.now.station process.others.mail.links) }
+    ensures told { IfOk result (λ process. process.others.mail.account.told ≡ []) }
     ensures begun { IfOk result (λ process.
         HasBegun (station_of settings.now) (W.past watcher.old) (W.past watcher.new) process.bot) }
 {
@@ -269,23 +276,30 @@ fn space_of<R: AllocGlobal + Files<File = File>>(
     }
 }
 
-// Notes the changes of an earlier run that are out: they are answered before all that are asked for in this one.
-#[tactic(auto, using(watching::proofs::FollowingLemmas::follows_same))]
+// At a leaf, notes the changes of an earlier run that are out: they are answered before all that are asked for in this
+// one. A pump sends each of them again, and nothing else waits yet.
 fn look_back<P: Promise, B: Run, W: Watcher>(
     alloc: Global,
     process: &mut Process,
     store: &ProcStore<P, B>,
+    now: u64,
     watcher: &mut W,
 ) -> Result<(), RunError>
     requires watched { IsWatched P.promised store.now W.may (W.past watcher.old) process.old.bot }
-    ensures follows { Follows (MayStep P.promised store.now) (W.past watcher.old) (W.past watcher.new) }
-    ensures watched { IsWatched P.promised store.now W.may (W.past watcher.new) process.new.bot }
+    requires settled { IsSettled (W.past watcher.old) process.old.others.mail.account.told }
+    ensures { OnOk result (IsReported P.promised store.now W.may (W.past watcher.old) (W.past watcher.new) process.new.bot
+        process.new.others.mail.account.told) }
 {
-    if process.others.links.is_leaf() {
-        let count = count_out(alloc, &mut process.bot, store, watcher)?;
-        process.others.asks.put_many(count)?;
+    if !process.others.mail.links.is_leaf() {
+        return Ok(());
     }
-    Ok(())
+    let report = watched_step(alloc, &mut process.bot, store, BotEvent::Pump, watcher);
+    let packets = report.packets.as_slice();
+    process.others.send_all(alloc, packets, now, watcher)?;
+    match report.end {
+        End::NoMemory => Err(RunError::NoMemory),
+        End::Done | End::Refused(_) => Ok(process.others.asks.put_many(requests_in(packets))?),
+    }
 }
 
 // Waits until there may be something to do: not at all if there may be more at once, and at most until the next second.

@@ -1,10 +1,8 @@
 // What a bot does for an admin, and how it answers.
 ghost use Rattle.std.specs.Prelude.{◌≡◌, ◌<◌, OnOk};
 ghost use Rattle.bytetext.specs.declared.moment.TheConstants.{MOMENTS_END};
-ghost use Rattle.botcore.specs.Steps.{IsGoodEvent};
-ghost use Rattle.watching.specs.Acts.{MayStep, MayTake};
-ghost use Rattle.watching.specs.Following.{Follows, IsAt, IsWatched};
-ghost use Rattle.botrun.specs.Watched.{station_of};
+ghost use Rattle.watching.specs.Following.{IsUp, IsWatched, StepsQuietly};
+ghost use Rattle.botrun.specs.Watched.{IsOfBinds, station_of};
 
 use crate::answers::{looseness_in, of_asked, of_bind, of_change, of_no_bind};
 use crate::checking::{new_bind, old_bind};
@@ -40,9 +38,11 @@ impl Process {
         now: u64,
         watcher: &mut W,
     ) -> Result<Vec<u8>, RunError>
-        requires at { IsAt P.promised store.now (station_of settings.now) W.may (W.past watcher.old) self.old.bot }
-        ensures at { OnOk result
-            (IsAt P.promised store.now (station_of settings.now) W.may (W.past watcher.new) self.new.bot) }
+        requires up { IsUp P.promised store.now (station_of settings.now) W.may (W.past watcher.old) self.old.bot
+            self.old.others.mail.account.told }
+        ensures up { OnOk result
+            (IsUp P.promised store.now (station_of settings.now) W.may (W.past watcher.new) self.new.bot
+            self.new.others.mail.account.told) }
     {
         let looseness = looseness_in(&change);
         let changes = vec![in rt.alloc(); change]?;
@@ -59,9 +59,11 @@ impl Process {
         now: u64,
         watcher: &mut W,
     ) -> Result<Vec<u8>, RunError>
-        requires at { IsAt P.promised store.now (station_of settings.now) W.may (W.past watcher.old) self.old.bot }
-        ensures at { OnOk result
-            (IsAt P.promised store.now (station_of settings.now) W.may (W.past watcher.new) self.new.bot) }
+        requires up { IsUp P.promised store.now (station_of settings.now) W.may (W.past watcher.old) self.old.bot
+            self.old.others.mail.account.told }
+        ensures up { OnOk result
+            (IsUp P.promised store.now (station_of settings.now) W.may (W.past watcher.new) self.new.bot
+            self.new.others.mail.account.told) }
     {
         match self.compact(rt, log, store, settings, now, watcher)? {
             Outcome::Nothing => Ok(Vec::from_slice(rt.alloc(), b"compacted\n")?),
@@ -89,7 +91,6 @@ pub(crate) fn show(
 }
 
 // Makes a bind of `bot`, which lasts until the bot ends.
-#[tactic(auto, using(watching::proofs::FollowingLemmas::follows_same))]
 pub(crate) fn bind<P: Promise, B: Run, W: Watcher>(
     alloc: Global,
     bot: &mut Bot<FileDisk>,
@@ -98,8 +99,7 @@ pub(crate) fn bind<P: Promise, B: Run, W: Watcher>(
     watcher: &mut W,
 ) -> Result<Vec<u8>, RunError>
     requires watched { IsWatched P.promised store.now W.may (W.past watcher.old) bot.old }
-    ensures follows { Follows (MayStep P.promised store.now) (W.past watcher.old) (W.past watcher.new) }
-    ensures watched { IsWatched P.promised store.now W.may (W.past watcher.new) bot.new }
+    ensures { StepsQuietly P.promised store.now W.may (W.past watcher.old) (W.past watcher.new) bot.new }
 {
     match new_bind(alloc, store, words) {
         Ok(asked) => step_bind(alloc, bot, store, BotEvent::Bind(asked), watcher),
@@ -108,7 +108,6 @@ pub(crate) fn bind<P: Promise, B: Run, W: Watcher>(
 }
 
 // Removes a bind of `bot`.
-#[tactic(auto, using(watching::proofs::FollowingLemmas::follows_same))]
 pub(crate) fn unbind<P: Promise, B: Run, W: Watcher>(
     alloc: Global,
     bot: &mut Bot<FileDisk>,
@@ -117,8 +116,7 @@ pub(crate) fn unbind<P: Promise, B: Run, W: Watcher>(
     watcher: &mut W,
 ) -> Result<Vec<u8>, RunError>
     requires watched { IsWatched P.promised store.now W.may (W.past watcher.old) bot.old }
-    ensures follows { Follows (MayStep P.promised store.now) (W.past watcher.old) (W.past watcher.new) }
-    ensures watched { IsWatched P.promised store.now W.may (W.past watcher.new) bot.new }
+    ensures { StepsQuietly P.promised store.now W.may (W.past watcher.old) (W.past watcher.new) bot.new }
 {
     match old_bind(words) {
         Ok(gone) => step_bind(alloc, bot, store, BotEvent::Unbind(gone), watcher),
@@ -126,6 +124,7 @@ pub(crate) fn unbind<P: Promise, B: Run, W: Watcher>(
     }
 }
 
+// Makes or removes a bind, which says nothing to the other bots.
 fn step_bind<P: Promise, B: Run, W: Watcher>(
     alloc: Global,
     bot: &mut Bot<FileDisk>,
@@ -133,11 +132,9 @@ fn step_bind<P: Promise, B: Run, W: Watcher>(
     event: BotEvent,
     watcher: &mut W,
 ) -> Result<Vec<u8>, RunError>
-    requires good { IsGoodEvent event }
-    requires takes { MayTake (W.past watcher.old) event }
+    requires bind { IsOfBinds event }
     requires watched { IsWatched P.promised store.now W.may (W.past watcher.old) bot.old }
-    ensures follows { Follows (MayStep P.promised store.now) (W.past watcher.old) (W.past watcher.new) }
-    ensures watched { IsWatched P.promised store.now W.may (W.past watcher.new) bot.new }
+    ensures { StepsQuietly P.promised store.now W.may (W.past watcher.old) (W.past watcher.new) bot.new }
 {
     let report = watched_step(alloc, bot, store, event, watcher);
     Ok(of_bind(alloc, &report)?)

@@ -1,21 +1,16 @@
 // Which net a bot belongs to, and how it is connected to the others.
 ghost use Rattle.std.specs.Prelude.{◌≡◌, ◌<◌, IfOk, count_by, map};
-ghost use Rattle.watching.specs.Acts.{MayStep};
-ghost use Rattle.watching.specs.Following.{Follows, IsWatched};
 ghost use Rattle.botrun.specs.Askers.{is_request};
 ghost use Rattle.botrun.specs.Stations.{IsKnownWhereWanted, IsLinkedAs, own_key};
 
 use crate::ending::{RunError, of_folder};
-use botcore::{Bot, BotEvent, End};
 use botfolder::BotFolder;
 use bytetext::{Failure, NoMemory};
-use disks::FileDisk;
 use net::{DoorFault, Registry, literal};
 use peers::{
     Book, Doubted, DrawnNumber, HubConnection, HubLinks, HubStation, LeafStation, Links,
     ListenFault, Secret, SecretFault, doubt_in, key_of, leaf_key,
 };
-use procs::{ProcStore, Promise, Run};
 use sealing::Key;
 use settings::{Settings, Station};
 use sharelink::Outgoing;
@@ -26,8 +21,6 @@ use std::net::{Net, SocketAddr};
 use std::random::RandomSource;
 use std::rt::Files;
 use std::str;
-use turns::watched_step;
-use watching::Watcher;
 
 // Prepares the folder of a new bot: draws the number of the folder, unless it keeps one. A bot with the number 0 draws the
 // number of its net, and a leaf forgets an earlier one.
@@ -301,25 +294,6 @@ fn listen_address(settings: &Settings) -> Option<SocketAddr> {
     match &settings.listen {
         Some(address) => literal(address.host.as_bytes(), address.port),
         None => None,
-    }
-}
-
-// Returns the number of changes from an earlier run of a leaf that are out and still to be answered. A pump sends each
-// of them again, and nothing else waits yet.
-pub(crate) fn count_out<P: Promise, B: Run, W: Watcher>(
-    alloc: Global,
-    bot: &mut Bot<FileDisk>,
-    store: &ProcStore<P, B>,
-    watcher: &mut W,
-) -> Result<usize, RunError>
-    requires watched { IsWatched P.promised store.now W.may (W.past watcher.old) bot.old }
-    ensures follows { Follows (MayStep P.promised store.now) (W.past watcher.old) (W.past watcher.new) }
-    ensures watched { IsWatched P.promised store.now W.may (W.past watcher.new) bot.new }
-{
-    let report = watched_step(alloc, bot, store, BotEvent::Pump, watcher);
-    match report.end {
-        End::NoMemory => Err(RunError::NoMemory),
-        End::Done | End::Refused(_) => Ok(requests_in(report.packets.as_slice())),
     }
 }
 

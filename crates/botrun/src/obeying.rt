@@ -1,7 +1,7 @@
 // The commands of admins.
 ghost use Rattle.std.specs.Prelude.{◌<◌, OnOk};
 ghost use Rattle.bytetext.specs.declared.moment.TheConstants.{MOMENTS_END};
-ghost use Rattle.watching.specs.Following.{IsAt};
+ghost use Rattle.watching.specs.Following.{IsUp};
 ghost use Rattle.botrun.specs.Watched.{station_of};
 
 use crate::answers::of_advice;
@@ -10,6 +10,7 @@ use crate::ending::RunError;
 use crate::entry::Entry;
 use crate::keeping::{renew, trust};
 use crate::process::Process;
+use crate::refusing::refusal;
 use crate::status::status_of;
 use bytetext::Failure;
 use control::AdminCommand;
@@ -40,9 +41,11 @@ impl Process {
         watcher: &mut W,
     ) -> Result<bool, RunError>
         requires moment { now < MOMENTS_END }
-        requires at { IsAt P.promised store.now (station_of settings.now) W.may (W.past watcher.old) self.old.bot }
-        ensures at { OnOk result
-            (IsAt P.promised store.now (station_of settings.now) W.may (W.past watcher.new) self.new.bot) }
+        requires up { IsUp P.promised store.now (station_of settings.now) W.may (W.past watcher.old) self.old.bot
+            self.old.others.mail.account.told }
+        ensures up { OnOk result
+            (IsUp P.promised store.now (station_of settings.now) W.may (W.past watcher.new) self.new.bot
+            self.new.others.mail.account.told) }
     {
         for round in 0..MAX_COMMANDS {
             if !self.obey_each(rt, log, store, settings, now, watcher)? {
@@ -66,11 +69,13 @@ impl Process {
         watcher: &mut W,
     ) -> Result<bool, RunError>
         requires moment { now < MOMENTS_END }
-        requires at { IsAt P.promised store.now (station_of settings.now) W.may (W.past watcher.old) self.old.bot }
-        ensures at { OnOk result
-            (IsAt P.promised store.now (station_of settings.now) W.may (W.past watcher.new) self.new.bot) }
+        requires up { IsUp P.promised store.now (station_of settings.now) W.may (W.past watcher.old) self.old.bot
+            self.old.others.mail.account.told }
+        ensures up { OnOk result
+            (IsUp P.promised store.now (station_of settings.now) W.may (W.past watcher.new) self.new.bot
+            self.new.others.mail.account.told) }
     {
-        let is_leaf = self.others.links.is_leaf();
+        let is_leaf = self.others.mail.links.is_leaf();
         let mut obeyed = false;
         for place in 0..self.admins.len() {
             if let Some(command) = self.admins.take_command(rt.alloc(), place)? {
@@ -98,9 +103,11 @@ impl Process {
         watcher: &mut W,
     ) -> Result<Vec<u8>, RunError>
         requires moment { now < MOMENTS_END }
-        requires at { IsAt P.promised store.now (station_of settings.now) W.may (W.past watcher.old) self.old.bot }
-        ensures at { OnOk result
-            (IsAt P.promised store.now (station_of settings.now) W.may (W.past watcher.new) self.new.bot) }
+        requires up { IsUp P.promised store.now (station_of settings.now) W.may (W.past watcher.old) self.old.bot
+            self.old.others.mail.account.told }
+        ensures up { OnOk result
+            (IsUp P.promised store.now (station_of settings.now) W.may (W.past watcher.new) self.new.bot
+            self.new.others.mail.account.told) }
     {
         let alloc = rt.alloc();
         let command = match AdminCommand::read(alloc, line) {
@@ -112,25 +119,50 @@ impl Process {
             let (word, _rest) = first_word(line);
             log.note(now, &Entry::Asked(word));
         }
-        if let Some(refusal) = self.refusal(alloc, &command)? {
+        if let Some(refusal) = refusal(alloc, &self.others.mail.links, &self.space, &command)? {
             return Ok(refusal);
         }
+        self.execute(rt, log, store, settings, command, now, watcher)
+    }
+
+    // Executes a command that is not refused, and returns the answer.
+    fn execute<R: AllocGlobal + Files<File = File>, P: Promise, B: Run, W: Watcher>(
+        &mut self,
+        rt: &R,
+        log: &mut Log,
+        store: &ProcStore<P, B>,
+        settings: &Settings,
+        command: AdminCommand,
+        now: u64,
+        watcher: &mut W,
+    ) -> Result<Vec<u8>, RunError>
+        requires moment { now < MOMENTS_END }
+        requires up { IsUp P.promised store.now (station_of settings.now) W.may (W.past watcher.old) self.old.bot
+            self.old.others.mail.account.told }
+        ensures up { OnOk result
+            (IsUp P.promised store.now (station_of settings.now) W.may (W.past watcher.new) self.new.bot
+            self.new.others.mail.account.told) }
+    {
+        let alloc = rt.alloc();
         match command {
             AdminCommand::Change(change) => {
                 self.change(rt, log, store, settings, change, now, watcher)
             }
             AdminCommand::Show => show(alloc, &self.bot, settings),
-            AdminCommand::Status => Ok(status_of(alloc, self, settings)?),
+            AdminCommand::Status => {
+                let (bot, uplink) = (&self.bot, &self.uplink);
+                Ok(status_of(alloc, bot, uplink, &self.others, &self.admins, settings)?)
+            }
             AdminCommand::Bind(words) => bind(alloc, &mut self.bot, store, &words, watcher),
             AdminCommand::Unbind(words) => unbind(alloc, &mut self.bot, store, words, watcher),
             AdminCommand::Say(line) => say(alloc, &mut self.uplink, line),
             AdminCommand::Compact => self.compact_now(rt, log, store, settings, now, watcher),
             AdminCommand::Jump => jump(rt, log, &mut self.uplink, settings, now),
             AdminCommand::Renew(leaf) => {
-                let links = &mut self.others.links;
+                let links = &mut self.others.mail.links;
                 renew(rt, log, &self.folder, links, settings, leaf, now)
             }
-            AdminCommand::Trust => trust(rt, &self.folder, &mut self.others.links, settings),
+            AdminCommand::Trust => trust(rt, &self.folder, &mut self.others.mail.links, settings),
             AdminCommand::Die(text) => {
                 let until = &mut self.until;
                 die(rt, log, &mut self.uplink, until, settings, &text, now)

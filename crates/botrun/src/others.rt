@@ -3,49 +3,61 @@ ghost use Rattle.std.specs.Prelude.{◌≡◌, []};
 
 use crate::asks::Asks;
 use bytetext::NoMemory;
-use peers::Links;
+use peers::{Links, Mail};
+use sharelink::Outgoing;
 use sharewire::Packet;
 use std::alloc::Global;
 use watching::Mailbox;
 
 // The connections to the other bots, and who asked for the changes that wait here.
 pub(crate) struct Others {
-    pub(crate) links: Links,
+    pub(crate) mail: Mail,
     pub(crate) asks: Asks,
 }
 
 // Written by hand, so that the drop is proved once, and not in each function that drops one.
 impl Drop for Others {
     fn drop(self) {
-        let Others { links: _, asks: _ } = self;
+        let Others { mail: _, asks: _ } = self;
     }
 }
 
 impl Others {
-    // Nobody has asked for anything yet. Allocates nothing.
+    // Nobody has asked for anything yet, and nobody was told anything. Allocates nothing.
     pub(crate) fn new(alloc: Global, links: Links) -> Others
-        ensures links { result.links ≡ links }
+        ensures links { result.mail.links ≡ links }
+        ensures told { result.mail.account.told ≡ [] }
         ensures nobody { result.asks.askers.items ≡ [] }
     {
         Others {
-            links,
+            mail: Mail::new(links),
             asks: Asks::new(alloc),
         }
     }
 
     // Whether the bot is to pump at second `now`: never at a hub in doubt, so the changes that its procs asked for wait.
     pub(crate) fn is_pump_due(&self, now: u64) -> bool {
-        self.links.doubt().is_none() && self.links.is_pump_due(now)
+        self.mail.links.doubt().is_none() && self.mail.links.is_pump_due(now)
     }
 }
 
-// The only packets of other bots that a process takes: those that its connections hand on.
+// The only packets of other bots that a process takes, those that its connections hand on, and the only way by which it
+// tells other bots anything.
 impl Mailbox for Others {
-    ghost use Rattle.peers.specs.Tells.{TakesPackets};
+    ghost use Rattle.peers.specs.Tells.{TakesPackets, TellsOne};
 
-    ghost gives = { λ old packets new. TakesPackets old.links packets new.links };
+    ghost gives = { λ old packets new. TakesPackets old.mail.links packets new.mail.links };
+
+    ghost posts = { λ outgoing old new.
+        TellsOne outgoing.to outgoing.packet old.mail.links new.mail.links × (new.asks ≡ old.asks) };
+
+    ghost told = { λ others. others.mail.account.told };
 
     fn take_packets(&mut self, alloc: Global) -> Result<Vec<Packet>, NoMemory> {
-        self.links.take_packets(alloc)
+        self.mail.links.take_packets(alloc)
+    }
+
+    fn tell(&mut self, alloc: Global, outgoing: &Outgoing, now: u64) -> Result<(), NoMemory> {
+        self.mail.tell(alloc, outgoing, now)
     }
 }

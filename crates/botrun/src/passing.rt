@@ -1,14 +1,75 @@
-// What the bot sends to its server.
-ghost use Rattle.std.specs.Prelude.{◌≡◌, OnOk};
+// What the bot sends to its server and to the other bots, and answers.
+ghost use Rattle.std.specs.Prelude.{◌≡◌, Bool, OnOk};
 ghost use Rattle.serverlink.specs.Talks.{talk_in};
-ghost use Rattle.botrun.specs.Passing.{told_all};
+ghost use Rattle.watching.specs.Acts.{sent_by};
+ghost use Rattle.watching.specs.Following.{LetsSend, after_sends};
+ghost use Rattle.turns.specs.Queues.{packets_in};
+ghost use Rattle.turns.specs.Turns.{AllGood};
+ghost use Rattle.turns.specs.declared.turn.TurnEnd.TheVariants.{Done};
+ghost use Rattle.botrun.specs.Askers.{turn_askers};
+ghost use Rattle.botrun.specs.Passing.{told_all, told_of};
 
+use crate::admins::Admins;
+use crate::ending::RunError;
 use crate::entry::Entry;
+use crate::noticing::notice_waiting;
+use crate::others::Others;
+use crate::outcome::told_by;
 use botcore::{Faults, Report};
 use bytetext::NoMemory;
 use net::Log;
 use serverlink::IrcConnection;
 use settings::Settings;
+use turns::{Told, TurnEnd};
+use watching::Watcher;
+
+// Passes on what each step of a turn says, in order: its lines to the server, its packets to the other bots, a notice to
+// whoever asked for a change that waits, and its answer to whoever asked for the change that it accepted or refused.
+// `pumped` says whether the last step is a pump.
+pub(crate) fn pass<R: AllocGlobal, W: Watcher>(
+    rt: &R,
+    log: &mut Log,
+    others: &mut Others,
+    admins: &mut Admins,
+    uplink: &mut IrcConnection,
+    settings: &Settings,
+    told: &Told,
+    pumped: bool,
+    now: u64,
+    watcher: &mut W,
+) -> Result<(), RunError>
+    requires good { AllGood told.now.reports }
+    requires lets { LetsSend W.may (W.past watcher.old) (packets_in told.now.reports) }
+    requires told { others.old.mail.account.told ≡ sent_by (W.past watcher.old) }
+    // All packets are queued, in order, each once, and nothing else.
+    ensures past { OnOk result (W.past watcher.new ≡ after_sends (packets_in told.now.reports) (W.past watcher.old)) }
+    ensures told { OnOk result (others.new.mail.account.told ≡ sent_by (W.past watcher.new)) }
+    ensures server { OnOk result (talk_in uplink.new.session ≡ told_of told.now.reports (talk_in uplink.old.session)) }
+    // At a leaf as at a hub, the reports determine who still waits.
+    ensures asks { OnOk result ((leaf : Bool) × (others.new.asks.askers.items
+        ≡ turn_askers leaf pumped others.old.asks.asker others.old.asks.askers.items told.now.reports)) }
+    ensures done { OnOk result (told.now.end ≡ Done) }
+{
+    let is_leaf = others.mail.links.is_leaf();
+    // Whether a change that is asked for is decided on later.
+    let waits = is_leaf || others.mail.links.doubt().is_some();
+    let mut rest = told.reports.as_slice();
+    while let Some((report, behind)) = rest.split_first() {
+        pass_lines(log, uplink, settings, report, now)?;
+        others.pass(rt, log, report, now, watcher)?;
+        if waits {
+            notice_waiting(rt.alloc(), uplink, report)?;
+        }
+        let outcome = told_by(report);
+        let settles = is_leaf || (pumped && behind.is_empty());
+        others.answer(rt, log, admins, uplink, outcome, settles, now)?;
+        rest = behind;
+    }
+    match told.end {
+        TurnEnd::Done => Ok(()),
+        TurnEnd::NoMemory => Err(RunError::NoMemory),
+    }
+}
 
 // Queues the lines of a step for the server, in order, and logs what the step left out.
 pub(crate) fn pass_lines(

@@ -1,9 +1,9 @@
 // One turn of a bot's process.
-ghost use Rattle.std.specs.Prelude.{◌≡◌, ◌<◌, IfOk, IfSome, OnOk};
+ghost use Rattle.std.specs.Prelude.{◌<◌, IfOk, IfSome};
 ghost use Rattle.bytetext.specs.declared.moment.TheConstants.{MOMENTS_END};
-ghost use Rattle.watching.specs.Following.{IsAt};
+ghost use Rattle.watching.specs.Following.{IsAt, IsEven, IsUp};
 ghost use Rattle.botrun.specs.Renewals.{BeginsWithout, HasNoRecords};
-ghost use Rattle.botrun.specs.Watched.{station_of};
+ghost use Rattle.botrun.specs.Watched.{ByEnd, station_of};
 
 use crate::admins::Admins;
 use crate::bases::Bases;
@@ -112,16 +112,20 @@ impl Process {
     where
         R: AllocGlobal + Net + Files<File = File> + RandomSource,
         requires moment { seconds.wall < MOMENTS_END }
-        requires at { IsAt P.promised store.now (station_of settings.now) W.may (W.past watcher.old) self.old.bot }
+        requires even { IsEven P.promised store.now (station_of settings.now) W.may (W.past watcher.old) self.old.bot
+            self.old.others.mail.account.told }
         // A bot with records goes on.
         ensures again { IfOk result (λ turned. BeginsWithout turned self.new.bot) }
-        ensures at { OnOk result
-            (IsAt P.promised store.now (station_of settings.now) W.may (W.past watcher.new) self.new.bot) }
+        // After the turn the bot has been told the time, unless it has to begin again.
+        ensures up { IfOk result (λ turned. ByEnd turned
+            (IsUp P.promised store.now (station_of settings.now) W.may (W.past watcher.new) self.new.bot
+            self.new.others.mail.account.told)
+            (IsAt P.promised store.now (station_of settings.now) W.may (W.past watcher.new) self.new.bot)) }
     {
         let now = seconds.wall;
         self.uplink.wake(watch.tokens(), seconds.steady);
-        self.others.links.wake(watch.tokens(), seconds.steady);
-        let (uplink, links) = (&mut self.uplink, &mut self.others.links);
+        self.others.mail.links.wake(watch.tokens(), seconds.steady);
+        let (uplink, links) = (&mut self.uplink, &mut self.others.mail.links);
         let registry = watch.registry();
         let connected = connect(rt, log, registry, self.until, uplink, links, settings, now)?;
         let mut is_busy = connected;
@@ -129,19 +133,21 @@ impl Process {
         is_busy |= self
             .admins
             .read(rt, log, watch, &self.others.asks, seconds)?;
-        let links = &mut self.others.links;
+        let links = &mut self.others.mail.links;
         tell_own(rt.alloc(), &self.bot, &mut self.kept_sum, links)?;
-        is_busy |= self.others.links.read(rt, log, now)?;
+        is_busy |= self.others.mail.links.read(rt, log, now)?;
         if let Some(last) = self.to_begin_after() {
             return Ok(Turned::BeginsAbove(last));
         }
-        let links = &mut self.others.links;
+        let links = &mut self.others.mail.links;
         keep_new_doubt(rt, log, &self.folder, &mut self.space, links, now)?;
         keep_new_net(rt, log, &self.folder, &mut self.space, links, now)?;
         enter_new_leaves(rt, log, &self.folder, &self.space, links, now)?;
         is_busy |= self.hear(rt, log, store, settings, connected, now, watcher)?;
         is_busy |= self.obey_all(rt, log, store, settings, now, watcher)?;
-        is_busy |= self.send(rt, log, settings, now)?;
+        let (uplink, links) = (&mut self.uplink, &mut self.others.mail.links);
+        is_busy |= send(rt, log, uplink, &mut self.admins, links, settings, now)?;
+        stay_up(&self.bot)?;
         let has_ended = self.has_ended(now);
         let (kept, sums) = (&mut self.kept_sum, &mut self.sums);
         tell_sum(rt, log, &self.bot, kept, sums, has_ended, now)?;
@@ -159,41 +165,7 @@ impl Process {
         if self.until.is_some() || self.bot.version() > 0 {
             return None;
         }
-        self.others.links.to_begin_after()
-    }
-
-    // Keeps up the connection to the server, offers each connection its unsent bytes, and closes the connections that
-    // are over. Returns whether another turn is due at once: a connection may take more, is to be closed, or has more
-    // to be done for it.
-    fn send<R: AllocGlobal>(
-        &mut self,
-        rt: &R,
-        log: &mut Log,
-        settings: &Settings,
-        now: u64,
-    ) -> Result<bool, RunError>
-        requires moment { now < MOMENTS_END }
-        ensures bot { self.new.bot ≡ self.old.bot }
-    {
-        self.uplink.keep(rt, log, settings, now)?;
-        let server = self.uplink.send();
-        let admins = self.admins.send();
-        let links = self.others.links.send()?;
-        self.uplink.let_go(log, now);
-        self.others.links.let_go(log, now);
-        self.stay_up()?;
-        Ok(server || admins || links)
-    }
-
-    // A bot whose disk failed does not go on: when its journal is opened again, the journal shows what counts.
-    fn stay_up(&self) -> Result<(), RunError> {
-        if self.bot.is_down() {
-            Err(RunError::DiskFailed {
-                change: u64::from(self.bot.version()) + 1,
-            })
-        } else {
-            Ok(())
-        }
+        self.others.mail.links.to_begin_after()
     }
 
     // Ends all connections, and returns the bot's folder.
@@ -245,4 +217,38 @@ fn connect<R: AllocGlobal + Net + Files<File = File> + RandomSource>(
     }
     let _linking = links.connect(rt, log, registry, settings, now)?;
     uplink.connect(rt, log, registry, settings, now)
+}
+
+// Keeps up the connection to the server, offers each connection its unsent bytes, and closes the connections that are
+// over. Returns whether another turn is due at once: a connection may take more, is to be closed, or has more to be done
+// for it.
+fn send<R: AllocGlobal>(
+    rt: &R,
+    log: &mut Log,
+    uplink: &mut IrcConnection,
+    admins: &mut Admins,
+    links: &mut Links,
+    settings: &Settings,
+    now: u64,
+) -> Result<bool, NoMemory>
+    requires moment { now < MOMENTS_END }
+{
+    uplink.keep(rt, log, settings, now)?;
+    let server = uplink.send();
+    let admins = admins.send();
+    let peers = links.send()?;
+    uplink.let_go(log, now);
+    links.let_go(log, now);
+    Ok(server || admins || peers)
+}
+
+// A bot whose disk failed does not go on: when its journal is opened again, the journal shows what counts.
+fn stay_up(bot: &Bot<FileDisk>) -> Result<(), RunError> {
+    if bot.is_down() {
+        Err(RunError::DiskFailed {
+            change: u64::from(bot.version()) + 1,
+        })
+    } else {
+        Ok(())
+    }
 }

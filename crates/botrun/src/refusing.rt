@@ -3,11 +3,10 @@ ghost use Rattle.std.specs.Prelude.{◌≡◌, true, false, IfOk, IsSome};
 ghost use Rattle.peers.specs.Asking.{may_ask};
 ghost use Rattle.botrun.specs.Refusing.{is_change};
 
-use crate::process::Process;
-use crate::space::NO_ROOM;
+use crate::space::{NO_ROOM, Space};
 use bytetext::NoMemory;
 use control::AdminCommand;
-use peers::{Doubt, HandshakeRefusal};
+use peers::{Doubt, HandshakeRefusal, Links};
 use std::alloc::Global;
 
 // The answer to an admin who asks for a change at a leaf that may only read.
@@ -18,34 +17,33 @@ const READS: &[u8] =
 const NEW: &[u8] =
     b"refused never linked: this leaf takes changes once its hub has welcomed it: ask at the hub, or see what status says\n";
 
-impl Process {
-    // Returns the answer that refuses `command`, if the bot does not execute it now: it has no room on its disk, or it is
-    // a hub in doubt, or a leaf that may only read or was never linked.
-    pub(crate) fn refusal(
-        &self,
-        alloc: Global,
-        command: &AdminCommand,
-    ) -> Result<Option<Vec<u8>>, NoMemory>
-        // A bot that may not ask for changes refuses each change.
-        ensures asks { may_ask self.now.others.links ≡ false → is_change command.now ≡ true → IfOk result IsSome }
-    {
-        if needs_room(command) && !self.space.has_room() {
-            return Ok(Some(Vec::from_slice(alloc, NO_ROOM)?));
-        }
-        if !is_change(command) {
-            return Ok(None);
-        }
-        if let Some(doubt) = self.others.links.doubt() {
-            return Ok(Some(in_doubt(alloc, doubt)?));
-        }
-        if self.others.links.is_new_leaf() {
-            return Ok(Some(Vec::from_slice(alloc, NEW)?));
-        }
-        if !self.others.links.may_ask() {
-            return Ok(Some(Vec::from_slice(alloc, READS)?));
-        }
-        Ok(None)
+// Returns the answer that refuses `command`, if the bot does not execute it now: it has no room on its disk, or it is a
+// hub in doubt, or a leaf that may only read or was never linked.
+pub(crate) fn refusal(
+    alloc: Global,
+    links: &Links,
+    space: &Space,
+    command: &AdminCommand,
+) -> Result<Option<Vec<u8>>, NoMemory>
+    // A bot that may not ask for changes refuses each change.
+    ensures asks { may_ask links.now ≡ false → is_change command.now ≡ true → IfOk result IsSome }
+{
+    if needs_room(command) && !space.has_room() {
+        return Ok(Some(Vec::from_slice(alloc, NO_ROOM)?));
     }
+    if !is_change(command) {
+        return Ok(None);
+    }
+    if let Some(doubt) = links.doubt() {
+        return Ok(Some(in_doubt(alloc, doubt)?));
+    }
+    if links.is_new_leaf() {
+        return Ok(Some(Vec::from_slice(alloc, NEW)?));
+    }
+    if !links.may_ask() {
+        return Ok(Some(Vec::from_slice(alloc, READS)?));
+    }
+    Ok(None)
 }
 
 // The answer of a hub in doubt to an admin who asks for a change.

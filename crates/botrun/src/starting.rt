@@ -1,8 +1,8 @@
 // Opens the bot in its folder, or creates it there.
-ghost use Rattle.std.specs.Prelude.{◌≡◌, IfOk, OnOk};
+ghost use Rattle.std.specs.Prelude.{◌≡◌, IfOk};
 ghost use Rattle.botfolder.specs.Folders.{AreEmpty, AreReady};
-ghost use Rattle.watching.specs.Acts.{HasNoBot, MayBegin, MayStep, NumbersAbove, station_in};
-ghost use Rattle.watching.specs.Following.{Follows, HasBegun, IsAt, IsWatched, Lets};
+ghost use Rattle.watching.specs.Acts.{HasNoBot, MayBegin, NumbersAbove, station_in};
+ghost use Rattle.watching.specs.Following.{HasBegun, IsWatched, Lets, StepsQuietly};
 ghost use Rattle.botrun.specs.Watched.{station_of};
 
 use crate::checking::{new_bind, of_line};
@@ -149,8 +149,8 @@ pub(crate) fn bind_all<P: Promise, B: Run, W: Watcher>(
     settings: &Settings,
     watcher: &mut W,
 ) -> Result<(), RunError>
-    requires at { IsAt P.promised store.now (station_of settings.now) W.may (W.past watcher.old) bot.old }
-    ensures at { OnOk result (IsAt P.promised store.now (station_of settings.now) W.may (W.past watcher.new) bot.new) }
+    requires watched { IsWatched P.promised store.now W.may (W.past watcher.old) bot.old }
+    ensures { StepsQuietly P.promised store.now W.may (W.past watcher.old) (W.past watcher.new) bot.new }
 {
     for bind in settings.binds.as_slice() {
         bind_one(alloc, bot, store, bind, watcher)?;
@@ -158,7 +158,6 @@ pub(crate) fn bind_all<P: Promise, B: Run, W: Watcher>(
     Ok(())
 }
 
-#[tactic(auto, using(watching::proofs::FollowingLemmas::follows_same))]
 fn bind_one<P: Promise, B: Run, W: Watcher>(
     alloc: Global,
     bot: &mut Bot<FileDisk>,
@@ -167,8 +166,7 @@ fn bind_one<P: Promise, B: Run, W: Watcher>(
     watcher: &mut W,
 ) -> Result<(), RunError>
     requires watched { IsWatched P.promised store.now W.may (W.past watcher.old) bot.old }
-    ensures follows { Follows (MayStep P.promised store.now) (W.past watcher.old) (W.past watcher.new) }
-    ensures watched { IsWatched P.promised store.now W.may (W.past watcher.new) bot.new }
+    ensures { StepsQuietly P.promised store.now W.may (W.past watcher.old) (W.past watcher.new) bot.new }
 {
     let asked = match new_bind(alloc, store, &bind.words) {
         Ok(asked) => asked,

@@ -1,43 +1,54 @@
 // A bot's state, as lines.
-use crate::process::Process;
+use crate::admins::Admins;
+use crate::others::Others;
+use botcore::Bot;
 use bytetext::NoMemory;
+use disks::FileDisk;
 use itoa::Buffer;
 use peers::put_status;
-use serverlink::Session;
+use serverlink::{IrcConnection, Session};
 use settings::Settings;
 use std::alloc::Global;
 
 // The lines that describe a bot's state.
 pub(crate) fn status_of(
     alloc: Global,
-    process: &Process,
+    bot: &Bot<FileDisk>,
+    uplink: &IrcConnection,
+    others: &Others,
+    admins: &Admins,
     settings: &Settings,
 ) -> Result<Vec<u8>, NoMemory> {
     let mut text = Vec::new(alloc);
-    let version = process.bot.version();
+    let version = bot.version();
     put_count(&mut text, b"version ", u64::from(version))?;
-    put_server(&mut text, process, settings)?;
-    for place in 0..process.uplink.channels.len() {
-        put_channel(&mut text, process, place)?;
+    put_server(&mut text, bot, uplink, settings)?;
+    for place in 0..uplink.channels.len() {
+        put_channel(&mut text, uplink, place)?;
     }
-    put_status(&mut text, &process.others.links, version)?;
-    if process.others.links.is_leaf() {
-        put_count(&mut text, b"asks ", process.others.asks.len() as u64)?;
+    put_status(&mut text, &others.mail.links, version)?;
+    if others.mail.links.is_leaf() {
+        put_count(&mut text, b"asks ", others.asks.len() as u64)?;
     }
-    put_count(&mut text, b"lines ", process.uplink.own.len() as u64)?;
-    put_count(&mut text, b"admins ", process.admins.len() as u64)?;
-    put_count(&mut text, b"answers ", process.admins.unsent() as u64)?;
+    put_count(&mut text, b"lines ", uplink.own.len() as u64)?;
+    put_count(&mut text, b"admins ", admins.len() as u64)?;
+    put_count(&mut text, b"answers ", admins.unsent() as u64)?;
     Ok(text)
 }
 
 // Appends the server, and since when it is connected, or when the next one is tried.
-fn put_server(text: &mut Vec<u8>, process: &Process, settings: &Settings) -> Result<(), NoMemory> {
-    match process.uplink.session() {
+fn put_server(
+    text: &mut Vec<u8>,
+    bot: &Bot<FileDisk>,
+    uplink: &IrcConnection,
+    settings: &Settings,
+) -> Result<(), NoMemory> {
+    match uplink.session() {
         Some(session) => {
-            put_name(text, process.uplink.place(), settings)?;
-            put_session(text, session, process.bot.own_nick())
+            put_name(text, uplink.place(), settings)?;
+            put_session(text, session, bot.own_nick())
         }
-        None => put_count(text, b"no server, next try at ", process.uplink.due()),
+        None => put_count(text, b"no server, next try at ", uplink.due()),
     }
 }
 
@@ -64,8 +75,8 @@ fn put_session(text: &mut Vec<u8>, session: &Session, nick: &[u8]) -> Result<(),
 }
 
 // Appends the channel at a place, and whether the bot is on it.
-fn put_channel(text: &mut Vec<u8>, process: &Process, place: usize) -> Result<(), NoMemory> {
-    if let Some(seat) = process.uplink.channels.get(place) {
+fn put_channel(text: &mut Vec<u8>, uplink: &IrcConnection, place: usize) -> Result<(), NoMemory> {
+    if let Some(seat) = uplink.channels.get(place) {
         put(text, b"channel ")?;
         put(text, seat.channel())?;
         put(text, if seat.is_on() { b" on\n" } else { b" off\n" })?;

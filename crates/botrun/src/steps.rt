@@ -1,28 +1,26 @@
 // The steps of a bot in one turn of its process.
-ghost use Rattle.std.specs.Prelude.{◌<◌, ◌≡◌, Bool, IfOk, OnOk};
+ghost use Rattle.std.specs.Prelude.{◌<◌, IfOk, OnOk};
 ghost use Rattle.bytetext.specs.declared.moment.TheConstants.{MOMENTS_END};
 ghost use Rattle.serverlink.specs.Talks.{heard_in, talk_in};
-ghost use Rattle.turns.specs.Turns.{AllGood};
-ghost use Rattle.watching.specs.Following.{IsAt};
-ghost use Rattle.botrun.specs.Askers.{turn_askers};
-ghost use Rattle.botrun.specs.Passing.{told_of};
+ghost use Rattle.watching.specs.Following.{IsEven, IsUp};
 ghost use Rattle.botrun.specs.Taking.{GoesOn, Hears, TakesChanges};
 ghost use Rattle.botrun.specs.Watched.{station_of};
 
 use crate::ending::RunError;
 use crate::entry::Entry;
 use crate::looking::look_at_all;
-use crate::noticing::notice_waiting;
-use crate::outcome::{Outcome, outcome_of, told_by};
-use crate::passing::pass_lines;
+use crate::outcome::{Outcome, outcome_of};
+use crate::passing::pass;
 use crate::process::Process;
+use botcore::Bot;
 use bytetext::{NoMemory, Text, TryCopy};
+use disks::FileDisk;
 use net::Log;
 use procs::{ProcStore, Promise, Run};
 use settings::Settings;
 use sharelink::MAX_ASKS;
 use std::alloc::Global;
-use turns::{Heard, Told, TurnEnd, take_turn, watched_packets};
+use turns::{Heard, take_turn, watched_packets};
 use userfile::Change;
 use watching::Watcher;
 
@@ -43,14 +41,16 @@ impl Process {
         watcher: &mut W,
     ) -> Result<bool, RunError>
         requires moment { now < MOMENTS_END }
-        requires at { IsAt P.promised store.now (station_of settings.now) W.may (W.past watcher.old) self.old.bot }
+        requires even { IsEven P.promised store.now (station_of settings.now) W.may (W.past watcher.old) self.old.bot
+            self.old.others.mail.account.told }
         // The first turn takes all that was read from the server, and packets that wait: none if there is no room. The
         // bot goes on from it by turns in which it hears nothing.
         ensures hears { OnOk result (Hears P.promised store.now self.old.bot self.old.lines
-            (heard_in (talk_in self.old.uplink.session)) self.old.space.room self.old.others.links
+            (heard_in (talk_in self.old.uplink.session)) self.old.space.room self.old.others.mail.links
             self.new.bot self.new.lines) }
-        ensures at { OnOk result
-            (IsAt P.promised store.now (station_of settings.now) W.may (W.past watcher.new) self.new.bot) }
+        ensures up { OnOk result
+            (IsUp P.promised store.now (station_of settings.now) W.may (W.past watcher.new) self.new.bot
+            self.new.others.mail.account.told) }
     {
         let alloc = rt.alloc();
         let bytes = self.uplink.take_heard(alloc);
@@ -58,7 +58,7 @@ impl Process {
         let said = !waiting.is_empty();
         let packets = self.space.admit(alloc, waiting);
         let pumps = self.others.is_pump_due(now);
-        let nick = self.nick_before(alloc, connected)?;
+        let nick = nick_before(alloc, &self.bot, connected)?;
         let changes = Vec::new(alloc);
         let heard = Heard {
             connected,
@@ -73,7 +73,10 @@ impl Process {
         let told = take_turn(alloc, &mut self.bot, store, &mut self.lines, heard, watcher);
         let lines = told.lines.as_slice();
         look_at_all(rt, log, &mut self.uplink, settings, nick, lines, now)?;
-        self.pass(rt, log, settings, &told, pumps, now)?;
+        let (others, admins, uplink) = (&mut self.others, &mut self.admins, &mut self.uplink);
+        pass(
+            rt, log, others, admins, uplink, settings, &told, pumps, now, watcher,
+        )?;
         let first = outcome_of(told.reports.as_slice());
         self.pump(rt, log, store, settings, first, now, watcher)?;
         self.compact_if_due(rt, log, store, settings, now, watcher)?;
@@ -95,12 +98,14 @@ impl Process {
         now: u64,
         watcher: &mut W,
     ) -> Result<(), RunError>
-        requires at { IsAt P.promised store.now (station_of settings.now) W.may (W.past watcher.old) self.old.bot }
+        requires up { IsUp P.promised store.now (station_of settings.now) W.may (W.past watcher.old) self.old.bot
+            self.old.others.mail.account.told }
         ensures goes_on { OnOk result (GoesOn P.promised store.now self.old.bot self.old.lines self.new.bot self.new.lines) }
-        ensures at { OnOk result
-            (IsAt P.promised store.now (station_of settings.now) W.may (W.past watcher.new) self.new.bot) }
+        ensures up { OnOk result
+            (IsUp P.promised store.now (station_of settings.now) W.may (W.past watcher.new) self.new.bot
+            self.new.others.mail.account.told) }
     {
-        let most = if self.others.links.is_leaf() || self.others.links.doubt().is_some() {
+        let most = if self.others.mail.links.is_leaf() || self.others.mail.links.doubt().is_some() {
             0
         } else {
             MAX_ASKS
@@ -127,10 +132,12 @@ impl Process {
         now: u64,
         watcher: &mut W,
     ) -> Result<(), RunError>
-        requires at { IsAt P.promised store.now (station_of settings.now) W.may (W.past watcher.old) self.old.bot }
+        requires up { IsUp P.promised store.now (station_of settings.now) W.may (W.past watcher.old) self.old.bot
+            self.old.others.mail.account.told }
         ensures goes_on { OnOk result (GoesOn P.promised store.now self.old.bot self.old.lines self.new.bot self.new.lines) }
-        ensures at { OnOk result
-            (IsAt P.promised store.now (station_of settings.now) W.may (W.past watcher.new) self.new.bot) }
+        ensures up { OnOk result
+            (IsUp P.promised store.now (station_of settings.now) W.may (W.past watcher.new) self.new.bot
+            self.new.others.mail.account.told) }
     {
         self.bases.see(self.bot.version(), now);
         if !self.space.has_room() || !self.bases.is_due(now) {
@@ -150,10 +157,12 @@ impl Process {
         now: u64,
         watcher: &mut W,
     ) -> Result<Outcome, RunError>
-        requires at { IsAt P.promised store.now (station_of settings.now) W.may (W.past watcher.old) self.old.bot }
+        requires up { IsUp P.promised store.now (station_of settings.now) W.may (W.past watcher.old) self.old.bot
+            self.old.others.mail.account.told }
         ensures goes_on { IfOk result (λ _. GoesOn P.promised store.now self.old.bot self.old.lines self.new.bot self.new.lines) }
-        ensures at { OnOk result
-            (IsAt P.promised store.now (station_of settings.now) W.may (W.past watcher.new) self.new.bot) }
+        ensures up { OnOk result
+            (IsUp P.promised store.now (station_of settings.now) W.may (W.past watcher.new) self.new.bot
+            self.new.others.mail.account.told) }
     {
         self.bases.write(self.bot.version());
         self.space.lend();
@@ -177,14 +186,16 @@ impl Process {
         now: u64,
         watcher: &mut W,
     ) -> Result<Outcome, RunError>
-        requires at { IsAt P.promised store.now (station_of settings.now) W.may (W.past watcher.old) self.old.bot }
+        requires up { IsUp P.promised store.now (station_of settings.now) W.may (W.past watcher.old) self.old.bot
+            self.old.others.mail.account.told }
         // The bot takes one turn in which these changes alone are asked for, and this is what the turn says about them.
         // Only its lines are queued for the server.
         ensures turn { IfOk result (λ outcome. TakesChanges P.promised store.now self.old.bot self.old.lines
             changes.items compacts self.new.bot self.new.lines outcome
             (talk_in self.old.uplink.session) (talk_in self.new.uplink.session)) }
-        ensures at { OnOk result
-            (IsAt P.promised store.now (station_of settings.now) W.may (W.past watcher.new) self.new.bot) }
+        ensures up { OnOk result
+            (IsUp P.promised store.now (station_of settings.now) W.may (W.past watcher.new) self.new.bot
+            self.new.others.mail.account.told) }
     {
         let alloc = rt.alloc();
         let bytes = Vec::new(alloc);
@@ -199,67 +210,21 @@ impl Process {
             compact: compacts,
         };
         let told = take_turn(alloc, &mut self.bot, store, &mut self.lines, heard, watcher);
-        self.pass(rt, log, settings, &told, !compacts, now)?;
+        let (others, admins, uplink) = (&mut self.others, &mut self.admins, &mut self.uplink);
+        let pumped = !compacts;
+        pass(
+            rt, log, others, admins, uplink, settings, &told, pumped, now, watcher,
+        )?;
         Ok(outcome_of(told.reports.as_slice()))
     }
+}
 
-    // The bot's nick before the lines of a turn. On a new connection it is that of the configuration.
-    fn nick_before(&self, alloc: Global, connected: bool) -> Result<Text, NoMemory> {
-        if connected {
-            self.bot.config().nick.copy(alloc)
-        } else {
-            Text::from_slice(alloc, self.bot.own_nick())
-        }
-    }
-
-    // Passes on what each step of a turn says, in order: its lines to the server, its packets to the other bots, a
-    // notice to whoever asked for a change that waits, and its answer to whoever asked for the change that it accepted
-    // or refused. `pumped` says whether the last step is a pump.
-    fn pass<R: AllocGlobal>(
-        &mut self,
-        rt: &R,
-        log: &mut Log,
-        settings: &Settings,
-        told: &Told,
-        pumped: bool,
-        now: u64,
-    ) -> Result<(), RunError>
-        requires good { AllGood told.now.reports }
-        ensures server { OnOk result (talk_in self.new.uplink.session
-            ≡ told_of told.now.reports (talk_in self.old.uplink.session)) }
-        // At a leaf as at a hub, the reports determine who still waits.
-        ensures asks { OnOk result ((leaf : Bool) × (self.new.others.asks.askers.items
-            ≡ turn_askers leaf pumped self.old.others.asks.asker self.old.others.asks.askers.items told.now.reports)) }
-        ensures bot { self.new.bot ≡ self.old.bot }
-        ensures held { self.new.lines ≡ self.old.lines }
-    {
-        let is_leaf = self.others.links.is_leaf();
-        // Whether a change that is asked for is decided on later.
-        let waits = is_leaf || self.others.links.doubt().is_some();
-        let mut rest = told.reports.as_slice();
-        while let Some((report, behind)) = rest.split_first() {
-            pass_lines(log, &mut self.uplink, settings, report, now)?;
-            self.others.pass(rt, log, report, now)?;
-            if waits {
-                notice_waiting(rt.alloc(), &mut self.uplink, report)?;
-            }
-            let outcome = told_by(report);
-            let settles = is_leaf || (pumped && behind.is_empty());
-            self.others.answer(
-                rt,
-                log,
-                &mut self.admins,
-                &mut self.uplink,
-                outcome,
-                settles,
-                now,
-            )?;
-            rest = behind;
-        }
-        match told.end {
-            TurnEnd::Done => Ok(()),
-            TurnEnd::NoMemory => Err(RunError::NoMemory),
-        }
+// The nick of `bot` before the lines of a turn. On a new connection it is that of the configuration.
+fn nick_before(alloc: Global, bot: &Bot<FileDisk>, connected: bool) -> Result<Text, NoMemory> {
+    if connected {
+        bot.config().nick.copy(alloc)
+    } else {
+        Text::from_slice(alloc, bot.own_nick())
     }
 }
 

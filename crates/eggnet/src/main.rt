@@ -29,14 +29,13 @@ mod leaf_key;
 mod scripts;
 mod serve;
 mod talk;
-mod words;
 
 use crate::configuration::{check_file, doctor_file, run_file};
 use crate::leaf_key::print_leaf_key;
 use crate::scripts::live_script;
 use crate::serve::serve_port;
 use crate::talk::print_answer;
-use crate::words::{Task, refused, task_of, version_of};
+use commandline::{ProgramTask, refused, task_of, version_of};
 use control::{ask, show};
 use eggprocs::store;
 use replaying::{out_of_memory, picture_script, replay_file, replay_input, unread, words_of};
@@ -58,17 +57,21 @@ fn main(rt: HostRuntime) -> ExitCode {
         return ExitCode::from(out_of_memory(&rt));
     };
     let status = match &task {
-        Task::Run(file) => run_file(&rt, &store, file),
-        Task::Check(file) => check_file(&rt, &store, file),
-        Task::Doctor(file) => doctor_file(&rt, &store, file),
-        Task::Tell(folder, line) => print_answer(&rt, folder, ask(&rt, folder, line.as_slice())),
-        Task::Show(folder) => print_answer(&rt, folder, show(&rt, folder)),
-        Task::Key(file, leaf) => print_leaf_key(&rt, file, *leaf),
-        Task::Replay(Some(file)) => replay_file(&rt, store, file),
-        Task::Replay(None) => replay_input(&rt, store),
-        Task::Picture(file) => picture_script(&rt, store, *file),
-        Task::Live => live_script(&rt, store),
-        Task::Serve(port) => serve_port(&rt, *port),
+        ProgramTask::Run(file) => run_file(&rt, &store, file),
+        ProgramTask::Check(file) => check_file(&rt, &store, file),
+        ProgramTask::Doctor(file) => doctor_file(&rt, &store, file),
+        ProgramTask::Tell(folder, line) => print_answer(
+            &rt,
+            folder,
+            ask(&rt, folder, line.as_slice()),
+        ),
+        ProgramTask::Show(folder) => print_answer(&rt, folder, show(&rt, folder)),
+        ProgramTask::Key(file, leaf) => print_leaf_key(&rt, file, *leaf),
+        ProgramTask::Replay(Some(file)) => replay_file(&rt, store, file),
+        ProgramTask::Replay(None) => replay_input(&rt, store),
+        ProgramTask::Picture(file) => picture_script(&rt, store, *file),
+        ProgramTask::Live => live_script(&rt, store),
+        ProgramTask::Serve(port) => serve_port(&rt, *port),
     };
     ExitCode::from(status)
 }

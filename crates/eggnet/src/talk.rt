@@ -1,13 +1,14 @@
 // What a bot answers an admin.
 use bytetext::Failure;
+use commandline::escaped;
 use control::{AskError, AskFault, is_refusal};
 use replaying::{FAULT, STREAM_FAULT, not_written, out_of_memory};
 use std::io;
 use streams::{Duplex, WriteFault, write_out};
 
-/// Prints `answer`, the lines that the bot of `folder` answered or that its journal shows, or reports why there are
-/// none. Returns the exit status.
-pub fn print_answer<R: Input + Print + Eprint>(
+/// Prints `answer`, the lines that the bot of `folder` answered or that its journal shows, as a terminal may show them
+/// ([`escaped`]), or reports why there are none. Returns the exit status.
+pub fn print_answer<R: Input + Print + Eprint + AllocGlobal>(
     rt: &R,
     folder: &str,
     answer: Result<Vec<u8>, AskError>,
@@ -15,6 +16,9 @@ pub fn print_answer<R: Input + Print + Eprint>(
     let answer = match answer {
         Ok(answer) => answer,
         Err(error) => return not_asked(rt, folder, error),
+    };
+    let Ok(answer) = escaped(rt.alloc(), answer) else {
+        return out_of_memory(rt);
     };
     let mut stream = Duplex::new(rt.reader(), io::writer(rt));
     match write_out(&mut stream, answer.as_slice()) {

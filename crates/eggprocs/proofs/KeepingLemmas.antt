@@ -1,5 +1,5 @@
 -- What the procs request that keep a channel, and when they request nothing.
-use Rattle.std.proofs.Common.{◌≡◌, ◌∙◌, ◌&&◌, ◌||◌, ◌∷◌, not, ℕ, List, [], take, Bool, true, false, refl, ap, sym, codes, if◌then◌else◌, Option, Some, None}
+use Rattle.std.proofs.Common.{◌≡◌, ◌∙◌, ◌&&◌, ◌||◌, ◌==◌, ◌∷◌, not, ℕ, List, [], take, Bool, true, false, refl, ap, sym, codes, if◌then◌else◌, Option, Some, None}
 use Rattle.std.proofs.lemmas.List.Elements.{All-take}
 use Rattle.std.proofs.lemmas.List.Sums.{AllPass-from_list_all, list_all-from_AllPass}
 use Rattle.std.proofs.lemmas.Slice.Eq.{bytes_eq-Decides}
@@ -13,6 +13,7 @@ use Rattle.procs.specs.declared.action.Action.{Action}
 use Rattle.procs.specs.declared.call.Call.{Call}
 use Rattle.procs.specs.declared.limits.TheConstants.{MAX_ACTIONS}
 use Rattle.procs.specs.Seen.{Seen}
+use Rattle.eggprocs.specs.declared.duties.Duty.TheVariants.{FirstOp}
 use Rattle.eggprocs.specs.declared.rights.TheConstants.{FRIEND}
 use Rattle.eggprocs.specs.declared.proc_name.ProcName.TheVariants as which
 use Rattle.eggprocs.specs.Everyone.{flags_of_member}
@@ -21,13 +22,16 @@ use Rattle.rfccase.specs.Casemapping.{is_same}
 use Rattle.eggprocs.specs.Channel.{put}
 use Rattle.eggprocs.specs.Keeping.{is_change_here, is_by_bot, is_by_server, is_by_trusted, is_change_by_others, is_change_by_untrusted}
 use Rattle.eggprocs.specs.Keeping.{mode_back, flags_named, names_bot, takes_op, gives_op, op_again, op_undone}
-use Rattle.eggprocs.specs.Keeping.{is_hit, is_self, is_spared, is_guarded, hits_guarded, kick_for}
-use Rattle.eggprocs.specs.Laws.{IsOnlyByOps, IsOnlyForOthers, LeavesTrusted, LeavesServers, DoesOnly, DoesOnlyForTrusted, is_line, has_op_flag, lacks_op_flag, is_bot_or_known}
+use Rattle.eggprocs.specs.Keeping.{is_hit, is_self, is_spared, is_guarded, hits_guarded, hits_itself, ban_undone, kick_for}
+use Rattle.eggprocs.specs.Laws.{IsOnlyByOps, IsOnlyForOthers, LeavesTrusted, LeavesServers, DoesOnly, DoesOnlyForTrusted, is_line, is_line_in_turn, has_op_flag, lacks_op_flag, is_bot_or_known}
 use Rattle.eggprocs.specs.Laws.{is_op_of_known, is_deop_of_unknown, is_end_of_ban, is_end_of_ban_on_bot, is_kick_of, is_kick_of_banned}
 use Rattle.eggprocs.specs.Lines.{mode, kick}
-use Rattle.eggprocs.specs.Procs.{actions_by}
+use Rattle.eggprocs.specs.Procs.{wanted_by}
 use Rattle.eggprocs.specs.Rights.{has_op, has_bot, is_change, is_bot_op, is_protected}
-use Rattle.eggprocs.proofs.LawLemmas.{and-false, actions-kept, does-nothing, all-given, has_one_of-ops, has_one_of-more}
+use Rattle.eggprocs.specs.Turns.{share_out, turn_of}
+use Rattle.eggprocs.proofs.LawLemmas.{and-false, alone-kept, shares-kept, does-nothing, has_one_of-ops, has_one_of-more}
+use Rattle.eggprocs.proofs.Lists.{any-more, all-given}
+use Rattle.eggprocs.proofs.TurnLemmas.{KeepsLooks, keeps-line}
 
 -- ---- when nothing is requested
 
@@ -60,14 +64,14 @@ by_untrusted-trusted : (change : List ℕ) (call : Call) (seen : Seen) → is_by
     → is_change_by_untrusted change call seen ≡ false
 by_untrusted-trusted change call seen trusted = and-false (is_change_by_others change call seen) (not (is_by_trusted call seen)) (ap not trusted)
 
-protectops-none : (call : Call) (seen : Seen) → is_change_by_untrusted (codes "-o") call seen ≡ false → actions_by which.ProtectOps call seen ≡ []
-unfolding actions_by
+protectops-none : (call : Call) (seen : Seen) → is_change_by_untrusted (codes "-o") call seen ≡ false → wanted_by which.ProtectOps call seen ≡ []
+unfolding wanted_by
 protectops-none call seen none =
     nothing-if (takes_op call seen) (op_again call (flags_named call seen))
     (false-and (is_change_by_untrusted (codes "-o") call seen) (not (names_bot call seen) && not (is_same (mode_argument call) (nick_of call))) none)
 
-bitch-none : (call : Call) (seen : Seen) → gives_op call seen ≡ false → actions_by which.Bitch call seen ≡ []
-unfolding actions_by
+bitch-none : (call : Call) (seen : Seen) → gives_op call seen ≡ false → wanted_by which.Bitch call seen ≡ []
+unfolding wanted_by
 bitch-none call seen = nothing-if (gives_op call seen) (op_undone call (flags_named call seen))
 
 gives_op-none : (call : Call) (seen : Seen) → is_change_by_untrusted (codes "+o") call seen ≡ false → gives_op call seen ≡ false
@@ -78,16 +82,16 @@ gives_op-servers call seen server =
     and-false (is_change_by_untrusted (codes "+o") call seen) (not (is_by_server call) && not (names_bot call seen))
     (false-and (not (is_by_server call)) (not (names_bot call seen)) (ap not server))
 
-guard-none : (call : Call) (seen : Seen) → is_change_by_others (codes "+b") call seen ≡ false → actions_by which.Guard call seen ≡ []
-unfolding actions_by
+guard-none : (call : Call) (seen : Seen) → is_change_by_others (codes "+b") call seen ≡ false → wanted_by which.Guard call seen ≡ []
+unfolding wanted_by
 guard-none call seen none =
     let hits : Bool = list_any (hits_guarded (mode_argument call) call seen) (members_in (channel_of call) seen.sight.channels) in
     let may : Bool = is_change_by_others (codes "+b") call seen && is_hostmask (mode_argument call) in
-    nothing-if (may && hits) (mode_back (codes "-b") call)
+    nothing-if (may && hits) (ban_undone (mode_argument call) call seen)
     (false-and may hits (false-and (is_change_by_others (codes "+b") call seen) (is_hostmask (mode_argument call)) none))
 
-enforcebans-none : (call : Call) (seen : Seen) → is_change_here (codes "+b") call seen ≡ false → actions_by which.EnforceBans call seen ≡ []
-unfolding actions_by
+enforcebans-none : (call : Call) (seen : Seen) → is_change_here (codes "+b") call seen ≡ false → wanted_by which.EnforceBans call seen ≡ []
+unfolding wanted_by
 enforcebans-none call seen none =
     nothing-if (is_change_here (codes "+b") call seen && is_hostmask (mode_argument call))
     (take MAX_ACTIONS (filter_map (kick_for (mode_argument call) call seen) (members_in (channel_of call) seen.sight.channels)))
@@ -137,44 +141,55 @@ is_line-put : (line : List ℕ) → is_line line (put mode_queue line) ≡ true
 is_line-put line = (bytes_eq-Decides line line).1 refl
 
 -- a lone line where a test passes is that line, and the test passes
-lone-line : (test : Bool) (line : List ℕ) → list_all (λ action. test && is_line line action) (if test then put mode_queue line ∷ [] else []) ≡ true
+lone-line : (test : Bool) (line : List ℕ) → list_all (λ action. test && is_line_in_turn line action) (if test then put mode_queue line ∷ [] else []) ≡ true
 lone-line false line = refl
-lone-line true line = ap (λ (b : Bool). b && true) (is_line-put line)
+lone-line true line = ap (λ (b : Bool). (b || false) && true) (is_line-put line)
 
-lone-line-not : (test : Bool) (line : List ℕ) → list_all (λ action. not test && is_line line action) (if test then [] else put mode_queue line ∷ []) ≡ true
+lone-line-not : (test : Bool) (line : List ℕ)
+    → list_all (λ action. not test && is_line_in_turn line action) (if test then [] else put mode_queue line ∷ []) ≡ true
 lone-line-not true line = refl
 lone-line-not false line = lone-line true line
 
+-- a look keeps a test that says nothing of the action, and the line
+test-kept : (call : Call) (seen : Seen) (test : Bool) (line : List ℕ) → KeepsLooks call seen (λ action. test && is_line_in_turn line action)
+test-kept call seen true line turn action look is right = keeps-line line call seen turn action look is right
+test-kept call seen false line turn action look is right = cc
+
 op_again-only : (may : Bool) (call : Call) (flags : Option PersonFlags)
-    → list_all (λ action. has_op_flag flags && is_line (mode (channel_of call) (codes "+o") (mode_argument call)) action) (if may then op_again call flags else []) ≡ true
+    → list_all (λ action. has_op_flag flags && is_line_in_turn (mode (channel_of call) (codes "+o") (mode_argument call)) action)
+    (if may then op_again call flags else []) ≡ true
 op_again-only false call flags = refl
 op_again-only true call None = refl
 op_again-only true call (Some flags) =
     let line = mode (channel_of call) (codes "+o") (mode_argument call) in
-    ap (λ (known : Bool). list_all (λ action. known && is_line line action) (if has_op flags then put mode_queue line ∷ [] else [])) (has_one_of-ops flags)
+    ap (λ (known : Bool). list_all (λ action. known && is_line_in_turn line action) (if has_op flags then put mode_queue line ∷ [] else []))
+    (has_one_of-ops flags)
     ∙ lone-line (has_op flags) line
 
 pub protectops-only : DoesOnly is_op_of_known (codes "protectops")
-unfolding actions_by
-protectops-only call seen reply kept =
-    ap (list_all (is_op_of_known call seen)) (actions-kept which.ProtectOps call seen reply kept)
-    ∙ op_again-only (takes_op call seen) call (flags_named call seen)
+unfolding wanted_by
+protectops-only call seen =
+    shares-kept which.ProtectOps call seen (is_op_of_known call seen)
+    (test-kept call seen (has_op_flag (flags_named call seen)) (mode (channel_of call) (codes "+o") (mode_argument call)))
+    (op_again-only (takes_op call seen) call (flags_named call seen))
 
 op_undone-only : (may : Bool) (call : Call) (flags : Option PersonFlags)
-    → list_all (λ action. lacks_op_flag flags && is_line (mode (channel_of call) (codes "-o") (mode_argument call)) action) (if may then op_undone call flags else []) ≡ true
+    → list_all (λ action. lacks_op_flag flags && is_line_in_turn (mode (channel_of call) (codes "-o") (mode_argument call)) action)
+    (if may then op_undone call flags else []) ≡ true
 op_undone-only false call flags = refl
 op_undone-only true call None = refl
 op_undone-only true call (Some flags) =
     let line = mode (channel_of call) (codes "-o") (mode_argument call) in
-    ap (λ (known : Bool). list_all (λ action. not (known || has_bot flags) && is_line line action)
+    ap (λ (known : Bool). list_all (λ action. not (known || has_bot flags) && is_line_in_turn line action)
     (if has_op flags || has_bot flags then [] else put mode_queue line ∷ [])) (has_one_of-ops flags)
     ∙ lone-line-not (has_op flags || has_bot flags) line
 
 pub bitch-only : DoesOnly is_deop_of_unknown (codes "bitch")
-unfolding actions_by
-bitch-only call seen reply kept =
-    ap (list_all (is_deop_of_unknown call seen)) (actions-kept which.Bitch call seen reply kept)
-    ∙ op_undone-only (gives_op call seen) call (flags_named call seen)
+unfolding wanted_by
+bitch-only call seen =
+    shares-kept which.Bitch call seen (is_deop_of_unknown call seen)
+    (test-kept call seen (lacks_op_flag (flags_named call seen)) (mode (channel_of call) (codes "-o") (mode_argument call)))
+    (op_undone-only (gives_op call seen) call (flags_named call seen))
 
 -- the bot, and who has one of the letters, are those whom bans spare
 known-spared : (call : Call) (seen : Seen) (member : Member) → is_bot_or_known call seen member ≡ is_spared call seen member
@@ -216,51 +231,65 @@ hits-some call seen is_right right (member ∷ members) is =
     either false true c d first rest is = refl
     either false false c d first rest is = rest is
 
+-- the end of a ban is that line, also if another bot comes first
+undone-only : (call : Call) (seen : Seen) (mask line : List ℕ) → mode_back (codes "-b") call ≡ put mode_queue line ∷ []
+    → list_all (is_line line) (ban_undone mask call seen) ≡ true
+undone-only call seen mask line is =
+    ap (λ (wanted : List Action). list_all (is_line line) (if hits_itself mask call seen then wanted else share_out FirstOp call seen wanted)) is
+    ∙ by (hits_itself mask call seen) (turn_of FirstOp call seen == 0)
+  where
+    by : (itself first : Bool)
+        → list_all (is_line line) (if itself then put mode_queue line ∷ [] else if first then put mode_queue line ∷ [] else []) ≡ true
+    by true first = ap (λ (b : Bool). b && true) (is_line-put line)
+    by false true = ap (λ (b : Bool). b && true) (is_line-put line)
+    by false false = refl
+
 -- a ban is removed only if it hits a guarded member
-unbanned-only : (may hits right : Bool) (line : List ℕ) → (hits ≡ true → right ≡ true)
-    → list_all (λ action. right && is_line line action) (if may && hits then put mode_queue line ∷ [] else []) ≡ true
-unbanned-only false hits right line is = refl
-unbanned-only true false right line is = refl
-unbanned-only true true right line is =
-    ap (λ (b : Bool). list_all (λ action. b && is_line line action) (put mode_queue line ∷ [])) (is refl) ∙ lone-line true line
+unbanned-only : (may hits right : Bool) (line : List ℕ) (actions : List Action) → (hits ≡ true → right ≡ true) → list_all (is_line line) actions ≡ true
+    → list_all (λ action. right && is_line line action) (if may && hits then actions else []) ≡ true
+unbanned-only false hits right line actions is lines = refl
+unbanned-only true false right line actions is lines = refl
+unbanned-only true true right line actions is lines =
+    ap (λ (b : Bool). list_all (λ action. b && is_line line action) actions) (is refl) ∙ lines
 
 guard-hits : (call : Call) (seen : Seen) (is_right : Member → Bool)
     → ((member : Member) → is_guarded call seen member ≡ true → is_right member ≡ true)
     → list_all (λ action. list_any (λ member. is_hit (mode_argument call) member && is_right member) (members_in (channel_of call) seen.sight.channels)
-    && is_line (mode (channel_of call) (codes "-b") (mode_argument call)) action) (actions_by which.Guard call seen) ≡ true
-unfolding actions_by
+    && is_line (mode (channel_of call) (codes "-b") (mode_argument call)) action) (wanted_by which.Guard call seen) ≡ true
+unfolding wanted_by
 guard-hits call seen is_right right =
     let members = members_in (channel_of call) seen.sight.channels in
     unbanned-only (is_change_by_others (codes "+b") call seen && is_hostmask (mode_argument call))
     (list_any (hits_guarded (mode_argument call) call seen) members)
     (list_any (λ member. is_hit (mode_argument call) member && is_right member) members)
-    (mode (channel_of call) (codes "-b") (mode_argument call)) (hits-some call seen is_right right members)
+    (mode (channel_of call) (codes "-b") (mode_argument call)) (ban_undone (mode_argument call) call seen) (hits-some call seen is_right right members)
+    (undone-only call seen (mode_argument call) (mode (channel_of call) (codes "-b") (mode_argument call)) refl)
 
 pub guard-only : DoesOnly is_end_of_ban (codes "guard")
 guard-only call seen reply kept =
-    ap (list_all (is_end_of_ban call seen)) (actions-kept which.Guard call seen reply kept)
+    ap (list_all (is_end_of_ban call seen)) (alone-kept which.Guard call seen reply refl kept)
     ∙ guard-hits call seen (is_bot_or_known call seen) (guarded-known call seen)
 
 pub guard-trusted : DoesOnlyForTrusted is_end_of_ban_on_bot (codes "guard")
 guard-trusted call seen trusted reply kept =
-    ap (list_all (is_end_of_ban_on_bot call seen)) (actions-kept which.Guard call seen reply kept)
+    ap (list_all (is_end_of_ban_on_bot call seen)) (alone-kept which.Guard call seen reply refl kept)
     ∙ guard-hits call seen (is_self seen) (guarded-self call seen trusted)
 
 -- a kick is of the member that gives it
 kick-by : (test : Bool) (line : List ℕ) (action : Action) → (if test then Some (put mode_queue line) else None) ≡ Some action
-    → (test && is_line line action) ≡ true
+    → (test && is_line_in_turn line action) ≡ true
 kick-by false line action is = cc
-kick-by true line action is = ap (is_line-if line) (sym is) ∙ is_line-put line
+kick-by true line action is = ap (is_line-if line) (sym is) ∙ ap (λ (b : Bool). b || false) (is_line-put line)
   where
     is_line-if : List ℕ → Option Action → Bool
     is_line-if line None = true
-    is_line-if line (Some one) = is_line line one
+    is_line-if line (Some one) = is_line_in_turn line one
 
 kick-given : (call : Call) (seen : Seen) (member : Member) (action : Action) → kick_for (mode_argument call) call seen member ≡ Some action
     → is_kick_of call seen action member ≡ true
 kick-given call seen member action is =
     let line = kick (channel_of call) member.nick (codes "banned") in
-    ap (λ (known : Bool). (is_hit (mode_argument call) member && not known) && is_line line action) (known-spared call seen member)
+    ap (λ (known : Bool). (is_hit (mode_argument call) member && not known) && is_line_in_turn line action) (known-spared call seen member)
     ∙ kick-by (is_hit (mode_argument call) member && not (is_spared call seen member)) line action is
 
 kicks-only : (may : Bool) (call : Call) (seen : Seen) → list_all (is_kick_of_banned call seen)
@@ -274,8 +303,15 @@ kicks-only true call seen =
     (AllPass-from_list_all (is_kick_of_banned call seen) kicks
     (all-given (kick_for (mode_argument call) call seen) (is_kick_of call seen) (kick-given call seen) members)))
 
+-- a look for a kick of a member is for that member
+kick-kept : (call : Call) (seen : Seen) → KeepsLooks call seen (is_kick_of_banned call seen)
+kick-kept call seen turn action look is right =
+    any-more (is_kick_of call seen action) (is_kick_of call seen look) (members_in (channel_of call) seen.sight.channels)
+    (λ member. test-kept call seen (is_hit (mode_argument call) member && not (is_bot_or_known call seen member))
+    (kick (channel_of call) member.nick (codes "banned")) turn action look is) right
+
 pub enforcebans-only : DoesOnly is_kick_of_banned (codes "enforcebans")
-unfolding actions_by
-enforcebans-only call seen reply kept =
-    ap (list_all (is_kick_of_banned call seen)) (actions-kept which.EnforceBans call seen reply kept)
-    ∙ kicks-only (is_change_here (codes "+b") call seen && is_hostmask (mode_argument call)) call seen
+unfolding wanted_by
+enforcebans-only call seen =
+    shares-kept which.EnforceBans call seen (is_kick_of_banned call seen) (kick-kept call seen)
+    (kicks-only (is_change_here (codes "+b") call seen && is_hostmask (mode_argument call)) call seen)

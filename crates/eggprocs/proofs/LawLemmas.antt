@@ -1,13 +1,8 @@
 -- Who is not heeded, and what is asked for then.
-use Rattle.std.proofs.Common.{◌≡◌, ◌∙◌, ◌&&◌, ◌||◌, ◌==◌, ◌∷◌, ◌++◌, not, ℕ, List, [], length, get_or, map, take, drop, Bool, true, false, refl, ap, sym, subst, codes, if◌then◌else◌, Option, Some, None}
+use Rattle.std.proofs.Common.{◌≡◌, ◌∙◌, ◌&&◌, ◌||◌, ◌==◌, ◌∷◌, ◌++◌, not, ℕ, List, [], length, map, take, drop, Bool, true, false, refl, ap, sym, codes, if◌then◌else◌, Option, Some, None}
 use Rattle.std.specs.Prelude.{is_some}
-use Rattle.std.specs.Str.{bytes_eq}
-use Rattle.std.proofs.lemmas.Bool.{and_from, or_right}
-use Rattle.std.proofs.lemmas.List.Elements.{All-take}
-use Rattle.std.proofs.lemmas.List.Sums.{AllPass-from_list_all, list_all-from_AllPass}
 use Rattle.std.proofs.lemmas.Slice.Eq.{bytes_eq-Decides}
-use Rattle.std.specs.List.{list_all, list_any, filter_map, cons_option}
-use Rattle.std.specs.Option.{option_map}
+use Rattle.std.specs.List.{list_all, list_any}
 use Rattle.flagexpr.specs.Letters.{has_letter}
 use Rattle.loosemask.specs.declared.looseness.Looseness.{Looseness}
 use Rattle.loosemask.specs.Loose.{looseness_of}
@@ -19,16 +14,15 @@ use Rattle.userfile.specs.Apply.{refusal}
 use Rattle.userfile.specs.Records.{Records}
 use Rattle.userfile.specs.Held.{has_user, user_of}
 use Rattle.userfile.specs.declared.flags.PersonFlags.{PersonFlags}
-use Rattle.chanstate.specs.declared.member.Member.{Member}
-use Rattle.chanstate.specs.Views.{members_in}
 use Rattle.procs.specs.declared.action.Action.{Action}
-use Rattle.procs.specs.declared.action.Action.TheVariants.{Ask, Timer, Utimer, KillTimer, SendBot, Put}
-use Rattle.outqueue.specs.declared.queue.Queue.TheVariants.{Help, Mode as mode_queue, Server}
+use Rattle.outqueue.specs.declared.queue.Queue.TheVariants.{Help}
 use Rattle.procs.specs.declared.call.Call.{Call}
 use Rattle.procs.specs.declared.limits.TheConstants.{MAX_ACTIONS}
 use Rattle.procs.specs.declared.reply.ProcReply.{ProcReply}
 use Rattle.procs.specs.Promises.{IsKept}
 use Rattle.procs.specs.Seen.{Seen}
+use Rattle.eggprocs.specs.declared.duties.Duty.{Duty}
+use Rattle.eggprocs.specs.declared.duties.Duty.TheVariants.{Each, First}
 use Rattle.eggprocs.specs.declared.rights.TheConstants.{AUTO_OP, AUTO_VOICE, OP, VOICE, MASTER, OWNER}
 use Rattle.eggprocs.specs.declared.rights.Requester.{Requester}
 use Rattle.eggprocs.specs.declared.rights.Requester.TheVariants.{Elsewhere, Stranger, Master}
@@ -38,17 +32,18 @@ use Rattle.eggprocs.specs.Args.{nick_of, handle_of, channel_of, told_of, last_of
 use Rattle.eggprocs.specs.Basics.{is_command}
 use Rattle.eggprocs.specs.Bans.{asked_by_ban, asked_by_unban}
 use Rattle.eggprocs.specs.Channel.{put, asked_for_mode, asked_for_newcomer, change_for, asked_by_kick, asked_by_topic, asked_by_invite}
-use Rattle.eggprocs.specs.Everyone.{is_own_join, gives_bot_op, flags_of_member, is_left, mode_for}
 use Rattle.eggprocs.specs.Infos.{info_by, set_by, asked_by_known, greeting}
-use Rattle.eggprocs.specs.Laws.{has_one_of, op_letters, DoesNothing, AsksNoChange, is_ask, is_ask_for_owners, is_own, IsOnlyWithInfo, is_due_to, is_due, GivesWhatIsDue, KeepsChannelsApart}
-use Rattle.eggprocs.specs.Lines.{privmsg, mode, who}
+use Rattle.eggprocs.specs.Laws.{has_one_of, op_letters, DoesNothing, AsksNoChange, is_ask, is_ask_for_owners, is_own, IsOnlyWithInfo, KeepsChannelsApart}
+use Rattle.eggprocs.specs.Lines.{privmsg}
 use Rattle.eggprocs.specs.Marks.{stick, unstick, left_out, told_ban, told_bans, asked_by_bans}
 use Rattle.eggprocs.specs.Outcomes.{mask_added}
 use Rattle.eggprocs.specs.People.{told, warned, for_owners, is_for_owners, asked_unless, asked_by_master, asked_by_command, plus_user, minus_user, plus_host, minus_host, chattr, asked_by_whois}
-use Rattle.eggprocs.specs.Procs.{name_of, actions_by, actions_if, ours}
+use Rattle.eggprocs.specs.Procs.{name_of, duty_of, wanted_by, actions_by, actions_if, ours}
 use Rattle.eggprocs.specs.Rights.{has_flag, has_op, flags_by, is_bot_op, is_from_op, is_from_voice, is_join, is_pub, is_msg, global_by, is_owner, is_master, standing_if, standing_of}
 use Rattle.eggprocs.specs.Whereabouts.{sought, shared, known_text, whereabouts_if}
+use Rattle.eggprocs.specs.Turns.{share_out}
 use Rattle.eggprocs.proofs.Names.{which_named-name_of}
+use Rattle.eggprocs.proofs.TurnLemmas.{KeepsLooks, share-none, share-only}
 
 -- ---- tests
 
@@ -117,67 +112,85 @@ is_master-lacks call seen = or-false (has_letter (global_by call seen) MASTER) (
 
 -- ---- answers
 
--- a reply that keeps the promise of a proc's name asks for what that proc asks for
+-- a reply that keeps the promise of a proc's name asks for the share of what that proc wants
 pub actions-kept : (w : ProcName) (call : Call) (seen : Seen) (reply : ProcReply) → IsKept ours (name_of w) call seen reply
-    → reply.actions ≡ actions_by w call seen
+    → reply.actions ≡ share_out (duty_of w) call seen (wanted_by w call seen)
+unfolding actions_by
 actions-kept w call seen reply kept = kept.actions ∙ ap (λ (named : Option ProcName). actions_if named call seen) (which_named-name_of w)
 
-pub does-nothing : (w : ProcName) (call : Call) (seen : Seen) → actions_by w call seen ≡ [] → DoesNothing (name_of w) call seen
-does-nothing w call seen none = λ reply kept. actions-kept w call seen reply kept ∙ none
+-- all of it, if each bot does it
+pub alone-kept : (w : ProcName) (call : Call) (seen : Seen) (reply : ProcReply) → duty_of w ≡ Each → IsKept ours (name_of w) call seen reply
+    → reply.actions ≡ wanted_by w call seen
+alone-kept w call seen reply each kept =
+    actions-kept w call seen reply kept ∙ ap (λ (duty : Duty). share_out duty call seen (wanted_by w call seen)) each
 
-pub asks-no-change : (w : ProcName) (call : Call) (seen : Seen) → list_any is_ask (actions_by w call seen) ≡ false
+pub does-nothing : (w : ProcName) (call : Call) (seen : Seen) → wanted_by w call seen ≡ [] → DoesNothing (name_of w) call seen
+does-nothing w call seen none = λ reply kept.
+    actions-kept w call seen reply kept
+    ∙ ap (share_out (duty_of w) call seen) none
+    ∙ share-none (duty_of w) call seen
+
+pub asks-no-change : (w : ProcName) (call : Call) (seen : Seen) → duty_of w ≡ Each → list_any is_ask (wanted_by w call seen) ≡ false
     → AsksNoChange (name_of w) call seen
-asks-no-change w call seen none = λ reply kept. ap (list_any is_ask) (actions-kept w call seen reply kept) ∙ none
+asks-no-change w call seen each none = λ reply kept. ap (list_any is_ask) (alone-kept w call seen reply each kept) ∙ none
+
+-- each action passes a test that each wish and its look pass
+pub shares-kept : (w : ProcName) (call : Call) (seen : Seen) (is_right : Action → Bool) → KeepsLooks call seen is_right
+    → list_all is_right (wanted_by w call seen) ≡ true
+    → (reply : ProcReply) → IsKept ours (name_of w) call seen reply → list_all is_right reply.actions ≡ true
+shares-kept w call seen is_right looks all = λ reply kept.
+    ap (list_all is_right) (actions-kept w call seen reply kept)
+    ∙ share-only is_right (duty_of w) call seen (wanted_by w call seen) looks all
 
 -- ---- what a command asks for that is not heeded
 
-pub op-refused : (call : Call) (seen : Seen) → is_from_op call seen ≡ false → actions_by which.Op call seen ≡ []
-unfolding actions_by
+pub op-refused : (call : Call) (seen : Seen) → is_from_op call seen ≡ false → wanted_by which.Op call seen ≡ []
+unfolding wanted_by
 op-refused call seen denied = ap (λ (may : Bool). asked_for_mode may (codes "+o") call) denied
 
-pub deop-refused : (call : Call) (seen : Seen) → is_from_op call seen ≡ false → actions_by which.Deop call seen ≡ []
-unfolding actions_by
+pub deop-refused : (call : Call) (seen : Seen) → is_from_op call seen ≡ false → wanted_by which.Deop call seen ≡ []
+unfolding wanted_by
 deop-refused call seen denied = ap (λ (may : Bool). asked_for_mode may (codes "-o") call) denied
 
-pub voice-refused : (call : Call) (seen : Seen) → is_from_voice call seen ≡ false → actions_by which.Voice call seen ≡ []
-unfolding actions_by
+pub voice-refused : (call : Call) (seen : Seen) → is_from_voice call seen ≡ false → wanted_by which.Voice call seen ≡ []
+unfolding wanted_by
 voice-refused call seen denied = ap (λ (may : Bool). asked_for_mode may (codes "+v") call) denied
 
-pub devoice-refused : (call : Call) (seen : Seen) → is_from_voice call seen ≡ false → actions_by which.Devoice call seen ≡ []
-unfolding actions_by
+pub devoice-refused : (call : Call) (seen : Seen) → is_from_voice call seen ≡ false → wanted_by which.Devoice call seen ≡ []
+unfolding wanted_by
 devoice-refused call seen denied = ap (λ (may : Bool). asked_for_mode may (codes "-v") call) denied
 
-pub kick-refused : (call : Call) (seen : Seen) → is_from_op call seen ≡ false → actions_by which.Kick call seen ≡ []
-unfolding actions_by
+pub kick-refused : (call : Call) (seen : Seen) → is_from_op call seen ≡ false → wanted_by which.Kick call seen ≡ []
+unfolding wanted_by
 kick-refused call seen denied = ap (λ (may : Bool). asked_by_kick may call) denied
 
-pub topic-refused : (call : Call) (seen : Seen) → is_from_op call seen ≡ false → actions_by which.Topic call seen ≡ []
-unfolding actions_by
+pub topic-refused : (call : Call) (seen : Seen) → is_from_op call seen ≡ false → wanted_by which.Topic call seen ≡ []
+unfolding wanted_by
 topic-refused call seen denied = ap (λ (may : Bool). asked_by_topic may call) denied
 
-pub invite-refused : (call : Call) (seen : Seen) → is_from_op call seen ≡ false → actions_by which.Invite call seen ≡ []
-unfolding actions_by
+pub invite-refused : (call : Call) (seen : Seen) → is_from_op call seen ≡ false → wanted_by which.Invite call seen ≡ []
+unfolding wanted_by
 invite-refused call seen denied = ap (λ (may : Bool). asked_by_invite may call) denied
 
-pub ban-refused : (call : Call) (seen : Seen) → is_from_op call seen ≡ false → actions_by which.Ban call seen ≡ []
-unfolding actions_by
+pub ban-refused : (call : Call) (seen : Seen) → is_from_op call seen ≡ false → wanted_by which.Ban call seen ≡ []
+unfolding wanted_by
 ban-refused call seen denied = ap (λ (may : Bool). asked_by_ban may call seen) denied
 
-pub unban-refused : (call : Call) (seen : Seen) → is_from_op call seen ≡ false → actions_by which.Unban call seen ≡ []
-unfolding actions_by
+pub unban-refused : (call : Call) (seen : Seen) → is_from_op call seen ≡ false → wanted_by which.Unban call seen ≡ []
+unfolding wanted_by
 unban-refused call seen denied = ap (λ (may : Bool). asked_by_unban may call) denied
 
 pub autoop-lacks : (call : Call) (seen : Seen) → has_one_of (AUTO_OP ∷ AUTO_VOICE ∷ []) (flags_by call seen) ≡ false
-    → actions_by which.AutoOp call seen ≡ []
-unfolding actions_by
+    → wanted_by which.AutoOp call seen ≡ []
+unfolding wanted_by
 autoop-lacks call seen lacks =
     let may : Bool = is_join call.kind && is_bot_op call seen in
     ap (λ (change : Option (List ℕ)). if may then asked_for_newcomer call change else [])
     (change_for-lacks (has_flag AUTO_OP (flags_by call seen)) (has_flag AUTO_VOICE (flags_by call seen)) lacks)
     ∙ same-either may []
 
-pub autoop-bot : (call : Call) (seen : Seen) → is_bot_op call seen ≡ false → actions_by which.AutoOp call seen ≡ []
-unfolding actions_by
+pub autoop-bot : (call : Call) (seen : Seen) → is_bot_op call seen ≡ false → wanted_by which.AutoOp call seen ≡ []
+unfolding wanted_by
 autoop-bot call seen denied =
     ap (λ (may : Bool). if may then asked_for_newcomer call (change_for (flags_by call seen)) else [])
     (and-false (is_join call.kind) (is_bot_op call seen) denied)
@@ -196,24 +209,24 @@ stranger-asks call seen usage wish denied =
     ap (λ (master : Bool). list_any is_ask (asked_by_command (standing_if (is_msg call.kind) master) call seen usage wish)) denied
     ∙ no-ask (is_msg call.kind) call seen usage wish
 
-pub plus_user-asks : (call : Call) (seen : Seen) → is_master call seen ≡ false → list_any is_ask (actions_by which.PlusUser call seen) ≡ false
-unfolding actions_by
+pub plus_user-asks : (call : Call) (seen : Seen) → is_master call seen ≡ false → list_any is_ask (wanted_by which.PlusUser call seen) ≡ false
+unfolding wanted_by
 plus_user-asks call seen = stranger-asks call seen (codes "use +user HANDLE") (plus_user (told_of call))
 
-pub minus_user-asks : (call : Call) (seen : Seen) → is_master call seen ≡ false → list_any is_ask (actions_by which.MinusUser call seen) ≡ false
-unfolding actions_by
+pub minus_user-asks : (call : Call) (seen : Seen) → is_master call seen ≡ false → list_any is_ask (wanted_by which.MinusUser call seen) ≡ false
+unfolding wanted_by
 minus_user-asks call seen = stranger-asks call seen (codes "use -user HANDLE") (minus_user (told_of call))
 
-pub plus_host-asks : (call : Call) (seen : Seen) → is_master call seen ≡ false → list_any is_ask (actions_by which.PlusHost call seen) ≡ false
-unfolding actions_by
+pub plus_host-asks : (call : Call) (seen : Seen) → is_master call seen ≡ false → list_any is_ask (wanted_by which.PlusHost call seen) ≡ false
+unfolding wanted_by
 plus_host-asks call seen = stranger-asks call seen (codes "use +host HANDLE MASK") (plus_host (told_of call))
 
-pub minus_host-asks : (call : Call) (seen : Seen) → is_master call seen ≡ false → list_any is_ask (actions_by which.MinusHost call seen) ≡ false
-unfolding actions_by
+pub minus_host-asks : (call : Call) (seen : Seen) → is_master call seen ≡ false → list_any is_ask (wanted_by which.MinusHost call seen) ≡ false
+unfolding wanted_by
 minus_host-asks call seen = stranger-asks call seen (codes "use -host HANDLE MASK") (minus_host (told_of call))
 
-pub chattr-asks : (call : Call) (seen : Seen) → is_master call seen ≡ false → list_any is_ask (actions_by which.Chattr call seen) ≡ false
-unfolding actions_by
+pub chattr-asks : (call : Call) (seen : Seen) → is_master call seen ≡ false → list_any is_ask (wanted_by which.Chattr call seen) ≡ false
+unfolding wanted_by
 chattr-asks call seen = stranger-asks call seen (codes "use chattr HANDLE FLAGS") (chattr (told_of call))
 
 -- `whois` asks for no change for anyone
@@ -222,16 +235,16 @@ whois-no-ask false master call seen = refl
 whois-no-ask true false call seen = refl
 whois-no-ask true true call seen = refl
 
-pub whois-asks : (call : Call) (seen : Seen) → list_any is_ask (actions_by which.Whois call seen) ≡ false
-unfolding actions_by
+pub whois-asks : (call : Call) (seen : Seen) → list_any is_ask (wanted_by which.Whois call seen) ≡ false
+unfolding wanted_by
 whois-asks call seen = whois-no-ask (is_msg call.kind) (is_master call seen) call seen
 
-pub stick-asks : (call : Call) (seen : Seen) → is_master call seen ≡ false → list_any is_ask (actions_by which.Stick call seen) ≡ false
-unfolding actions_by
+pub stick-asks : (call : Call) (seen : Seen) → is_master call seen ≡ false → list_any is_ask (wanted_by which.Stick call seen) ≡ false
+unfolding wanted_by
 stick-asks call seen = stranger-asks call seen (codes "use stick MASK CHANNEL") (stick (told_of call))
 
-pub unstick-asks : (call : Call) (seen : Seen) → is_master call seen ≡ false → list_any is_ask (actions_by which.Unstick call seen) ≡ false
-unfolding actions_by
+pub unstick-asks : (call : Call) (seen : Seen) → is_master call seen ≡ false → list_any is_ask (wanted_by which.Unstick call seen) ≡ false
+unfolding wanted_by
 unstick-asks call seen = stranger-asks call seen (codes "use unstick MASK CHANNEL") (unstick (told_of call))
 
 -- nor does `bans`
@@ -248,8 +261,8 @@ bans-no-ask false master call seen = refl
 bans-no-ask true false call seen = refl
 bans-no-ask true true call seen = told_bans-no-ask call (take MAX_ACTIONS (drop (left_out (told_of call)) seen.sight.records.bans))
 
-pub bans-asks : (call : Call) (seen : Seen) → list_any is_ask (actions_by which.Bans call seen) ≡ false
-unfolding actions_by
+pub bans-asks : (call : Call) (seen : Seen) → list_any is_ask (wanted_by which.Bans call seen) ≡ false
+unfolding wanted_by
 bans-asks call seen = bans-no-ask (is_msg call.kind) (is_master call seen) call seen
 
 -- ---- info lines
@@ -280,9 +293,9 @@ own-info false true call seen = own-known call seen (length (told_of call) == 0)
 own-info false false call seen = refl
 
 pub info-own : (call : Call) (seen : Seen) (reply : ProcReply) → IsKept ours (codes "info") call seen reply → list_all (is_own call) reply.actions ≡ true
-unfolding actions_by
+unfolding wanted_by
 info-own call seen reply kept =
-    ap (list_all (is_own call)) (actions-kept which.Info call seen reply kept)
+    ap (list_all (is_own call)) (alone-kept which.Info call seen reply refl kept)
     ∙ own-info (not (is_msg call.kind)) (has_user (handle_of call) seen.sight.records.users) call seen
 
 -- who is not known is told so, and that is all
@@ -293,8 +306,8 @@ unknown-asks false None call seen none = refl
 unknown-asks false (Some user) call seen none = cc
 
 pub info-unknown : (call : Call) (seen : Seen) → user_of (handle_of call) seen.sight.records.users ≡ None
-    → list_any is_ask (actions_by which.Info call seen) ≡ false
-unfolding actions_by
+    → list_any is_ask (wanted_by which.Info call seen) ≡ false
+unfolding wanted_by
 info-unknown call seen none =
     unknown-asks (not (is_msg call.kind)) (user_of (handle_of call) seen.sight.records.users) call seen none
 
@@ -305,99 +318,12 @@ ungreeted false call info none = refl
 ungreeted true call [] none = refl
 ungreeted true call (b ∷ bs) none = cc
 
-pub greet-none : (call : Call) (seen : Seen) → info_by call seen ≡ [] → actions_by which.Greet call seen ≡ []
-unfolding actions_by
+pub greet-none : (call : Call) (seen : Seen) → info_by call seen ≡ [] → wanted_by which.Greet call seen ≡ []
+unfolding wanted_by
 greet-none call seen none = ungreeted (is_join call.kind) call (info_by call seen) none
 
 pub greet-law : IsOnlyWithInfo (codes "greet")
 greet-law call seen none = does-nothing which.Greet call seen (greet-none call seen none)
-
--- ---- everyone on a channel
-
-all-of : {X : Type 0} (p q : X → Bool) (xs : List X) → ((x : X) → p x ≡ true → q x ≡ true) → list_all p xs ≡ true → list_all q xs ≡ true
-all-of p q xs more all =
-    list_all-from_AllPass q xs (λ k d within. more (get_or xs k d) (AllPass-from_list_all p xs all k d within))
-
--- each of these is of an element that gives it
-pub all-given : {X Y : Type 0} (h : X → Option Y) (is_of : Y → X → Bool) → ((x : X) (y : Y) → h x ≡ Some y → is_of y x ≡ true)
-    → (xs : List X) → list_all (λ y. list_any (is_of y) xs) (filter_map h xs) ≡ true
-all-given h is_of gives [] = refl
-all-given {X} {Y} h is_of gives (x ∷ xs) =
-    by (h x) (λ y is. gives x y is)
-    (all-of (λ y. list_any (is_of y) xs) (λ y. list_any (is_of y) (x ∷ xs)) (filter_map h xs)
-    (λ y among. or_right (is_of y x) (list_any (is_of y) xs) among) (all-given h is_of gives xs))
-  where
-    by : (given : Option Y) → ((y : Y) → given ≡ Some y → is_of y x ≡ true)
-        → list_all (λ y. list_any (is_of y) (x ∷ xs)) (filter_map h xs) ≡ true
-        → list_all (λ y. list_any (is_of y) (x ∷ xs)) (cons_option given (filter_map h xs)) ≡ true
-    by None here rest = rest
-    by (Some y) here rest =
-        and_from (list_any (is_of y) (x ∷ xs)) (list_all (λ z. list_any (is_of z) (x ∷ xs)) (filter_map h xs))
-        (ap (λ (b : Bool). b || list_any (is_of y) xs) (here y refl)) rest
-
--- op by the one flag, or voice by the other
-abbrev is_due_by : Bool → Bool → List ℕ → List ℕ → Action → Bool
-is_due_by op voice channel nick (Put wish) =
-    (op && bytes_eq wish.line (mode channel (codes "+o") nick)) || (voice && bytes_eq wish.line (mode channel (codes "+v") nick))
-is_due_by op voice channel nick (Ask change) = false
-is_due_by op voice channel nick (Timer wish) = false
-is_due_by op voice channel nick (Utimer wish) = false
-is_due_by op voice channel nick (KillTimer name) = false
-is_due_by op voice channel nick (SendBot wish) = false
-
-abbrev is_due_if : Bool → Bool → List ℕ → List ℕ → Option Action → Bool
-is_due_if op voice channel nick None = true
-is_due_if op voice channel nick (Some action) = is_due_by op voice channel nick action
-
--- the mode of a member is op for the flag a, or voice for the flag g
-due-by : (left op voice voiced : Bool) (channel nick : List ℕ) (action : Action)
-    → option_map (λ change. put mode_queue (mode channel change nick))
-    (if left then None else (if op then Some (codes "+o") else (if voice && not voiced then Some (codes "+v") else None))) ≡ Some action
-    → is_due_by op voice channel nick action ≡ true
-due-by true op voice voiced channel nick action is = cc
-due-by false true voice voiced channel nick action is = subst (λ (one : Option Action). is_due_if true voice channel nick one ≡ true) is
-    (ap (λ (b : Bool). b || (voice && bytes_eq (mode channel (codes "+o") nick) (mode channel (codes "+v") nick)))
-    ((bytes_eq-Decides (mode channel (codes "+o") nick) (mode channel (codes "+o") nick)).1 refl))
-due-by false false true true channel nick action is = cc
-due-by false false true false channel nick action is = subst (λ (one : Option Action). is_due_if false true channel nick one ≡ true) is
-    ((bytes_eq-Decides (mode channel (codes "+v") nick) (mode channel (codes "+v") nick)).1 refl)
-due-by false false false voiced channel nick action is = cc
-
-due-same : (call : Call) (seen : Seen) (member : Member) (action : Action) → is_due_to call seen action member
-    ≡ is_due_by (has_flag AUTO_OP (flags_of_member call seen member)) (has_flag AUTO_VOICE (flags_of_member call seen member))
-    (channel_of call) member.nick action
-due-same call seen member (Put wish) = refl
-due-same call seen member (Ask change) = refl
-due-same call seen member (Timer wish) = refl
-due-same call seen member (Utimer wish) = refl
-due-same call seen member (KillTimer name) = refl
-due-same call seen member (SendBot wish) = refl
-
-due-mode : (call : Call) (seen : Seen) (member : Member) (action : Action) → mode_for call seen member ≡ Some action
-    → is_due_to call seen action member ≡ true
-due-mode call seen member action is =
-    due-same call seen member action
-    ∙ due-by (is_left seen member) (has_flag AUTO_OP (flags_of_member call seen member)) (has_flag AUTO_VOICE (flags_of_member call seen member))
-    member.voice (channel_of call) member.nick action is
-
-opall-due : (call : Call) (seen : Seen) (joins gets : Bool) → joins ≡ false → list_all (is_due call seen)
-    (if joins then put Server (who (channel_of call)) ∷ []
-    else if gets then take MAX_ACTIONS (filter_map (mode_for call seen) (members_in (channel_of call) seen.sight.channels))
-    else []) ≡ true
-opall-due call seen true gets none = cc
-opall-due call seen false false none = refl
-opall-due call seen false true none =
-    let members = members_in (channel_of call) seen.sight.channels in
-    let each = AllPass-from_list_all (is_due call seen) (filter_map (mode_for call seen) members)
-    (all-given (mode_for call seen) (is_due_to call seen) (due-mode call seen) members) in
-    list_all-from_AllPass (is_due call seen) (take MAX_ACTIONS (filter_map (mode_for call seen) members))
-    (All-take (λ action. is_due call seen action ≡ true) MAX_ACTIONS (filter_map (mode_for call seen) members) each)
-
-pub opall-law : GivesWhatIsDue (codes "opall")
-unfolding actions_by
-opall-law call seen none = λ reply kept.
-    ap (list_all (is_due call seen)) (actions-kept which.OpAll call seen reply kept)
-    ∙ opall-due call seen (is_own_join call seen) (gives_bot_op call seen) none
 
 -- ---- where people are
 
@@ -408,18 +334,17 @@ by_these call records =
     then told call (if has_word (last_of call.args) then sought call ++ known_text (has_user (sought call) records.users) else codes "use seen NICK") ∷ []
     else []
 
-seen-apart : (call : Call) (seen : Seen) → shared call seen ≡ None → actions_by which.Seen call seen ≡ by_these call seen.sight.records
-unfolding actions_by
+seen-apart : (call : Call) (seen : Seen) → shared call seen ≡ None → wanted_by which.Seen call seen ≡ by_these call seen.sight.records
+unfolding wanted_by
 seen-apart call seen none =
     ap (λ (channel : Option (List ℕ)). if is_command call.kind
     then told call (if has_word (last_of call.args) then whereabouts_if channel call seen else codes "use seen NICK") ∷ [] else []) none
 
 pub seen-law : KeepsChannelsApart (codes "seen")
-seen-law call one other same none-one none-other = λ a b kept-a kept-b.
+seen-law call one other same none-one none-other turn = λ a b kept-a kept-b.
     actions-kept which.Seen call one a kept-a
-    ∙ seen-apart call one none-one
-    ∙ ap (by_these call) same
-    ∙ sym (seen-apart call other none-other)
+    ∙ ap (share_out First call one) (seen-apart call one none-one ∙ ap (by_these call) same ∙ sym (seen-apart call other none-other))
+    ∙ ap (λ (at : ℕ). if at == 0 then wanted_by which.Seen call other else []) turn
     ∙ sym (actions-kept which.Seen call other b kept-b)
 
 -- ---- what is for owners alone
@@ -454,46 +379,46 @@ spared-command Elsewhere call seen usage wish none = refl
 spared-command Stranger call seen usage wish none = refl
 spared-command Master call seen usage wish none = spared-wish wish call seen usage none
 
-pub spares-owners : (w : ProcName) (usage : List ℕ) (wish : Call → Option Change) (call : Call) (seen : Seen)
-    → actions_by w call seen ≡ asked_by_command (standing_of call seen) call seen usage (wish call) → is_owner call seen ≡ false
+pub spares-owners : (w : ProcName) → duty_of w ≡ Each → (usage : List ℕ) (wish : Call → Option Change) (call : Call) (seen : Seen)
+    → wanted_by w call seen ≡ asked_by_command (standing_of call seen) call seen usage (wish call) → is_owner call seen ≡ false
     → (reply : ProcReply) → IsKept ours (name_of w) call seen reply → list_any (is_ask_for_owners seen) reply.actions ≡ false
-spares-owners w usage wish call seen is none = λ reply kept.
-    ap (list_any (is_ask_for_owners seen)) (actions-kept w call seen reply kept ∙ is)
+spares-owners w each usage wish call seen is none = λ reply kept.
+    ap (list_any (is_ask_for_owners seen)) (alone-kept w call seen reply each kept ∙ is)
     ∙ spared-command (standing_of call seen) call seen usage (wish call) none
 
 pub plus_user-is : (call : Call) (seen : Seen)
-    → actions_by which.PlusUser call seen ≡ asked_by_command (standing_of call seen) call seen (codes "use +user HANDLE") (plus_user (told_of call))
-unfolding actions_by
+    → wanted_by which.PlusUser call seen ≡ asked_by_command (standing_of call seen) call seen (codes "use +user HANDLE") (plus_user (told_of call))
+unfolding wanted_by
 plus_user-is call seen = refl
 
 pub minus_user-is : (call : Call) (seen : Seen)
-    → actions_by which.MinusUser call seen ≡ asked_by_command (standing_of call seen) call seen (codes "use -user HANDLE") (minus_user (told_of call))
-unfolding actions_by
+    → wanted_by which.MinusUser call seen ≡ asked_by_command (standing_of call seen) call seen (codes "use -user HANDLE") (minus_user (told_of call))
+unfolding wanted_by
 minus_user-is call seen = refl
 
 pub plus_host-is : (call : Call) (seen : Seen)
-    → actions_by which.PlusHost call seen ≡ asked_by_command (standing_of call seen) call seen (codes "use +host HANDLE MASK") (plus_host (told_of call))
-unfolding actions_by
+    → wanted_by which.PlusHost call seen ≡ asked_by_command (standing_of call seen) call seen (codes "use +host HANDLE MASK") (plus_host (told_of call))
+unfolding wanted_by
 plus_host-is call seen = refl
 
 pub minus_host-is : (call : Call) (seen : Seen)
-    → actions_by which.MinusHost call seen ≡ asked_by_command (standing_of call seen) call seen (codes "use -host HANDLE MASK") (minus_host (told_of call))
-unfolding actions_by
+    → wanted_by which.MinusHost call seen ≡ asked_by_command (standing_of call seen) call seen (codes "use -host HANDLE MASK") (minus_host (told_of call))
+unfolding wanted_by
 minus_host-is call seen = refl
 
 pub chattr-is : (call : Call) (seen : Seen)
-    → actions_by which.Chattr call seen ≡ asked_by_command (standing_of call seen) call seen (codes "use chattr HANDLE FLAGS") (chattr (told_of call))
-unfolding actions_by
+    → wanted_by which.Chattr call seen ≡ asked_by_command (standing_of call seen) call seen (codes "use chattr HANDLE FLAGS") (chattr (told_of call))
+unfolding wanted_by
 chattr-is call seen = refl
 
 pub stick-is : (call : Call) (seen : Seen)
-    → actions_by which.Stick call seen ≡ asked_by_command (standing_of call seen) call seen (codes "use stick MASK CHANNEL") (stick (told_of call))
-unfolding actions_by
+    → wanted_by which.Stick call seen ≡ asked_by_command (standing_of call seen) call seen (codes "use stick MASK CHANNEL") (stick (told_of call))
+unfolding wanted_by
 stick-is call seen = refl
 
 pub unstick-is : (call : Call) (seen : Seen)
-    → actions_by which.Unstick call seen ≡ asked_by_command (standing_of call seen) call seen (codes "use unstick MASK CHANNEL") (unstick (told_of call))
-unfolding actions_by
+    → wanted_by which.Unstick call seen ≡ asked_by_command (standing_of call seen) call seen (codes "use unstick MASK CHANNEL") (unstick (told_of call))
+unfolding wanted_by
 unstick-is call seen = refl
 
 -- the info line of who is no owner is of no owner
@@ -518,7 +443,7 @@ spared-info false false call seen none = refl
 
 pub info-spares : (call : Call) (seen : Seen) → is_owner call seen ≡ false → (reply : ProcReply) → IsKept ours (codes "info") call seen reply
     → list_any (is_ask_for_owners seen) reply.actions ≡ false
-unfolding actions_by
+unfolding wanted_by
 info-spares call seen none reply kept =
-    ap (list_any (is_ask_for_owners seen)) (actions-kept which.Info call seen reply kept)
+    ap (list_any (is_ask_for_owners seen)) (alone-kept which.Info call seen reply refl kept)
     ∙ spared-info (not (is_msg call.kind)) (has_user (handle_of call) seen.sight.records.users) call seen none

@@ -1,5 +1,11 @@
 pub mod BanLines
+pub mod DueLemmas
 pub mod EveryoneLemmas
 pub mod KeepingLemmas
 pub mod LawLemmas
+pub mod LineLemmas
+pub mod Lists
+pub mod LookLemmas
 pub mod Names
+pub mod RankLemmas
+pub mod TurnLemmas

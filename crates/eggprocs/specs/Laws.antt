@@ -2,6 +2,7 @@
 use Rattle.std.specs.Prelude.{◌≡◌, ℕ, not, ◌&&◌, ◌||◌, Bool, true, false, List, [], ◌∷◌, Option, Some, None, codes}
 use Rattle.std.specs.List.{list_all, list_any}
 use Rattle.std.specs.Str.{bytes_eq}
+use Rattle.bytetext.specs.Words.{after_word}
 use Rattle.flagexpr.specs.Letters.{has_letter}
 use Rattle.userfile.specs.declared.change.Change.{Change}
 use Rattle.userfile.specs.declared.change.Change.TheVariants.{AddUser, DelUser, AddHost, DelHost, SetGlobal, SetChan, SetBot, AddBan, DelBan, SetInfo, SetSticky}
@@ -16,6 +17,7 @@ use Rattle.procs.specs.declared.reply.ProcReply.{ProcReply}
 use Rattle.procs.specs.Promises.{IsKept}
 use Rattle.procs.specs.Seen.{Seen}
 use Rattle.eggprocs.specs.declared.rights.TheConstants.{AUTO_OP, AUTO_VOICE, OP, FRIEND, MASTER, OWNER}
+use Rattle.eggprocs.specs.declared.duties.Duty.TheVariants.{First}
 use Rattle.eggprocs.specs.Args.{handle_of, channel_of, mode_argument}
 use Rattle.eggprocs.specs.Everyone.{is_own_join, flags_of_member}
 use Rattle.eggprocs.specs.Infos.{info_by}
@@ -24,6 +26,7 @@ use Rattle.eggprocs.specs.Lines.{mode, kick}
 use Rattle.eggprocs.specs.People.{is_for_owners}
 use Rattle.eggprocs.specs.Procs.{ours}
 use Rattle.eggprocs.specs.Rights.{flags_by, has_flag, has_bot, global_by, is_bot_op}
+use Rattle.eggprocs.specs.Turns.{turn_of}
 use Rattle.eggprocs.specs.Whereabouts.{shared}
 
 -- whether a person has one of these flags, everywhere or on the channel
@@ -42,6 +45,32 @@ IsOnlyForOneOf letters name =
 -- a proc does nothing if the bot is no operator of the call's channel
 abbrev pub IsOnlyByOps : List ℕ → Type 0
 IsOnlyByOps name = (call : Call) (seen : Seen) → is_bot_op call seen ≡ false → DoesNothing name call seen
+
+-- ---- lines
+
+-- this line for the server
+abbrev pub is_line : List ℕ → Action → Bool
+is_line line (Put wish) = bytes_eq wish.line line
+is_line line (Ask change) = false
+is_line line (Timer wish) = false
+is_line line (Utimer wish) = false
+is_line line (KillTimer name) = false
+is_line line (SendBot wish) = false
+
+-- a later look for this line: a call of `later` that would send it
+abbrev pub is_look : List ℕ → Action → Bool
+is_look line (Utimer wish) = bytes_eq wish.proc (codes "later") && bytes_eq (after_word wish.text) line
+is_look line (Ask change) = false
+is_look line (Timer wish) = false
+is_look line (KillTimer name) = false
+is_look line (SendBot wish) = false
+is_look line (Put wish) = false
+
+-- this line at once, or a later look for it if another bot comes first
+abbrev pub is_line_in_turn : List ℕ → Action → Bool
+is_line_in_turn line action = is_line line action || is_look line action
+
+-- ---- changes
 
 -- an action that requests a change of the userfile
 abbrev pub is_ask : Action → Bool
@@ -122,14 +151,9 @@ IsOnlyWithInfo name = (call : Call) (seen : Seen) → info_by call seen ≡ [] �
 
 -- op for a member who has the flag a, or voice for one who has the flag g
 abbrev pub is_due_to : Call → Seen → Action → Member → Bool
-is_due_to call seen (Put wish) member =
-    (has_flag AUTO_OP (flags_of_member call seen member) && bytes_eq wish.line (mode (channel_of call) (codes "+o") member.nick))
-    || (has_flag AUTO_VOICE (flags_of_member call seen member) && bytes_eq wish.line (mode (channel_of call) (codes "+v") member.nick))
-is_due_to call seen (Ask change) member = false
-is_due_to call seen (Timer wish) member = false
-is_due_to call seen (Utimer wish) member = false
-is_due_to call seen (KillTimer name) member = false
-is_due_to call seen (SendBot wish) member = false
+is_due_to call seen action member =
+    (has_flag AUTO_OP (flags_of_member call seen member) && is_line_in_turn (mode (channel_of call) (codes "+o") member.nick) action)
+    || (has_flag AUTO_VOICE (flags_of_member call seen member) && is_line_in_turn (mode (channel_of call) (codes "+v") member.nick) action)
 
 -- the same for some member of the call's channel
 abbrev pub is_due : Call → Seen → Action → Bool
@@ -167,15 +191,6 @@ DoesOnlyForTrusted is_right name =
     (call : Call) (seen : Seen) → is_by_trusted call seen ≡ true
     → (reply : ProcReply) → IsKept ours name call seen reply → list_all (is_right call seen) reply.actions ≡ true
 
--- this line for the server
-abbrev pub is_line : List ℕ → Action → Bool
-is_line line (Put wish) = bytes_eq wish.line line
-is_line line (Ask change) = false
-is_line line (Timer wish) = false
-is_line line (Utimer wish) = false
-is_line line (KillTimer name) = false
-is_line line (SendBot wish) = false
-
 -- the flags of operators, and the flags of those whom bans spare
 abbrev pub op_letters : List ℕ
 op_letters = OP ∷ MASTER ∷ OWNER ∷ []
@@ -195,12 +210,12 @@ lacks_op_flag (Some flags) = not (has_one_of op_letters flags || has_bot flags)
 -- op for the member whom the change names, who has one of the flags o, m and n
 abbrev pub is_op_of_known : Call → Seen → Action → Bool
 is_op_of_known call seen action =
-    has_op_flag (flags_named call seen) && is_line (mode (channel_of call) (codes "+o") (mode_argument call)) action
+    has_op_flag (flags_named call seen) && is_line_in_turn (mode (channel_of call) (codes "+o") (mode_argument call)) action
 
 -- the end of op for the member whom the change names, who has none of these flags, nor b everywhere
 abbrev pub is_deop_of_unknown : Call → Seen → Action → Bool
 is_deop_of_unknown call seen action =
-    lacks_op_flag (flags_named call seen) && is_line (mode (channel_of call) (codes "-o") (mode_argument call)) action
+    lacks_op_flag (flags_named call seen) && is_line_in_turn (mode (channel_of call) (codes "-o") (mode_argument call)) action
 
 -- a member who is the bot, or has one of the flags o, m, n and f
 abbrev pub is_bot_or_known : Call → Seen → Member → Bool
@@ -222,7 +237,7 @@ is_end_of_ban_on_bot call seen action =
 abbrev pub is_kick_of : Call → Seen → Action → Member → Bool
 is_kick_of call seen action member =
     (is_hit (mode_argument call) member && not (is_bot_or_known call seen member))
-    && is_line (kick (channel_of call) member.nick (codes "banned")) action
+    && is_line_in_turn (kick (channel_of call) member.nick (codes "banned")) action
 
 -- the same for some member of the call's channel
 abbrev pub is_kick_of_banned : Call → Seen → Action → Bool
@@ -231,8 +246,9 @@ is_kick_of_banned call seen action = list_any (is_kick_of call seen action) (mem
 -- ---- where people are
 
 -- if the caller shares no channel with the nick in question, a proc answers by the records alone, whatever else the
--- channels hold
+-- channels hold; on a channel, if the bot is the one that answers there, or is not
 abbrev pub KeepsChannelsApart : List ℕ → Type 0
 KeepsChannelsApart name =
     (call : Call) (one other : Seen) → one.sight.records ≡ other.sight.records → shared call one ≡ None → shared call other ≡ None
+    → turn_of First call one ≡ turn_of First call other
     → (a b : ProcReply) → IsKept ours name call one a → IsKept ours name call other b → a.actions ≡ b.actions

@@ -1,6 +1,6 @@
 // What each proc requests.
 ghost use Rattle.std.specs.Prelude.{◌≡◌, IfOk};
-ghost use Rattle.eggprocs.specs.Procs.{actions_by};
+ghost use Rattle.eggprocs.specs.Procs.{wanted_by, actions_by};
 
 use crate::bans::{asked_by_ban, asked_by_lift, asked_by_unban};
 use crate::basics::{asked_by_adduser, asked_by_echo, asked_by_tell, asked_by_tick};
@@ -10,18 +10,19 @@ use crate::channel::{
 use crate::everyone::asked_by_opall;
 use crate::infos::{asked_by_greet, asked_by_info};
 use crate::keeping::{asked_by_bitch, asked_by_enforcebans, asked_by_guard, asked_by_protectops};
+use crate::looks::asked_by_later;
 use crate::marks::asked_by_bans;
 use crate::orders::{Order, asked_by_order};
 use crate::people::asked_by_whois;
 use crate::proc_name::ProcName;
 use crate::rights::{is_from_op, is_from_voice};
+use crate::turns::share_out;
 use crate::whereabouts::asked_by_seen;
 use bytetext::NoMemory;
 use procs::{Actions, Call, View};
 use std::alloc::Global;
 
-// What a proc requests, given its call and what it sees.
-#[tactic(auto, unfolding(crate::specs::Procs::actions_by))]
+// What a proc requests: its share of what it would request of a lone bot.
 pub(crate) fn actions_by(
     alloc: Global,
     which: ProcName,
@@ -29,6 +30,21 @@ pub(crate) fn actions_by(
     view: &View<'_>,
 ) -> Result<Actions, NoMemory>
     ensures { IfOk result (λ actions. actions ≡ actions_by which call.now view.now) }
+{
+    let wanted = wanted_by(alloc, which, call, view)?;
+    let actions = share_out(alloc, which.duty(), call, view, wanted)?;
+    Ok(actions)
+}
+
+// What a proc would request of a lone bot, given its call and what it sees.
+#[tactic(auto, unfolding(crate::specs::Procs::wanted_by))]
+fn wanted_by(
+    alloc: Global,
+    which: ProcName,
+    call: &Call,
+    view: &View<'_>,
+) -> Result<Actions, NoMemory>
+    ensures { IfOk result (λ actions. actions ≡ wanted_by which call.now view.now) }
 {
     match which {
         ProcName::Quiet | ProcName::Stop => Ok(Actions::empty(alloc)),
@@ -64,5 +80,6 @@ pub(crate) fn actions_by(
         ProcName::Bitch => asked_by_bitch(alloc, call, view),
         ProcName::Guard => asked_by_guard(alloc, call, view),
         ProcName::EnforceBans => asked_by_enforcebans(alloc, call, view),
+        ProcName::Later => asked_by_later(alloc, call, view),
     }
 }

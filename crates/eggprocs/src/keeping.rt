@@ -4,14 +4,16 @@ ghost use Rattle.std.specs.List.{filter_map, list_any};
 ghost use Rattle.procs.specs.declared.limits.TheConstants.{MAX_ACTIONS};
 ghost use Rattle.eggprocs.specs.Keeping.{is_change_here, is_by_bot, is_by_server, is_by_trusted, is_change_by_others, is_change_by_untrusted};
 ghost use Rattle.eggprocs.specs.Keeping.{mode_back, flags_named, names_bot, takes_op, gives_op};
-ghost use Rattle.eggprocs.specs.Keeping.{is_hit, is_self, is_spared, is_guarded, hits_guarded, kick_for};
+ghost use Rattle.eggprocs.specs.Keeping.{is_hit, is_self, is_spared, is_guarded, hits_guarded, hits_itself, ban_undone, kick_for};
 ghost use Rattle.eggprocs.specs.Keeping.{asked_by_protectops, asked_by_bitch, asked_by_guard, asked_by_enforcebans};
 
 use crate::args::{channel_of, mode_argument, nick_of};
 use crate::channel::one_line;
+use crate::duties::Duty;
 use crate::everyone::{address_of, flags_of_member, push_if_room};
 use crate::lines::{kick, mode};
 use crate::rights::{flags_by, has_bot, has_master, has_op, is_bot_op, is_change, is_protected};
+use crate::turns::share_out;
 use bytetext::NoMemory;
 use chanstate::Member;
 use outqueue::Queue;
@@ -69,7 +71,7 @@ pub(crate) fn asked_by_guard(
     let mask = hostmask(alloc, mode_argument(call))?;
     let members = view.channels().members(alloc, channel_of(call))?;
     if hits_any_guarded(alloc, &mask, call, view, members.as_slice())? {
-        mode_back(alloc, b"-b", call)
+        ban_undone(alloc, &mask, call, view)
     } else {
         Ok(Actions::empty(alloc))
     }
@@ -263,6 +265,38 @@ fn hits_any_guarded(
         }
     }
     Ok(false)
+}
+
+// The end of a ban: by each bot that it hits, and otherwise by the first bot alone.
+fn ban_undone(
+    alloc: Global,
+    mask: &Hostmask,
+    call: &Call,
+    view: &View<'_>,
+) -> Result<Actions, NoMemory>
+    ensures { IfOk result (λ actions. actions ≡ ban_undone mask.now call.now view.now) }
+{
+    let wanted = mode_back(alloc, b"-b", call)?;
+    if hits_itself(alloc, mask, call, view)? {
+        return Ok(wanted);
+    }
+    share_out(alloc, Duty::FirstOp, call, view, wanted)
+}
+
+// Whether a ban's mask matches the bot itself.
+fn hits_itself(
+    alloc: Global,
+    mask: &Hostmask,
+    call: &Call,
+    view: &View<'_>,
+) -> Result<bool, NoMemory>
+    ensures { IfOk result (λ hits. hits ≡ hits_itself mask.now call.now view.now) }
+{
+    let channels = view.channels();
+    match channels.member(channel_of(call), channels.own_nick()) {
+        Some(member) => is_hit(alloc, mask, member),
+        None => Ok(false),
+    }
 }
 
 // Kicks of the first members whom a ban's mask matches and whom bans don't spare.

@@ -10,8 +10,8 @@ use crate::rights::{AUTO_OP, AUTO_VOICE, MASTER, OP, OWNER, VOICE};
 /// A law; calling it does nothing. The commands of a channel's operators do nothing for a caller who has none of the
 /// flags `o`, `m` and `n`, neither everywhere nor on the channel. `voice` and `devoice` require one of these and `v`, and
 /// `autoop` one of `a` and `g`. `opall`, except when the bot itself joins, gives op to members who have the flag `a` and
-/// voice to those who have `g`, and does nothing else. This holds for any answer that [`Ours`](crate::Ours) allows,
-/// whatever body a store has.
+/// voice to those who have `g`, and does nothing else. If another bot comes first, it only looks later for these modes.
+/// This holds for any answer that [`Ours`](crate::Ours) allows, whatever body a store has.
 pub fn commands_want_flags()
     ensures op { IsOnlyForOneOf (OP ∷ MASTER ∷ OWNER ∷ []) (codes "op") }
     ensures deop { IsOnlyForOneOf (OP ∷ MASTER ∷ OWNER ∷ []) (codes "deop") }
@@ -54,7 +54,8 @@ pub fn commands_want_an_operator()
 /// - `enforcebans` kicks only members whom the ban's mask matches, and neither the bot nor a member with one of these
 ///   four flags.
 ///
-/// None of them does anything else.
+/// None of them does anything else. If another bot comes first, `protectops`, `bitch` and `enforcebans` look later for
+/// the same lines, by calls of `later`, and do nothing now ([`bots_take_turns`](crate::bots_take_turns)).
 pub fn keeping_spares_operators()
     ensures protectops { DoesOnly is_op_of_known (codes "protectops") }
     ensures bitch { DoesOnly is_deop_of_unknown (codes "bitch") }
@@ -121,7 +122,8 @@ pub fn greetings_want_an_info()
 {}
 
 /// A law; calling it does nothing. If the caller shares no channel with the nick in question, `seen` gives the same
-/// answer wherever that nick is.
+/// answer wherever that nick is: on a channel, at each bot that answers there. A bot that leaves the answer to another one
+/// gives none.
 pub fn answers_keep_channels_apart()
     ensures seen { KeepsChannelsApart (codes "seen") }
 {}

@@ -108,6 +108,36 @@
 //! change is queued, since the hub decides. `+host` adds a warning for a mask that is likely to fit strangers
 //! ([`loosemask`]). `bans` has a NOTICE for each ban.
 //!
+//! If several bots of a net are on one channel, all of them get the same calls there, and one acts
+//! ([`one_bot_acts`]). A *hand* is a member whom the userfile knows with the flag `b` everywhere. The *rank* of a bot is
+//! how many hands have a nick that comes before its own: nicks are compared in lower case, byte by byte. For some procs
+//! only hands that are op count. A bot that is no hand itself has rank 0, so a lone bot needs no record
+//! ([`bots_take_turns`]):
+//!
+//! | Procs | Hands that count | At rank 0 | At rank 1 and above |
+//! |---|---|---|---|
+//! | `op`, `deop`, `voice`, `devoice`, `autoop`, `kick`, `protectops`, `bitch`, `enforcebans` | operators | at once | a look |
+//! | `opall` | all | at once | a look |
+//! | `topic`, `invite`, `ban`, `unban` | operators | at once | nothing |
+//! | `greet`, `echo`, and `seen` and `adduser` on a channel | all | at once | nothing |
+//! | `guard` | operators | at once | nothing, unless the ban hits the bot itself |
+//!
+//! - A look is a call of `later` after five seconds for each rank, for each line that the bot would send at rank 0. A bot
+//!   of rank 9 or above requests nothing.
+//! - `later` is for the timers of these looks. Its text is ADDRESS LINE: the member's `nick!user@host`, and the line. It
+//!   sends LINE if the bot is an operator of the line's channel, the member of this address is there, and the channel
+//!   does not show that it is done: the member is no operator yet for `+o`, is one for `-o`, has no voice yet for `+v`,
+//!   and has voice for `-v`. So a look does nothing after another bot has acted ([`looks_want_it_undone`]).
+//! - No look is made for a nick that is not on the channel, except for a caller who joins.
+//! - A look sees the channel as it is then, and not what happened since. So a member who is kicked and joins again within
+//!   the five seconds is kicked once more.
+//! - `ban` and `unban` have no looks, since a bot does not know the list of a channel's bans.
+//! - A restart loses the timers of looks like all timers of a bot.
+//! - A bot counts another one only if it knows that one's host. So bind `opall` to joins.
+//! - A member with the flag `b` who is no bot of the net delays the bots whose nicks come later by five seconds. If its
+//!   nick is the first, nobody greets or answers. So give that flag to bots of the net alone.
+//! - The other procs are each bot's own: those of private messages, `lift`, `later`, `tick`, `tell`, `quiet` and `stop`.
+//!
 //! To try things out with, for any caller:
 //!
 //! | Proc | Kind | Words | What it requests |
@@ -131,12 +161,16 @@ mod bans;
 mod basics;
 mod body;
 mod channel;
+mod duties;
+mod effects;
 mod everyone;
 mod full_store;
+mod hands;
 mod infos;
 mod keeping;
 mod laws;
 mod lines;
+mod looks;
 mod marks;
 mod orders;
 mod outcomes;
@@ -145,17 +179,26 @@ mod people;
 mod proc_name;
 mod promise;
 mod rights;
+mod turn_laws;
+mod turns;
 mod whereabouts;
 
 pub use crate::bans::UTIMER_MINUTES;
 pub use crate::body::EggProc;
+pub use crate::duties::Duty;
+pub use crate::effects::LineEffect;
 pub use crate::full_store::store;
 pub use crate::laws::{
     answers_keep_channels_apart, changes_of_owners_want_an_owner, changes_want_a_master,
     commands_want_an_operator, commands_want_flags, greetings_want_an_info, info_is_of_who_asks,
     keeping_answers_others, keeping_spares_operators,
 };
+pub use crate::looks::{LOOK_SECONDS, MAX_TURN};
 pub use crate::orders::Order;
 pub use crate::proc_name::{EVERY, PROC_COUNT, ProcName};
 pub use crate::promise::Ours;
 pub use crate::rights::{AUTO_OP, AUTO_VOICE, BOT, FRIEND, MASTER, OP, OWNER, Requester, VOICE};
+pub use crate::turn_laws::{
+    a_lone_bot_acts, bots_take_turns, looks_read_their_line, looks_want_it_undone, one_bot_acts,
+    one_bot_is_first, strangers_change_no_rank,
+};

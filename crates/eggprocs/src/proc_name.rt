@@ -1,11 +1,12 @@
 // The names of the procs.
 ghost use Rattle.std.specs.Prelude.{◌≡◌};
-ghost use Rattle.eggprocs.specs.Procs.{name_of, code_by};
+ghost use Rattle.eggprocs.specs.Procs.{name_of, code_by, duty_of};
 
+use crate::duties::Duty;
 use procs::Code;
 
 /// The number of procs.
-pub const PROC_COUNT: usize = 34;
+pub const PROC_COUNT: usize = 35;
 
 /// Every proc, in the order in which [`store`](crate::store) adds them.
 pub const EVERY: [ProcName; PROC_COUNT] = [
@@ -43,6 +44,7 @@ pub const EVERY: [ProcName; PROC_COUNT] = [
     ProcName::Bitch,
     ProcName::Guard,
     ProcName::EnforceBans,
+    ProcName::Later,
 ];
 
 /// A proc of the programs. The crate's first page says what each is for.
@@ -116,6 +118,8 @@ pub enum ProcName {
     Guard,
     /// `enforcebans`: kicks the members whom a ban hits.
     EnforceBans,
+    /// `later`: does what another bot left undone, for the timers of bots that let that one go first.
+    Later,
 }
 
 impl ProcName {
@@ -158,6 +162,7 @@ impl ProcName {
             ProcName::Bitch => b"bitch",
             ProcName::Guard => b"guard",
             ProcName::EnforceBans => b"enforcebans",
+            ProcName::Later => b"later",
         }
     }
 
@@ -200,7 +205,44 @@ impl ProcName {
             | ProcName::ProtectOps
             | ProcName::Bitch
             | ProcName::Guard
-            | ProcName::EnforceBans => Code::Zero,
+            | ProcName::EnforceBans
+            | ProcName::Later => Code::Zero,
+        }
+    }
+    /// Returns who of the bots on a channel does what the proc requests there.
+    pub fn duty(self) -> Duty
+        ensures { result ≡ duty_of self }
+    {
+        match self {
+            ProcName::AddUser | ProcName::Echo | ProcName::Greet | ProcName::Seen => Duty::First,
+            ProcName::Topic | ProcName::Invite | ProcName::Ban | ProcName::Unban => Duty::FirstOp,
+            ProcName::OpAll => Duty::Turns,
+            ProcName::Op
+            | ProcName::Deop
+            | ProcName::Voice
+            | ProcName::Devoice
+            | ProcName::AutoOp
+            | ProcName::Kick
+            | ProcName::ProtectOps
+            | ProcName::Bitch
+            | ProcName::EnforceBans => Duty::TurnsOp,
+            ProcName::Quiet
+            | ProcName::Stop
+            | ProcName::Tick
+            | ProcName::Tell
+            | ProcName::Lift
+            | ProcName::PlusUser
+            | ProcName::MinusUser
+            | ProcName::PlusHost
+            | ProcName::MinusHost
+            | ProcName::Chattr
+            | ProcName::Whois
+            | ProcName::Info
+            | ProcName::Stick
+            | ProcName::Unstick
+            | ProcName::Bans
+            | ProcName::Guard
+            | ProcName::Later => Duty::Each,
         }
     }
 }

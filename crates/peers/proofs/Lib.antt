@@ -14,3 +14,4 @@ pub mod PickingLemmas
 pub mod HearingLemmas
 mod JoiningLemmas
 mod DoubtLemmas
+mod Walks

@@ -1,5 +1,5 @@
 -- The packets of a piece that are handed on.
-use Rattle.std.proofs.Common.{◌≡◌, ◌∙◌, ◌≤◌, ◌+◌, ℕ, min, Bool, true, false, not, List, [], ◌∷◌, if◌then◌else◌, refl, sym, ap, subst, arith, count_by}
+use Rattle.std.proofs.Common.{◌≡◌, ◌∙◌, ◌≤◌, ◌+◌, ◌++◌, ℕ, min, Bool, true, false, not, List, [], ◌∷◌, if◌then◌else◌, refl, sym, ap, subst, arith, append_assoc, count_by}
 use Rattle.std.proofs.lemmas.Bool.{and_parts}
 use Rattle.std.proofs.lemmas.Bool.Decides.{nat_tests}
 use Rattle.std.proofs.lemmas.List.Sums.{sum_by-cons}
@@ -13,6 +13,19 @@ use Rattle.peers.specs.Hearing.{handed, handed_if}
 use Rattle.peers.specs.Picking.{is_hello, is_request, is_lost, only_reads, picked}
 use Rattle.peers.specs.Speakers.{is_own}
 use Rattle.peers.specs.Tells.{granted}
+
+-- ---- one packet after another
+
+-- what is kept after one more packet, and what is kept of the rest
+pub picked_one : (lost : Bool) (may : LeafRights) (kept more rest all : List Packet) (packet : Packet)
+    → more ≡ (if lost then kept else kept ++ packet ∷ []) → lost ≡ is_lost may packet (count_by is_hello rest)
+    → kept ++ picked may (packet ∷ rest) ≡ all → more ++ picked may rest ≡ all
+picked_one true may kept more rest all packet more_is lost_is so_far =
+    ap (λ l. l ++ picked may rest) more_is
+    ∙ ap (λ (b : Bool). kept ++ (if b then picked may rest else packet ∷ picked may rest)) lost_is ∙ so_far
+picked_one false may kept more rest all packet more_is lost_is so_far =
+    ap (λ l. l ++ picked may rest) more_is ∙ append_assoc kept (packet ∷ []) (picked may rest)
+    ∙ ap (λ (b : Bool). kept ++ (if b then picked may rest else packet ∷ picked may rest)) lost_is ∙ so_far
 
 -- ---- each packet that is picked was there
 

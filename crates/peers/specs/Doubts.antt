@@ -81,7 +81,7 @@ pub record Trusts (old : HubLinks) (lines : List ℕ) (new : HubLinks) : Type 0 
 
 -- the net has a leaf of this number
 abbrev pub is_leaf_of : HubLinks → ℕ → Bool
-is_leaf_of hub leaf = nat_lt 0 leaf && nat_le leaf hub.leaves
+is_leaf_of hub leaf = nat_lt 0 leaf && nat_le leaf hub.net.leaves
 
 -- the number of the leaf is free, by a line of the book; the leaf is not linked, and nothing of it waits
 pub record FreesLeaf (leaf : ℕ) (old : HubLinks) (line : List ℕ) (new : HubLinks) : Type 0 where

@@ -34,10 +34,10 @@ lines_by None guests = []
 lines_by (Some own) guests = flat_map entry_of guests
 
 abbrev pub lines_to_enter : HubLinks → List ℕ
-lines_to_enter hub = lines_by hub.own hub.guests.list.items
+lines_to_enter hub = lines_by hub.own hub.door.guests.list.items
 
 abbrev pub is_any_entering : HubLinks → Bool
-is_any_entering hub = list_any is_entering hub.guests.list.items
+is_any_entering hub = list_any is_entering hub.door.guests.list.items
 
 -- the same of a bot's connections
 abbrev pub lines_of : Links → List ℕ

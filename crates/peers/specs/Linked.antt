@@ -38,7 +38,7 @@ Reaches to (Leaf leaf) = IsLinked leaf.hub
 
 -- somebody is connected to the hub: a guest that is not welcomed yet, or a leaf
 abbrev pub has_somebody : HubLinks → Bool
-has_somebody hub = not (length hub.guests.list.items == 0) || list_any is_some hub.seats.items
+has_somebody hub = not (length hub.door.guests.list.items == 0) || list_any is_some hub.seats.items
 
 -- a hub to which somebody is connected, or a leaf that reads from its hub
 abbrev pub Hears : Links → Type 0

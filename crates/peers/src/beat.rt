@@ -36,14 +36,13 @@ impl Beat {
         ensures len { length result.items ≡ BEAT_LEN }
     {
         let mut content = ArrayVec::new();
-        put(&mut content, &self.version.to_be_bytes());
-        put(&mut content, &self.sum);
-        put(&mut content, &self.held.version.to_be_bytes());
-        put(&mut content, &self.held.bits);
+        put(&mut content, self.version, &self.sum);
+        put(&mut content, self.held.version, &self.held.bits);
         content
     }
 
     // Parses the content of a beat's record: `None` if it has another length.
+    #[tactic(auto, using(crate::proofs::BeatLemmas::joined))]
     pub(crate) fn read(content: &[u8]) -> Option<Beat>
         ensures len { IsSome result ↔ (length content.now ≡ BEAT_LEN) }
         ensures content { IfSome result (λ beat. beat_content beat ≡ content.now) }
@@ -51,27 +50,25 @@ impl Beat {
         if content.len() != BEAT_LEN {
             return None;
         }
-        let mut sum = [0; 8];
-        sum.copy_from_slice(&content[4..12]);
-        let mut bits = [0; 11];
-        bits.copy_from_slice(&content[16..]);
+        let (first, held) = content.split_at(12);
+        let (version, sum) = first.split_at(4);
         Some(Beat {
-            version: number_in(&content[..4]),
-            sum,
-            held: HeldParts {
-                version: number_in(&content[12..16]),
-                bits,
-            },
+            version: number_in(version),
+            sum: sum_in(sum),
+            held: held_in(held),
         })
     }
 }
 
-// Appends `bytes`.
-fn put(content: &mut ArrayVec<u8, BEAT_LEN>, bytes: &[u8])
-    requires { length content.old.items + length bytes.now ≤ BEAT_LEN }
-    ensures all { content.new.items ≡ content.old.items ++ bytes.now }
-    ensures len { length content.new.items ≡ length content.old.items + length bytes.now }
+// Appends the bytes of `version`, and then `bytes`.
+fn put(content: &mut ArrayVec<u8, BEAT_LEN>, version: u32, bytes: &[u8])
+    requires { length content.old.items + 4 + length bytes.now ≤ BEAT_LEN }
+    ensures all { content.new.items ≡ content.old.items ++ (to_be_bytes w32 version ++ bytes.now) }
+    ensures len { length content.new.items ≡ length content.old.items + 4 + length bytes.now }
 {
+    content
+        .try_extend_from_slice(&version.to_be_bytes())
+        .unwrap();
     content.try_extend_from_slice(bytes).unwrap();
 }
 
@@ -83,6 +80,30 @@ fn number_in(bytes: &[u8]) -> u32
     let mut four = [0; 4];
     four.copy_from_slice(bytes);
     u32::from_be_bytes(four)
+}
+
+// The sum that eight bytes are.
+fn sum_in(bytes: &[u8]) -> [u8; 8]
+    requires { length bytes.now ≡ 8 }
+    ensures { result ≡ bytes.now }
+{
+    let mut sum = [0; 8];
+    sum.copy_from_slice(bytes);
+    sum
+}
+
+// The parts of a snapshot that are held: the snapshot's version, and a bit for each part.
+fn held_in(bytes: &[u8]) -> HeldParts
+    requires { length bytes.now ≡ 15 }
+    ensures { to_be_bytes w32 result.version ++ result.bits ≡ bytes.now }
+{
+    let (version, parts) = bytes.split_at(4);
+    let mut bits = [0; 11];
+    bits.copy_from_slice(parts);
+    HeldParts {
+        version: number_in(version),
+        bits,
+    }
 }
 
 // The bytes of which these are the digits; zeros if they are no digits.

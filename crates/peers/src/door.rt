@@ -1,21 +1,59 @@
 // Who comes in at the hub's door.
+ghost use Rattle.std.specs.Prelude.{◌≡◌};
+
 use crate::entry::Entry;
 use crate::gone::Gone;
 use crate::guest::{Guest, Heeded};
-use crate::guest_stage::GuestStage;
+use crate::guest_stage::Asked;
+use crate::guests::Guests;
+use crate::handshake_fault::HandshakeFault;
+use crate::handshake_refusal::HandshakeRefusal;
 use crate::home::{Home, home_of};
-use crate::hub_links::{HubLinks, MAX_GUESTS, Who};
-use crate::hub_side::HubSide;
-use crate::link_wire::BOUNDS;
+use crate::hub_links::{HubLinks, ListenFault, MAX_GUESTS};
+use crate::hub_net::HubNet;
 use crate::links::FIRST_TOKEN;
 use crate::nonce::Nonce;
+use crate::places::empty_places;
+use crate::turn_time::TurnTime;
 use bytetext::NoMemory;
-use net::{Arrival, Connection, Log, Registry};
-use std::net::Net;
+use net::{Arrival, Log, Registry, TcpDoor};
+use std::net::{Net, SocketAddr};
 use std::random::RandomSource;
 
 /// The most guests of one address: of IPv6, of the addresses that begin with the same 64 bits.
 pub const MAX_OF_ADDRESS: usize = 16;
+
+// The token under which the door is watched.
+const DOOR: usize = 4;
+
+// Which connection a token names.
+#[derive(Clone, Copy)]
+pub(crate) enum Who {
+    Guest,
+    Leaf(u16),
+}
+
+// The hub's door, the guests that came in at it, and which connection each token names.
+pub(crate) struct Door {
+    listener: TcpDoor,
+    pub(crate) guests: Guests,
+    // By token.
+    pub(crate) slots: Vec<Option<Who>>,
+    // The last second at which a guest was logged.
+    told: u64,
+}
+
+// Written by hand, so that the drop is proved once, and not in each function that drops one.
+impl Drop for Door {
+    fn drop(self) {
+        let Door {
+            listener: _,
+            guests: _,
+            slots: _,
+            told: _,
+        } = self;
+    }
+}
 
 impl HubLinks {
     /// Accepts the connections that wait at second `now`, and greets them. If 16 guests are of the address of a new one,
@@ -31,16 +69,50 @@ impl HubLinks {
         registry: &Registry,
         now: u64,
     ) -> Result<(), NoMemory> {
+        let time = self.time(now);
+        self.door.let_in(rt, log, registry, &self.net, time)
+    }
+}
+
+impl Door {
+    // Opens the door at `address`, with this many tokens for connections.
+    pub(crate) fn open<R: AllocGlobal + Net>(
+        rt: &R,
+        registry: &Registry,
+        address: SocketAddr,
+        tokens: usize,
+    ) -> Result<Door, ListenFault> {
+        let slots = empty_places(rt.alloc(), tokens)?;
+        match TcpDoor::open(rt, registry, DOOR, address) {
+            Ok(listener) => Ok(Door {
+                listener,
+                guests: Guests::new(rt.alloc()),
+                slots,
+                told: 0,
+            }),
+            Err(fault) => Err(ListenFault::Door(fault)),
+        }
+    }
+
+    // Accepts the connections that wait, as long as tokens are left for them.
+    fn let_in<R: AllocGlobal + Net + RandomSource>(
+        &mut self,
+        rt: &R,
+        log: &mut Log,
+        registry: &Registry,
+        net: &HubNet,
+        time: TurnTime,
+    ) -> Result<(), NoMemory> {
         for _guest in 0..MAX_GUESTS {
             let Some(slot) = free_slot(self.slots.as_slice()) else {
                 return Ok(());
             };
-            let Some(arrival) = self.door.let_in(registry, FIRST_TOKEN.saturating_add(slot)) else {
+            let token = FIRST_TOKEN.saturating_add(slot);
+            let Some(arrival) = self.listener.let_in(registry, token) else {
                 return Ok(());
             };
-            let home = home_of(&arrival.address);
-            self.make_way(log, home, now)?;
-            self.greet(rt, arrival, slot, home)?;
+            self.make_way(log, home_of(&arrival.address), time)?;
+            self.greet(rt, net, arrival, slot, time.steady)?;
         }
         Ok(())
     }
@@ -49,68 +121,97 @@ impl HubLinks {
     fn greet<R: AllocGlobal + RandomSource>(
         &mut self,
         rt: &R,
+        net: &HubNet,
         arrival: Arrival,
         slot: usize,
-        home: Home,
+        steady: u64,
     ) -> Result<(), NoMemory> {
         let Ok(nonce) = Nonce::draw(rt) else {
             return Ok(());
         };
-        let Arrival { socket, address } = arrival;
-        let side = HubSide {
-            key: self.key,
-            net: self.net,
-            leaves: self.leaves,
-            nonce,
-        };
-        let mut connection = Connection::new(rt.alloc(), socket, BOUNDS);
-        let _fits = connection.tell(side.greeting().as_bytes(), b"")?;
-        self.guests.arrive(Guest {
-            connection,
-            side,
-            stage: GuestStage::Meets,
-            began: self.steady,
-            slot,
-            address,
-            home,
-            crowd: 0,
-        })?;
+        let guest = Guest::greet(rt.alloc(), arrival, net.side(nonce), slot, steady)?;
+        self.guests.arrive(guest)?;
         self.name(slot, Some(Who::Guest));
         Ok(())
     }
 
     // If there are too many guests for another of this home, hears one of them once more, and disconnects it unless it has
     // shown its code.
-    fn make_way(&mut self, log: &mut Log, home: Home, now: u64) -> Result<(), NoMemory> {
-        let place = if self.guests.count(home) >= MAX_OF_ADDRESS {
-            self.guests.oldest_of(home)
-        } else if self.guests.len() >= MAX_GUESTS {
-            self.guests.oldest_of_most()
-        } else {
-            None
+    fn make_way(&mut self, log: &mut Log, home: Home, time: TurnTime) -> Result<(), NoMemory> {
+        let Some(place) = crowded(&self.guests, home) else {
+            return Ok(());
         };
-        match place {
-            Some(place) => self.hear_last(log, place, now),
-            None => Ok(()),
-        }
-    }
-
-    // Hears the guest at `place` once more, and disconnects it unless it has shown its code.
-    fn hear_last(&mut self, log: &mut Log, place: usize, now: u64) -> Result<(), NoMemory> {
-        let steady = self.steady;
         let Some(guest) = self.guests.list.get_mut(place) else {
             return Ok(());
         };
-        let heeded = guest.heed(steady)?;
-        if guest.asked().is_some() {
-            return Ok(());
-        }
-        match heeded {
-            Heeded::Goes(gone) => self.drop_guest(log, place, gone, now),
-            Heeded::Waits(_) => self.drop_guest(log, place, Gone::Crowded, now),
-            Heeded::Asks => {}
+        if let Some(gone) = hear_last(guest, time.steady)? {
+            self.drop_guest(log, place, gone, time.now);
         }
         Ok(())
+    }
+
+    // Reads from each guest, and disconnects those that are to go. Returns whether one has sent anything.
+    pub(crate) fn heed_guests(&mut self, log: &mut Log, time: TurnTime) -> Result<bool, NoMemory> {
+        let mut came = false;
+        for back in 0..self.guests.len() {
+            // From the last one on, since a guest that goes leaves those before it in their places.
+            let place = self.guests.len().saturating_sub(back + 1);
+            if self.heed_guest(log, place, time)? {
+                came = true;
+            }
+        }
+        Ok(came)
+    }
+
+    fn heed_guest(
+        &mut self,
+        log: &mut Log,
+        place: usize,
+        time: TurnTime,
+    ) -> Result<bool, NoMemory> {
+        let Some(guest) = self.guests.list.get_mut(place) else {
+            return Ok(false);
+        };
+        match guest.heed(time.steady)? {
+            Heeded::Waits(came) => Ok(came),
+            Heeded::Asks => Ok(true),
+            Heeded::Goes(gone) => {
+                self.drop_guest(log, place, gone, time.now);
+                Ok(true)
+            }
+        }
+    }
+
+    // Refuses the guest at `place`, and disconnects it. Returns what it asked.
+    pub(crate) fn refuse(
+        &mut self,
+        log: &mut Log,
+        place: usize,
+        refusal: HandshakeRefusal,
+        now: u64,
+    ) -> Result<Option<Asked>, NoMemory> {
+        let Some(guest) = self.guests.list.get_mut(place) else {
+            return Ok(None);
+        };
+        guest.refuse(refusal)?;
+        let asked = guest.asked();
+        let gone = Gone::Handshake(HandshakeFault::Refused(refusal));
+        self.drop_guest(log, place, gone, now);
+        Ok(asked)
+    }
+
+    // Has the guest at `place` entered in the book, unless one is being entered as the same leaf.
+    pub(crate) fn let_enter(&mut self, place: usize) {
+        let guests = self.guests.list.as_mut_slice();
+        let Some(leaf) = leaf_at(guests, place) else {
+            return;
+        };
+        if is_any_entering(guests, leaf) {
+            return;
+        }
+        if let Some(guest) = guests.get_mut(place) {
+            guest.let_enter();
+        }
     }
 
     // Disconnects the guest at `place`. At most one a second is logged, so that nobody can fill the log; but each guest
@@ -123,8 +224,59 @@ impl HubLinks {
         self.name(guest.slot, None);
         if self.told != now || gone.is_of_known() {
             self.told = now;
-            log.note(now, &Entry::GuestGone(leaf_of(&guest), guest.address, gone));
+            note_gone(log, &guest, gone, now);
         }
+    }
+
+    // Makes the token of `slot` name another connection from now on, or none.
+    pub(crate) fn name(&mut self, slot: usize, who: Option<Who>)
+        ensures { self.new ≡ record self.old { slots = self.new.slots } }
+    {
+        if let Some(named) = self.slots.get_mut(slot) {
+            *named = who;
+        }
+    }
+}
+
+// The guest that is heard once more before another of this home comes in, if there are too many.
+fn crowded(guests: &Guests, home: Home) -> Option<usize> {
+    if guests.count(home) >= MAX_OF_ADDRESS {
+        guests.oldest_of(home)
+    } else if guests.len() >= MAX_GUESTS {
+        guests.oldest_of_most()
+    } else {
+        None
+    }
+}
+
+// Hears a guest once more. Returns why it is to be disconnected, unless it has shown its code.
+fn hear_last(guest: &mut Guest, steady: u64) -> Result<Option<Gone>, NoMemory> {
+    let heeded = guest.heed(steady)?;
+    if guest.asked().is_some() {
+        return Ok(None);
+    }
+    Ok(match heeded {
+        Heeded::Goes(gone) => Some(gone),
+        Heeded::Waits(_) => Some(Gone::Crowded),
+        Heeded::Asks => None,
+    })
+}
+
+// Logs that a guest is disconnected.
+fn note_gone(log: &mut Log, guest: &Guest, gone: Gone, now: u64) {
+    log.note(now, &Entry::GuestGone(leaf_of(guest), guest.address, gone));
+}
+
+// Whether a guest is being entered in the book as this leaf.
+fn is_any_entering(guests: &[Guest], leaf: u16) -> bool {
+    guests.iter().any(|guest| guest.is_entering(leaf))
+}
+
+// The number of the leaf that the guest at `place` has shown to be.
+fn leaf_at(guests: &[Guest], place: usize) -> Option<u16> {
+    match guests.get(place) {
+        Some(guest) => leaf_of(guest),
+        None => None,
     }
 }
 

@@ -59,42 +59,12 @@ impl HubLinks {
         self.doubt().is_some()
     }
 
-    // Notes that a leaf was refused: the hub may be an older copy of itself if it was for its records.
-    pub(crate) fn note_refusal(&mut self, leaf: u16, made: DrawnNumber, refusal: HandshakeRefusal)
-        // A leaf that is ahead, or differs, is one that the hub doubts from now on.
-        ensures doubts { self.new.doubts.items ≡ with_doubt leaf made refusal self.old.doubts.items }
-        ensures same { self.new ≡ record self.old { doubts = self.new.doubts } }
-    {
-        if !is_doubt(refusal) {
-            return;
-        }
-        if let Some(place) = self.doubts.get_mut(usize::from(leaf)) {
-            *place = Some(Doubted {
-                doubt: Doubt { leaf, refusal },
-                made,
-            });
-        }
-    }
-
     // Compares what each leaf said in its last beat with what is known of the hub. A leaf that is ahead of the hub, or
     // differs from it, is to be disconnected.
     pub(crate) fn compare_beats(&mut self) {
-        let Some(own) = &self.own else {
-            return;
-        };
-        let own = Beat::of(own);
-        for leaf in 1..self.seats.len() {
-            self.compare_beat(leaf, &own);
-        }
-    }
-
-    fn compare_beat(&mut self, leaf: usize, own: &Beat) {
-        let Some(Some(seat)) = self.seats.get_mut(leaf) else {
-            return;
-        };
-        if let Some(refusal) = seat.compare(own) {
-            let (leaf, made) = (seat.leaf, seat.made);
-            self.note_refusal(leaf, made, refusal);
+        if let Some(own) = &self.own {
+            let own = Beat::of(own);
+            compare_all(self.seats.as_mut_slice(), &mut self.doubts, &own);
         }
     }
 
@@ -135,13 +105,49 @@ impl HubLinks {
         ensures memory { OnErr result (IsTrue (is_leaf_of self.old leaf)) }
         ensures unchanged { OnErr result (self.new ≡ self.old) }
     {
-        if leaf < 1 || leaf > self.leaves {
+        if leaf < 1 || leaf > self.net.leaves {
             return Ok(None);
         }
         let line = bytes_of(alloc, free_line(leaf).as_bytes())?;
         self.book.free(leaf);
         self.unseat(log, leaf, Gone::Renewed, now);
         Ok(Some(line))
+    }
+}
+
+// Notes that a leaf was refused: the hub may be an older copy of itself if it was for its records.
+pub(crate) fn note_refusal(
+    doubts: &mut Vec<Option<Doubted>>,
+    leaf: u16,
+    made: DrawnNumber,
+    refusal: HandshakeRefusal,
+)
+    // A leaf that is ahead, or differs, is one that the hub doubts from now on.
+    ensures doubts { doubts.new.items ≡ with_doubt leaf made refusal doubts.old.items }
+{
+    if !is_doubt(refusal) {
+        return;
+    }
+    if let Some(place) = doubts.get_mut(usize::from(leaf)) {
+        *place = Some(Doubted {
+            doubt: Doubt { leaf, refusal },
+            made,
+        });
+    }
+}
+
+// Compares the last beat of each leaf with the hub's own.
+fn compare_all(seats: &mut [Option<Seat>], doubts: &mut Vec<Option<Doubted>>, own: &Beat) {
+    for place in seats.iter_mut() {
+        if let Some(seat) = place {
+            compare_one(seat, doubts, own);
+        }
+    }
+}
+
+fn compare_one(seat: &mut Seat, doubts: &mut Vec<Option<Doubted>>, own: &Beat) {
+    if let Some(refusal) = seat.compare(own) {
+        note_refusal(doubts, seat.leaf, seat.made, refusal);
     }
 }
 

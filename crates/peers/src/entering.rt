@@ -2,8 +2,9 @@
 ghost use Rattle.std.specs.Prelude.{◌≡◌, true, IfErr, IfOk, IsTrue};
 ghost use Rattle.std.specs.List.{flat_map, list_any};
 ghost use Rattle.peers.specs.Entering.{entry_of, is_any_entering, is_entering, lines_to_enter};
+ghost use Rattle.peers.specs.Joining.{IsOfBook};
 
-use crate::book::Place;
+use crate::book::{Book, Place};
 use crate::book_line::entry_line;
 use crate::guest::Guest;
 use crate::guest_stage::GuestStage;
@@ -24,7 +25,7 @@ impl HubLinks {
         if self.own.is_none() {
             return Ok(Vec::new(alloc));
         }
-        entry_lines(alloc, self.guests.list.as_slice())
+        entry_lines(alloc, self.door.guests.list.as_slice())
     }
 
     /// Notes that the lines that [`HubLinks::to_enter`] returned in this turn are on the disk, and welcomes the leaves
@@ -41,15 +42,16 @@ impl HubLinks {
         if self.own.is_none() {
             return Ok(());
         }
-        for back in 0..self.guests.len() {
+        for back in 0..self.door.guests.len() {
             // From the last one on, since a guest that joins leaves those before it in their places.
-            let place = self.guests.len().saturating_sub(back + 1);
+            let place = self.door.guests.len().saturating_sub(back + 1);
             self.enter(rt, log, place, now)?;
         }
         Ok(())
     }
 
     // If the guest at `place` waits for its line in the book, the line is on the disk.
+    #[tactic(auto, using(crate::proofs::JoiningLemmas::in_book_at))]
     fn enter<R: AllocGlobal>(
         &mut self,
         rt: &R,
@@ -57,18 +59,28 @@ impl HubLinks {
         place: usize,
         now: u64,
     ) -> Result<(), NoMemory> {
-        let Some(guest) = self.guests.list.get(place) else {
+        let Some(guest) = self.door.guests.list.get(place) else {
             return Ok(());
         };
-        let GuestStage::Enters(asked) = guest.stage else {
-            return Ok(());
-        };
-        let words = asked.ask.words;
-        self.book.put_entry(words.leaf, &words.made);
-        match self.book.place(words.leaf, &words.made) {
-            Place::Same => self.join(rt, log, place, now),
-            Place::Free | Place::Taken | Place::Barred => Ok(()),
+        if put_in_book(&mut self.book, guest) {
+            return self.join(rt, log, place, now);
         }
+        Ok(())
+    }
+}
+
+// Enters the folder of a guest that waits for it in the book. Returns whether the book has it now.
+fn put_in_book(book: &mut Book, guest: &Guest) -> bool
+    ensures in_book { result ≡ true → IsOfBook book.new guest.now.stage }
+{
+    let GuestStage::Enters(asked) = guest.stage else {
+        return false;
+    };
+    let words = asked.ask.words;
+    book.put_entry(words.leaf, &words.made);
+    match book.place(words.leaf, &words.made) {
+        Place::Same => true,
+        Place::Free | Place::Taken | Place::Barred => false,
     }
 }
 

@@ -28,30 +28,35 @@ pub(crate) enum Entry<'a> {
 impl Display for Entry<'_> {
     fn fmt<W: fmt::Write>(&self, f: &mut fmt::Formatter<W>) -> fmt::Result {
         match *self {
-            Entry::Joined(leaf, address) => write!(f, "leaf {leaf} linked from {address}"),
-            Entry::LeafGone(leaf, address, gone) => {
-                write!(f, "leaf {leaf} at {address} gone: {gone}")
-            }
-            Entry::GuestGone(leaf, address, gone) => put_guest(f, leaf, address, gone),
-            Entry::Dialled(host, address) => {
-                let host = host.escape_bytes();
-                write!(f, "connecting to the hub {host} at {address}")
-            }
-            Entry::NotDialled(host, fault, due) => {
-                let host = host.escape_bytes();
-                write!(
-                    f,
-                    "not connecting to the hub {host}: {fault}; next try at {due}"
-                )
-            }
+            Entry::Joined(leaf, address) => put_joined(f, leaf, address),
+            Entry::LeafGone(leaf, address, gone) => put_leaf_gone(f, leaf, address, gone),
+            Entry::GuestGone(leaf, address, gone) => put_guest_gone(f, leaf, address, gone),
+            Entry::Dialled(host, address) => put_dialled(f, host, address),
+            Entry::NotDialled(host, fault, due) => put_not_dialled(f, host, fault, due),
             Entry::Linked(address) => write!(f, "linked to the hub at {address}"),
             Entry::HubGone(gone, due) => write!(f, "hub lost: {gone}; next try at {due}"),
         }
     }
 }
 
-// A guest's end, and the number of the leaf, if it has shown its code.
-fn put_guest<W: fmt::Write>(
+fn put_joined<W: fmt::Write>(
+    f: &mut fmt::Formatter<W>,
+    leaf: u16,
+    address: SocketAddr,
+) -> fmt::Result {
+    write!(f, "leaf {leaf} linked from {address}")
+}
+
+fn put_leaf_gone<W: fmt::Write>(
+    f: &mut fmt::Formatter<W>,
+    leaf: u16,
+    address: SocketAddr,
+    gone: Gone,
+) -> fmt::Result {
+    write!(f, "leaf {leaf} at {address} gone: {gone}")
+}
+
+fn put_guest_gone<W: fmt::Write>(
     f: &mut fmt::Formatter<W>,
     leaf: Option<u16>,
     address: SocketAddr,
@@ -61,4 +66,26 @@ fn put_guest<W: fmt::Write>(
         Some(leaf) => write!(f, "leaf {leaf} at {address} refused: {gone}"),
         None => write!(f, "a connection from {address} closed: {gone}"),
     }
+}
+
+fn put_dialled<W: fmt::Write>(
+    f: &mut fmt::Formatter<W>,
+    host: &[u8],
+    address: SocketAddr,
+) -> fmt::Result {
+    let host = host.escape_bytes();
+    write!(f, "connecting to the hub {host} at {address}")
+}
+
+fn put_not_dialled<W: fmt::Write>(
+    f: &mut fmt::Formatter<W>,
+    host: &[u8],
+    fault: DialFault,
+    due: u64,
+) -> fmt::Result {
+    let host = host.escape_bytes();
+    write!(
+        f,
+        "not connecting to the hub {host}: {fault}; next try at {due}"
+    )
 }

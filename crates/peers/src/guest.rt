@@ -9,16 +9,16 @@ use crate::gone::Gone;
 use crate::guest_stage::{Asked, GuestStage};
 use crate::handshake_fault::HandshakeFault;
 use crate::handshake_refusal::HandshakeRefusal;
-use crate::home::Home;
+use crate::home::{Home, home_of};
 use crate::hub_side::{HubHears, HubSide};
 use crate::late::is_late;
-use crate::link_wire::{LinkWire, WireKeys};
+use crate::link_wire::{BOUNDS, LinkWire, WireKeys};
 use crate::own::{HeldParts, Own};
 use crate::seat::Seat;
 use crate::verdict::{Verdict, verdict_at};
 use crate::welcome::Welcome;
 use bytetext::NoMemory;
-use net::{Connection, TcpSocket};
+use net::{Arrival, Connection, TcpSocket};
 use std::alloc::Global;
 use std::net::SocketAddr;
 
@@ -73,6 +73,29 @@ impl Guest {
     ghost use Rattle.peers.specs.Joining.{IsInTime, IsOfBook, Takes, asked_of, verdict_of};
     ghost use Rattle.peers.specs.declared.verdict.Verdict.TheVariants.{Joins};
     ghost use Rattle.peers.specs.declared.guest_stage.GuestStage.TheVariants.{Meets};
+
+    // Greets a connection that arrived at second `steady` of the monotonic clock, and has the token of `slot`.
+    pub(crate) fn greet(
+        alloc: Global,
+        arrival: Arrival,
+        side: HubSide,
+        slot: usize,
+        steady: u64,
+    ) -> Result<Guest, NoMemory> {
+        let Arrival { socket, address } = arrival;
+        let mut connection = Connection::new(alloc, socket, BOUNDS);
+        let _fits = connection.tell(side.greeting().as_bytes(), b"")?;
+        Ok(Guest {
+            connection,
+            side,
+            stage: GuestStage::Meets,
+            began: steady,
+            slot,
+            address,
+            home: home_of(&address),
+            crowd: 0,
+        })
+    }
 
     // Reads from the guest when the monotonic clock shows second `steady`.
     pub(crate) fn heed(&mut self, steady: u64) -> Result<Heeded, NoMemory>
@@ -143,6 +166,13 @@ impl Guest {
         match self.stage {
             GuestStage::Enters(asked) => asked.ask.words.leaf == leaf,
             GuestStage::Meets | GuestStage::Asks(_) => false,
+        }
+    }
+
+    // Has a guest that has shown its code entered in the book.
+    pub(crate) fn let_enter(&mut self) {
+        if let GuestStage::Asks(asked) = self.stage {
+            self.stage = GuestStage::Enters(asked);
         }
     }
 

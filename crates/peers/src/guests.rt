@@ -45,13 +45,16 @@ impl Guests {
         Ok(())
     }
 
-    // Removes the guest at `place`.
+    // Removes the guest at `place`. Once no guest is left, gives back their room: all leaves may have come at once.
     pub(crate) fn remove(&mut self, place: usize) -> Guest
         requires { place < length self.old.list.items }
         ensures { slice_get self.old.list.items place ≡ Some result }
     {
         let guest = self.list.remove(place);
         recount(self.list.as_mut_slice(), guest.home);
+        if self.list.is_empty() {
+            self.list.shrink_to_fit();
+        }
         guest
     }
 

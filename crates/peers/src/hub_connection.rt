@@ -11,18 +11,17 @@ use crate::beat::Beat;
 use crate::drawn_number::DrawnNumber;
 use crate::entry::Entry;
 use crate::gone::Gone;
-use crate::handshake_progress::{LeafRights, Progress};
+use crate::handshake_progress::LeafRights;
 use crate::hub_link::HubLink;
 use crate::inbox::Inbox;
-use crate::leaf_side::LeafSide;
-use crate::link_wire::BOUNDS;
 use crate::meeting::Meeting;
 use crate::nonce::Nonce;
 use crate::own::Own;
 use crate::pumps::Pumps;
 use crate::stations::LeafStation;
+use crate::turn_time::TurnTime;
 use bytetext::{Failure, NoMemory};
-use net::{Connection, DialTokens, Dialled, Dialling, Log, Registry};
+use net::{DialTokens, Dialled, Dialling, Log, Registry};
 use settings::Address;
 use sharewire::Packet;
 use std::alloc::Global;
@@ -41,12 +40,31 @@ const TOKEN: usize = 5;
 const LOOKUP: usize = 7;
 
 // A connection to the hub.
-#[derive(Drop)]
 pub(crate) enum Hub {
     // Before the first record.
     Meets(Meeting),
     // Packets go both ways.
     Linked(HubLink),
+}
+
+// Written by hand, so that the drop is proved once, and not in each function that drops one.
+impl Drop for Hub {
+    fn drop(self) {
+        match self {
+            Hub::Meets(_) => {}
+            Hub::Linked(_) => {}
+        }
+    }
+}
+
+impl Hub {
+    // The link after the handshake, and what the leaf may do: see `Meeting::into_link`.
+    fn into_link(self, alloc: Global, time: TurnTime) -> Option<(HubLink, LeafRights)> {
+        match self {
+            Hub::Meets(meeting) => meeting.into_link(alloc, time),
+            Hub::Linked(_) => None,
+        }
+    }
 }
 
 /// A leaf's connection to its hub, if there is one, and what outlasts a connection.
@@ -154,27 +172,13 @@ impl HubConnection {
         ensures name { IfErr result (λ _. IsName address.now.host) }
         ensures stays { OnErr result (self.new.dialling ≡ self.old.dialling) }
     {
-        let host = address.host.as_bytes();
-        let port = address.port;
-        let tokens = DialTokens {
-            connection: TOKEN,
-            lookup: LOOKUP,
+        let time = TurnTime {
+            now,
+            steady: self.steady,
         };
-        match self
-            .dialling
-            .connect(rt, registry, tokens, host, port, self.steady)
-        {
-            Ok(Some(dialled)) => {
-                log.note(now, &Entry::Dialled(host, dialled.address));
-                Ok(self.begin(rt, dialled, now))
-            }
-            Ok(None) => Ok(false),
-            Err(Failure::Refused(fault)) => {
-                self.dialling.lost(now);
-                log.note(now, &Entry::NotDialled(host, fault, self.dialling.due()));
-                Ok(false)
-            }
-            Err(Failure::NoMemory) => Err(NoMemory),
+        match dialled(&mut self.dialling, rt, log, registry, address, time)? {
+            Some(dialled) => Ok(self.begin(rt, dialled, now)),
+            None => Ok(false),
         }
     }
 
@@ -186,29 +190,9 @@ impl HubConnection {
             self.dialling.lost(now);
             return false;
         };
-        let Dialled { socket, address } = dialled;
-        let connection = Connection::new(rt.alloc(), socket, BOUNDS);
-        let side = self.side(nonce);
-        self.hub = Some(Hub::Meets(Meeting::new(connection, side, address, self.steady)));
+        let side = self.station.side(nonce);
+        self.hub = Some(Hub::Meets(Meeting::begin(rt.alloc(), dialled, side, self.steady)));
         true
-    }
-
-    // The leaf's side of a new connection. The process has still to tell how far the leaf has come.
-    fn side(&self, nonce: Nonce) -> LeafSide {
-        LeafSide {
-            key: self.station.key,
-            leaf: self.station.leaf,
-            leaves: self.station.leaves,
-            net: self.station.net,
-            made: self.station.made,
-            own: Progress {
-                version: 0,
-                sum: [b'0'; 16],
-                last: 0,
-            },
-            nonce,
-            greeted: None,
-        }
     }
 
     /// Whether the process is to tell what it knows of its bot in this turn: the leaf is to answer the hub's greeting,
@@ -250,7 +234,7 @@ impl HubConnection {
                 self.link_if_ready(log, now);
                 Ok(came)
             }
-            Some(Hub::Linked(_)) => self.hear(rt.alloc()),
+            Some(Hub::Linked(link)) => hear(rt.alloc(), link, &mut self.inbox, steady),
             None => Ok(false),
         }
     }
@@ -294,44 +278,27 @@ impl HubConnection {
     // Links the hub if it has shown its code, the leaf keeps the number of its net, and its journal is not to be begun
     // above another request.
     fn link_if_ready(&mut self, log: &mut Log, now: u64) {
-        if self.station.net.is_none() || self.to_begin_after().is_some() {
+        if self.station.net.is_none() || !is_over(&self.hub) {
             return;
         }
-        match self.hub.take() {
-            Some(Hub::Meets(meeting)) => self.link(log, meeting, now),
-            Some(Hub::Linked(link)) => self.hub = Some(Hub::Linked(link)),
-            None => {}
+        if let Some(hub) = self.hub.take() {
+            self.link(log, hub, now);
         }
     }
 
-    // Links the hub if it has shown its code: the connection was a good one, and a hello is due.
-    fn link(&mut self, log: &mut Log, meeting: Meeting, now: u64) {
-        let (Some(said), Some(joined)) = (meeting.said, meeting.joined) else {
-            self.hub = Some(Hub::Meets(meeting));
-            return;
+    // Links the hub, which has shown its code: the connection was a good one, and a hello is due.
+    fn link(&mut self, log: &mut Log, hub: Hub, now: u64) {
+        let time = TurnTime {
+            now,
+            steady: self.steady,
         };
-        let link = meeting.into_link(self.alloc, &said, &joined, self.steady, now);
-        log.note(now, &Entry::Linked(link.address));
-        self.hub = Some(Hub::Linked(link));
-        self.may = joined.answer.may;
-        self.dialling.good();
-        self.pumps.go_on();
-    }
-
-    // Reads from the hub, unless packets of it wait. Returns whether there may be more at once.
-    fn hear(&mut self, alloc: Global) -> Result<bool, NoMemory> {
-        let steady = self.steady;
-        let Some(Hub::Linked(link)) = &mut self.hub else {
-            return Ok(false);
-        };
-        if self.inbox.stream_count() == 0 || self.inbox.count(0) > 0 {
-            link.wire.rest(steady);
-            return Ok(false);
+        if let Some((link, may)) = hub.into_link(self.alloc, time) {
+            log.note(now, &Entry::Linked(link.address));
+            self.hub = Some(Hub::Linked(link));
+            self.may = may;
+            self.dialling.good();
+            self.pumps.go_on();
         }
-        let packets = link.hear(alloc, steady)?;
-        let busy = link.is_busy();
-        self.inbox.put(0, packets)?;
-        Ok(busy)
     }
 
     /// Whether the leaf keeps no number of a net: it was never linked.
@@ -430,4 +397,61 @@ impl HubConnection {
         self.dialling.lost(now);
         log.note(now, &Entry::HubGone(gone, self.dialling.due()));
     }
+}
+
+// Begins to connect to the hub at `address`, which is due. Returns the connection once the system makes one.
+fn dialled<R: AllocGlobal + Net + Files<File = File> + RandomSource>(
+    dialling: &mut Dialling,
+    rt: &R,
+    log: &mut Log,
+    registry: &Registry,
+    address: &Address,
+    time: TurnTime,
+) -> Result<Option<Dialled>, NoMemory>
+    requires moment { time.now < MOMENTS_END }
+    ensures name { IfErr result (λ _. IsName address.now.host) }
+    ensures stays { OnErr result (dialling.new ≡ dialling.old) }
+{
+    let host = address.host.as_bytes();
+    let tokens = DialTokens {
+        connection: TOKEN,
+        lookup: LOOKUP,
+    };
+    match dialling.connect(rt, registry, tokens, host, address.port, time.steady) {
+        Ok(Some(dialled)) => {
+            log.note(time.now, &Entry::Dialled(host, dialled.address));
+            Ok(Some(dialled))
+        }
+        Ok(None) => Ok(None),
+        Err(Failure::Refused(fault)) => {
+            dialling.lost(time.now);
+            log.note(time.now, &Entry::NotDialled(host, fault, dialling.due()));
+            Ok(None)
+        }
+        Err(Failure::NoMemory) => Err(NoMemory),
+    }
+}
+
+// Whether the handshake is over: see `Meeting::is_over`.
+fn is_over(hub: &Option<Hub>) -> bool {
+    match hub {
+        Some(Hub::Meets(meeting)) => meeting.is_over(),
+        Some(Hub::Linked(_)) | None => false,
+    }
+}
+
+// Reads from the hub, unless packets of it wait. Returns whether there may be more at once.
+fn hear(
+    alloc: Global,
+    link: &mut HubLink,
+    inbox: &mut Inbox,
+    steady: u64,
+) -> Result<bool, NoMemory> {
+    if inbox.stream_count() == 0 || inbox.count(0) > 0 {
+        link.wire.rest(steady);
+        return Ok(false);
+    }
+    let packets = link.hear(alloc, steady)?;
+    inbox.put(0, packets)?;
+    Ok(link.is_busy())
 }

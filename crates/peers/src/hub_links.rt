@@ -1,20 +1,20 @@
 // The hub's connections to its leaves.
-ghost use Rattle.std.specs.Prelude.{◌≡◌, ◌≢◌, ℕ, None, not, IfOk, OnOk, OnErr, slice_get};
+ghost use Rattle.std.specs.Prelude.{◌≡◌, ◌≢◌, ℕ, None, Some, not, IfOk, OnOk, OnErr, slice_get};
 ghost use Rattle.std.specs.List.{AllByRecursion, filter};
 ghost use Rattle.sharewire.specs.Frames.{CanBeWritten};
 ghost use Rattle.sharelink.specs.Shapes.{HasGoodRecords};
 ghost use Rattle.peers.specs.Linked.{IsTaken};
 ghost use Rattle.peers.specs.Picking.{is_request};
-ghost use Rattle.peers.specs.Tells.{TakesGranted, TellsPlace, granted, in_doubt};
+ghost use Rattle.peers.specs.Tells.{TakesGranted, TellsPlace, TellsSeat, granted, in_doubt};
 
 use crate::beat::Beat;
 use crate::book::Book;
+use crate::door::{Door, Who};
 use crate::doubt::Doubted;
 use crate::doubts::first_doubt;
-use crate::drawn_number::DrawnNumber;
 use crate::guest::Guest;
-use crate::guests::Guests;
 use crate::handshake_progress::LeafRights;
+use crate::hub_net::HubNet;
 use crate::inbox::Inbox;
 use crate::links::FIRST_TOKEN;
 use crate::own::Own;
@@ -22,9 +22,9 @@ use crate::picking::is_request;
 use crate::places::empty_places;
 use crate::seat::Seat;
 use crate::stations::HubStation;
+use crate::turn_time::TurnTime;
 use bytetext::NoMemory;
-use net::{DoorFault, Registry, TcpDoor};
-use sealing::Key;
+use net::{DoorFault, Registry};
 use sharewire::Packet;
 use std::alloc::Global;
 use std::net::{Net, SocketAddr};
@@ -32,31 +32,16 @@ use std::net::{Net, SocketAddr};
 /// The most connections that have not been welcomed.
 pub const MAX_GUESTS: usize = 1_024;
 
-// The token under which the door is watched.
-const DOOR: usize = 4;
-
-// Which connection a token names.
-#[derive(Clone, Copy)]
-pub(crate) enum Who {
-    Guest,
-    Leaf(u16),
-}
-
 /// The hub's connections: a seat for each leaf, and the guests, which have not been welcomed.
 pub struct HubLinks {
-    pub(crate) door: TcpDoor,
-    pub(crate) key: Key,
-    pub(crate) net: DrawnNumber,
-    pub(crate) leaves: u16,
+    pub(crate) net: HubNet,
+    pub(crate) door: Door,
     // Which folder is which leaf, as the book on the disk says.
     pub(crate) book: Book,
-    pub(crate) guests: Guests,
     // By the leaf's number; no leaf has the number 0.
     pub(crate) seats: Vec<Option<Seat>>,
     // By the leaf's number.
     pub(crate) rights: Vec<LeafRights>,
-    // By token.
-    pub(crate) slots: Vec<Option<Who>>,
     // By the leaf's number.
     pub(crate) inbox: Inbox,
     // Which leaves are ahead of the hub, or differ from it, by the leaf's number.
@@ -65,8 +50,6 @@ pub struct HubLinks {
     pub(crate) is_doubt_kept: bool,
     // What the process has told about its bot in this turn.
     pub(crate) own: Option<Own>,
-    // The last second at which a guest was logged.
-    pub(crate) told: u64,
     // The second of this turn by the monotonic clock.
     pub(crate) steady: u64,
     // The last second of that clock at which no leaf was read, since too much waited.
@@ -77,20 +60,15 @@ pub struct HubLinks {
 impl Drop for HubLinks {
     fn drop(self) {
         let HubLinks {
-            door: _,
-            key: _,
             net: _,
-            leaves: _,
+            door: _,
             book: _,
-            guests: _,
             seats: _,
             rights: _,
-            slots: _,
             inbox: _,
             doubts: _,
             is_doubt_kept: _,
             own: _,
-            told: _,
             steady: _,
             rested: _,
         } = self;
@@ -123,43 +101,10 @@ impl HubLinks {
         address: SocketAddr,
         station: HubStation,
     ) -> Result<HubLinks, ListenFault> {
-        let alloc = rt.alloc();
-        let HubStation {
-            key,
-            net,
-            leaves,
-            readers,
-            book,
-            doubt,
-        } = station;
-        let places = usize::from(leaves) + 1;
-        let rights = rights_of(alloc, places, readers.as_slice())?;
-        let seats = empty_places(alloc, places)?;
-        let doubts = first_doubts(alloc, places, doubt)?;
-        let is_doubt_kept = first_doubt(doubts.as_slice()).is_some();
-        let slots = empty_places(alloc, places + MAX_GUESTS)?;
-        let inbox = Inbox::new(alloc, places)?;
-        match TcpDoor::open(rt, registry, DOOR, address) {
-            Ok(door) => Ok(HubLinks {
-                door,
-                key,
-                net,
-                leaves,
-                book,
-                guests: Guests::new(alloc),
-                seats,
-                rights,
-                slots,
-                inbox,
-                doubts,
-                is_doubt_kept,
-                own: None,
-                told: 0,
-                steady: 0,
-                rested: 0,
-            }),
-            Err(fault) => Err(ListenFault::Door(fault)),
-        }
+        let places = usize::from(station.leaves) + 1;
+        let leaves = LeafPlaces::new(rt.alloc(), places, &station)?;
+        let door = Door::open(rt, registry, address, places + MAX_GUESTS)?;
+        Ok(leaves.into_links(station, door))
     }
 
     /// Begins a turn at second `steady` of the monotonic clock, by which the time limits are measured. Notes that the
@@ -169,41 +114,23 @@ impl HubLinks {
         ensures steady { self.new.steady ≡ steady }
         ensures own { self.new.own ≡ None }
     {
-        for token in tokens {
-            if *token >= FIRST_TOKEN {
-                self.wake_slot(*token - FIRST_TOKEN);
-            }
-        }
+        wake_all(&mut self.door, self.seats.as_mut_slice(), tokens);
         self.own = None;
         self.steady = steady;
     }
 
-    fn wake_slot(&mut self, slot: usize) {
-        let Some(Some(who)) = self.slots.get(slot) else {
-            return;
-        };
-        match *who {
-            Who::Guest => self.wake_guest(slot),
-            Who::Leaf(leaf) => {
-                if let Some(Some(seat)) = self.seats.get_mut(usize::from(leaf)) {
-                    seat.wire.connection.wake();
-                }
-            }
-        }
-    }
-
-    fn wake_guest(&mut self, slot: usize) {
-        for guest in self.guests.list.iter_mut() {
-            if guest.slot == slot {
-                guest.connection.wake();
-            }
+    // The second of this turn, which is `now` by the civil clock.
+    pub(crate) fn time(&self, now: u64) -> TurnTime {
+        TurnTime {
+            now,
+            steady: self.steady,
         }
     }
 
     /// Whether the process is to tell what it knows of its bot in this turn: a guest has shown its code, a leaf's beat is
     /// to be compared, or a beat is due.
     pub fn wants_own(&self) -> bool {
-        has_asking(self.guests.list.as_slice()) || has_due(self.seats.as_slice(), self.steady)
+        has_asking(self.door.guests.list.as_slice()) || has_due(self.seats.as_slice(), self.steady)
     }
 
     /// Returns the packets of one turn: while the hub may be an older copy of itself, no requests.
@@ -234,10 +161,7 @@ impl HubLinks {
         let Some(place) = self.seats.get_mut(usize::from(leaf)) else {
             return Ok(());
         };
-        match place {
-            Some(seat) => seat.tell(alloc, packet),
-            None => Ok(()),
-        }
+        tell_place(alloc, place, packet)
     }
 
     /// Seals what waits for each leaf, and offers each connection its unsent bytes. Returns whether one took a byte.
@@ -245,7 +169,7 @@ impl HubLinks {
     /// # Errors
     /// `NoMemory` if an allocation fails: never if no leaf is linked. Nothing is lost.
     pub fn send(&mut self) -> Result<bool, NoMemory> {
-        let guests = send_guests(self.guests.list.as_mut_slice());
+        let guests = send_guests(self.door.guests.list.as_mut_slice());
         let beat = beat_of(&self.own);
         let seats = send_seats(self.seats.as_mut_slice(), &beat, self.steady)?;
         Ok(guests || seats)
@@ -255,14 +179,119 @@ impl HubLinks {
     pub fn linked(&self) -> usize {
         self.seats.iter().filter(|seat| seat.is_some()).count()
     }
+}
 
-    // Makes the token of `slot` name another connection from now on, or none.
-    pub(crate) fn name(&mut self, slot: usize, who: Option<Who>)
-        ensures { self.new ≡ record self.old { slots = self.new.slots } }
-    {
-        if let Some(named) = self.slots.get_mut(slot) {
-            *named = who;
+// What a new hub has for its leaves, by their numbers.
+struct LeafPlaces {
+    seats: Vec<Option<Seat>>,
+    rights: Vec<LeafRights>,
+    inbox: Inbox,
+    doubts: Vec<Option<Doubted>>,
+}
+
+// Written by hand, so that the drop is proved once, and not in each function that drops one.
+impl Drop for LeafPlaces {
+    fn drop(self) {
+        let LeafPlaces {
+            seats: _,
+            rights: _,
+            inbox: _,
+            doubts: _,
+        } = self;
+    }
+}
+
+impl LeafPlaces {
+    // No leaf is linked. At most the leaf of the station's doubt is in doubt.
+    fn new(alloc: Global, places: usize, station: &HubStation) -> Result<LeafPlaces, NoMemory> {
+        Ok(LeafPlaces {
+            seats: empty_places(alloc, places)?,
+            rights: rights_of(alloc, places, station.readers.as_slice())?,
+            inbox: Inbox::new(alloc, places)?,
+            doubts: first_doubts(alloc, places, station.doubt)?,
+        })
+    }
+
+    // The links of a hub that nobody has reached.
+    fn into_links(self, station: HubStation, door: Door) -> HubLinks {
+        let HubStation {
+            key,
+            net: number,
+            leaves: count,
+            readers: _,
+            book,
+            doubt: _,
+        } = station;
+        let LeafPlaces {
+            seats,
+            rights,
+            inbox,
+            doubts,
+        } = self;
+        let is_doubt_kept = first_doubt(doubts.as_slice()).is_some();
+        HubLinks {
+            net: HubNet {
+                key,
+                number,
+                leaves: count,
+            },
+            door,
+            book,
+            seats,
+            rights,
+            inbox,
+            doubts,
+            is_doubt_kept,
+            own: None,
+            steady: 0,
+            rested: 0,
         }
+    }
+}
+
+// Notes that the connections that these tokens name may have something to read.
+fn wake_all(door: &mut Door, seats: &mut [Option<Seat>], tokens: &[usize]) {
+    for token in tokens {
+        if *token >= FIRST_TOKEN {
+            wake_slot(door, seats, *token - FIRST_TOKEN);
+        }
+    }
+}
+
+fn wake_slot(door: &mut Door, seats: &mut [Option<Seat>], slot: usize) {
+    let Some(Some(who)) = door.slots.get(slot) else {
+        return;
+    };
+    match *who {
+        Who::Guest => wake_guest(door.guests.list.as_mut_slice(), slot),
+        Who::Leaf(leaf) => wake_leaf(seats, leaf),
+    }
+}
+
+fn wake_guest(guests: &mut [Guest], slot: usize) {
+    for guest in guests.iter_mut() {
+        if guest.slot == slot {
+            guest.connection.wake();
+        }
+    }
+}
+
+fn wake_leaf(seats: &mut [Option<Seat>], leaf: u16) {
+    if let Some(Some(seat)) = seats.get_mut(usize::from(leaf)) {
+        seat.wire.connection.wake();
+    }
+}
+
+// Queues `packet` for the leaf that has this place, if one is linked.
+fn tell_place(alloc: Global, place: &mut Option<Seat>, packet: &Packet) -> Result<(), NoMemory>
+    requires good { HasGoodRecords packet.now }
+    ensures memory { OnErr result (IsTaken (Some place.old)) }
+    ensures frame { OnErr result (CanBeWritten packet.now) }
+    ensures told { OnOk result (TellsSeat packet.now place.old place.new) }
+{
+    match place {
+        Some(seat) => seat.tell(alloc, packet),
+        None => Ok(()),
     }
 }
 

@@ -8,7 +8,8 @@
 //!   speaks for itself alone: a packet that names another ends its connection ([`is_said_by`]).
 //! - A [`HubConnection`] reconnects whenever its connection is lost, and knows when the leaf is to say hello
 //!   ([`Pumps`]).
-//! - [`Links`] is either of them, or neither if a bot is alone.
+//! - [`Links`] is either of them, or neither if a bot is alone, and [`Mail`] has them with an account of what they were
+//!   told.
 //! - [`HubSide`] and [`LeafSide`] are the two sides of the handshake, and [`LinkKeys`] the keys that it gives them.
 //! - A [`Book`] is what a hub knows of its leaves: which folder is which leaf.
 //! - A [`FrameReader`] reads the frames of a connection from its first byte on, in pieces of any size, and [`frame_of`]
@@ -27,7 +28,7 @@
 //! let lines = links.to_enter(alloc)?;            // at a hub: append them to the book on the disk, if there are any
 //! links.entered(rt, log, now)?;
 //! let packets = links.take_packets(alloc)?;      // for take_turn
-//! links.tell(alloc, &outgoing, now)?;            // each of the turn's packets; one whose peer is not linked is lost
+//! mail.tell(alloc, &outgoing, now)?;             // each of the turn's packets; one whose peer is not linked is lost
 //! links.send()?;
 //! links.let_go(log, now);
 //! ```
@@ -117,6 +118,7 @@
 //! In `specs/`, `Waiting` states in full which packets a turn takes, and `Speakers` which leaf sends a packet.
 #![tactic(auto)]
 
+mod account;
 mod beat;
 mod book;
 mod book_laws;
@@ -148,12 +150,14 @@ mod home;
 mod hub_connection;
 mod hub_link;
 mod hub_links;
+mod hub_net;
 mod hub_side;
 mod inbox;
 mod late;
 mod leaf_side;
 mod link_wire;
 mod links;
+mod mail;
 mod meeting;
 mod nonce;
 mod outbox;
@@ -169,9 +173,11 @@ mod secret;
 mod speaker;
 mod stations;
 mod status;
+mod turn_time;
 mod verdict;
 mod welcome;
 
+pub use crate::account::MailAccount;
 pub use crate::book::{Book, BookFault, Place};
 pub use crate::book_laws::laws_of_the_book;
 pub use crate::book_line::{bar_line, entry_line, free_line};
@@ -196,6 +202,7 @@ pub use crate::late::{TIME_LIMIT, is_late};
 pub use crate::leaf_side::{LeafHears, LeafSide};
 pub use crate::link_wire::MAX_UNSENT;
 pub use crate::links::{FIRST_TOKEN, Links};
+pub use crate::mail::Mail;
 pub use crate::nonce::Nonce;
 pub use crate::own::{HeldParts, Own};
 pub use crate::pulse::{BEAT_EVERY, SILENCE};

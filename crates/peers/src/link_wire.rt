@@ -1,5 +1,6 @@
 // A sealed connection to another bot.
-ghost use Rattle.std.specs.Prelude.{◌≡◌, ◌≤◌};
+ghost use Rattle.std.specs.Prelude.{◌≡◌, ◌≤◌, true, vec_capacity, vec_len};
+ghost use Rattle.net.specs.Connections.{Sends, talk_of};
 ghost use Rattle.peers.specs.declared.link_wire.TheConstants.{MAX_SEALED};
 
 use crate::beat::Beat;
@@ -192,7 +193,7 @@ impl LinkWire {
         ensures outbox { self.new.outbox ≡ self.old.outbox }
         ensures sealer { self.new.sealer ≡ self.old.sealer }
     {
-        let took = self.connection.send();
+        let took = send_unsent(&mut self.connection);
         if took || self.waiting() == 0 {
             self.pulse.took = steady;
         }
@@ -308,6 +309,16 @@ impl LinkWire {
         }
     }
 
+    // Marks the connection as one to close if the other end has taken nothing for too long at second `steady`, or has said
+    // nothing although this end `listened`. Returns why it is to be closed, if it is.
+    pub(crate) fn end_if_dead(&mut self, steady: u64, listened: bool) -> Option<Gone> {
+        self.end_if_stuck(steady);
+        if listened {
+            self.end_if_silent(steady);
+        }
+        self.gone()
+    }
+
     // Marks the connection as one to close. The first reason is the one that is logged.
     pub(crate) fn end(&mut self, gone: Gone)
         ensures gone { IsSome self.new.gone }
@@ -353,4 +364,18 @@ impl LinkWire {
     {
         self.waiting() > SLOW
     }
+}
+
+// Offers the socket the unsent bytes. Returns whether it took a byte. Once none is left, gives back their room: a hub has
+// a connection for each leaf, mostly at rest.
+fn send_unsent(connection: &mut Connection<TcpSocket>) -> bool
+    ensures sends { Sends (talk_of connection.old) result (talk_of connection.new) }
+    ensures bounds { connection.new.bounds ≡ connection.old.bounds }
+    ensures frees { result ≡ true → vec_len connection.new.unsent ≡ 0 → vec_capacity connection.new.unsent ≡ 0 }
+{
+    let took = connection.send();
+    if took && connection.unsent.is_empty() {
+        connection.unsent.shrink_to_fit();
+    }
+    took
 }

@@ -146,12 +146,13 @@ impl Links {
         }
     }
 
-    /// Queues the packet of `outgoing` for its recipient. If the recipient is not linked, the packet is lost.
-    /// A leaf's hello counts as said at second `now`.
-    ///
-    /// # Errors
-    /// `NoMemory` if an allocation fails: never if the recipient is not linked, nor if the packet has no frame.
-    pub fn tell(&mut self, alloc: Global, outgoing: &Outgoing, now: u64) -> Result<(), NoMemory>
+    // Queues the packet of `outgoing` for its recipient, as `Mail::tell` says.
+    pub(crate) fn tell(
+        &mut self,
+        alloc: Global,
+        outgoing: &Outgoing,
+        now: u64,
+    ) -> Result<(), NoMemory>
         requires good { HasGoodRecords outgoing.now.packet }
         ensures memory { OnErr result (Reaches outgoing.now.to self.old) }
         ensures frame { OnErr result (CanBeWritten outgoing.now.packet) }

@@ -6,14 +6,16 @@ use crate::beat::Beat;
 use crate::gone::Gone;
 use crate::handshake_fault::HandshakeFault;
 use crate::handshake_keys::LinkKeys;
+use crate::handshake_progress::LeafRights;
 use crate::handshake_sides::HubAnswer;
 use crate::hub_link::HubLink;
 use crate::late::is_late;
 use crate::leaf_side::{LeafHears, LeafSide};
-use crate::link_wire::{LinkWire, WireKeys};
+use crate::link_wire::{BOUNDS, LinkWire, WireKeys};
 use crate::own::Own;
+use crate::turn_time::TurnTime;
 use bytetext::NoMemory;
-use net::{Connection, TcpSocket};
+use net::{Connection, Dialled, TcpSocket};
 use std::alloc::Global;
 use std::net::SocketAddr;
 
@@ -66,16 +68,10 @@ pub(crate) struct Joined {
 impl Meeting {
     // A connection that begins when the monotonic clock shows second `steady`. `side` is to be told how far the leaf has
     // come. Allocates nothing.
-    pub(crate) fn new(
-        connection: Connection<TcpSocket>,
-        side: LeafSide,
-        address: SocketAddr,
-        steady: u64,
-    ) -> Meeting
-        requires wide { MAX_SEALED ≤ connection.bounds.unsent }
-    {
+    pub(crate) fn begin(alloc: Global, dialled: Dialled, side: LeafSide, steady: u64) -> Meeting {
+        let Dialled { socket, address } = dialled;
         Meeting {
-            connection,
+            connection: Connection::new(alloc, socket, BOUNDS),
             side,
             said: None,
             joined: None,
@@ -163,6 +159,11 @@ impl Meeting {
         if said.last < last { Some(last) } else { None }
     }
 
+    // Whether the hub has shown its code, and the leaf's journal is not to be begun above another request.
+    pub(crate) fn is_over(&self) -> bool {
+        self.said.is_some() && self.joined.is_some() && self.to_begin_after().is_none()
+    }
+
     // Why the connection is to be closed, if it is.
     pub(crate) fn gone(&self) -> Option<Gone> {
         match self.gone {
@@ -172,16 +173,12 @@ impl Meeting {
         }
     }
 
-    // The link after the handshake, which begins at second `now`, and at second `steady` of the monotonic clock. Its first
-    // record is a beat. Allocates nothing.
-    pub(crate) fn into_link(
-        self,
-        alloc: Global,
-        said: &Said,
-        joined: &Joined,
-        steady: u64,
-        now: u64,
-    ) -> HubLink {
+    // The link after the handshake, which begins at second `time`, and what the leaf may do. Its first record is a beat.
+    // Returns `None` if the handshake is not over. Allocates nothing.
+    pub(crate) fn into_link(self, alloc: Global, time: TurnTime) -> Option<(HubLink, LeafRights)> {
+        let (Some(said), Some(joined)) = (self.said, self.joined) else {
+            return None;
+        };
         let Meeting {
             connection,
             side: _,
@@ -192,15 +189,10 @@ impl Meeting {
             address,
         } = self;
         let keys = WireKeys::of_leaf(&joined.keys);
-        let mut wire = LinkWire::new(alloc, connection, &keys, steady);
+        let mut wire = LinkWire::new(alloc, connection, &keys, time.steady);
         wire.put_beat(said.beat);
-        HubLink::new(
-            alloc,
-            wire,
-            said.beat,
-            joined.answer.progress.version,
-            address,
-            now,
-        )
+        let version = joined.answer.progress.version;
+        let link = HubLink::new(alloc, wire, said.beat, version, address, time.now);
+        Some((link, joined.answer.may))
     }
 }

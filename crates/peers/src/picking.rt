@@ -1,5 +1,5 @@
 // Which of the packets that a leaf sends are handed on.
-ghost use Rattle.std.specs.Prelude.{◌≡◌, IfOk};
+ghost use Rattle.std.specs.Prelude.{◌≡◌, ◌<◌, ◌≤◌, ◌+◌, ◌++◌, ◌∷◌, [], if◌then◌else◌, IfOk, vec_len, vec_capacity};
 ghost use Rattle.std.specs.List.{count_by};
 ghost use Rattle.peers.specs.Picking.{is_hello, is_lost, is_request, only_reads, picked};
 
@@ -11,6 +11,7 @@ use std::collections::VecDeque;
 
 // The packets of one piece that are handed on: of the hellos only the last, and no request of a leaf that may only read.
 // Each hello is answered by all that the leaf lacks, so the others would have the same sent again and again.
+#[tactic(auto, using(crate::proofs::PickingLemmas::picked_one))]
 pub(crate) fn picked(
     alloc: Global,
     packets: Vec<Packet>,
@@ -25,12 +26,23 @@ pub(crate) fn picked(
     for _packet in 0..count {
         if let Some(packet) = rest.pop_front() {
             hellos -= usize::from(is_hello(&packet));
-            if !is_lost(may, &packet, hellos) {
-                kept.push_reserved(packet);
-            }
+            let lost = is_lost(may, &packet, hellos);
+            keep_unless(lost, packet, &mut kept);
         }
     }
     Ok(kept)
+}
+
+// Appends a packet, unless it is lost. Allocates nothing.
+fn keep_unless(lost: bool, packet: Packet, kept: &mut Vec<Packet>)
+    requires room { vec_len kept.old < vec_capacity kept.old }
+    ensures kept { kept.new.items ≡ (if lost then kept.old.items else kept.old.items ++ packet ∷ []) }
+    ensures few { vec_len kept.new ≤ vec_len kept.old + 1 }
+    ensures room { vec_capacity kept.new ≡ vec_capacity kept.old }
+{
+    if !lost {
+        kept.push_reserved(packet);
+    }
 }
 
 fn count_hellos(packets: &[Packet]) -> usize

@@ -1,6 +1,6 @@
 // The queue of one stream.
 ghost use Rattle.std.specs.Prelude.{◌≡◌, ◌≤◌, ◌+◌, ◌++◌, take, drop, vec_len, vec_capacity};
-ghost use Rattle.std.specs.VecDeque.{deque_len};
+ghost use Rattle.std.specs.VecDeque.{deque_capacity, deque_len};
 
 use sharewire::Packet;
 use std::alloc::Global;
@@ -56,14 +56,16 @@ impl Queue {
         self.packets.len()
     }
 
-    // Drops all queued packets.
+    // Drops all queued packets, and gives back their room.
     pub(crate) fn clear(&mut self)
         ensures { self.new ≡ [] }
     {
         self.packets.clear();
+        self.packets.shrink_to_fit();
     }
 
-    // Moves this stream's share to the end of `packets`. Allocates nothing.
+    // Moves this stream's share to the end of `packets`. Once no packet is left, gives back their room: a hub has a queue
+    // for each leaf, mostly empty. Allocates nothing.
     pub(crate) fn give(&mut self, packets: &mut Vec<Packet>)
         requires few { vec_len packets.old ≤ MAX_PACKETS }
         requires room { MAX_PACKETS ≤ vec_capacity packets.old }
@@ -77,6 +79,17 @@ impl Queue {
             .min(self.packets.len())
             .min(MAX_PACKETS - packets.len());
         move_first(&mut self.packets, share, packets);
+        give_back(&mut self.packets);
+    }
+}
+
+// Gives back the room of a queue that is empty.
+fn give_back(queue: &mut VecDeque<Packet>)
+    ensures same { queue.new.items ≡ queue.old.items }
+    ensures frees { deque_len queue.old ≡ 0 → deque_capacity queue.new ≡ 0 }
+{
+    if queue.is_empty() {
+        queue.shrink_to_fit();
     }
 }
 

@@ -7,14 +7,15 @@ ghost use Rattle.peers.specs.Joining.{IsInBook, IsOfBook};
 ghost use Rattle.peers.specs.Linked.{IsTaken, has_somebody};
 ghost use Rattle.peers.specs.Waiting.{queue_of};
 
+use crate::door::Who;
+use crate::doubts::note_refusal;
 use crate::entry::Entry;
 use crate::gone::Gone;
-use crate::guest::{Guest, Heeded};
-use crate::guest_stage::GuestStage;
-use crate::handshake_fault::HandshakeFault;
+use crate::guest::Guest;
 use crate::handshake_progress::LeafRights;
 use crate::handshake_refusal::HandshakeRefusal;
-use crate::hub_links::{HubLinks, Who};
+use crate::hub_links::HubLinks;
+use crate::inbox::Inbox;
 use crate::pulse::SILENCE;
 use crate::seat::Seat;
 use crate::verdict::Verdict;
@@ -43,7 +44,19 @@ impl HubLinks {
         if !self.has_somebody() {
             return Ok(false);
         }
-        let guests = self.heed_guests(rt, log, now)?;
+        self.read_all(rt, log, now)
+    }
+
+    // Reads from the guests and from the leaves. Returns whether there may be more at once.
+    fn read_all<R: AllocGlobal>(
+        &mut self,
+        rt: &R,
+        log: &mut Log,
+        now: u64,
+    ) -> Result<bool, NoMemory> {
+        let time = self.time(now);
+        let guests = self.door.heed_guests(log, time)?;
+        self.judge_guests(rt, log, now)?;
         let leaves = self.hear_leaves(rt.alloc())?;
         self.compare_beats();
         Ok(guests || leaves)
@@ -53,7 +66,7 @@ impl HubLinks {
     fn has_somebody(&self) -> bool
         ensures { result ≡ has_somebody self.now }
     {
-        !self.guests.list.is_empty() || is_any_taken(self.seats.as_slice())
+        !self.door.guests.list.is_empty() || is_any_taken(self.seats.as_slice())
     }
 
     // Reads from each leaf, unless too much waits for them. Returns whether there may be more at once.
@@ -65,73 +78,27 @@ impl HubLinks {
             self.rested = self.steady;
             return Ok(false);
         }
-        let mut more = false;
-        for leaf in 1..self.seats.len() {
-            if self.hear_leaf(alloc, leaf)? {
-                more = true;
-            }
-        }
-        Ok(more)
+        hear_all(
+            alloc,
+            self.seats.as_mut_slice(),
+            &mut self.inbox,
+            self.steady,
+        )
     }
 
-    // Reads from a leaf, unless packets of it wait. Returns whether there may be more at once.
-    fn hear_leaf(&mut self, alloc: Global, leaf: usize) -> Result<bool, NoMemory> {
-        let Some(Some(seat)) = self.seats.get_mut(leaf) else {
-            return Ok(false);
-        };
-        if leaf >= self.inbox.stream_count() || self.inbox.count(leaf) > 0 {
-            seat.wire.rest(self.steady);
-            return Ok(false);
-        }
-        let packets = seat.hear(alloc, self.steady)?;
-        let is_busy = seat.is_busy();
-        self.inbox.put(leaf, packets)?;
-        Ok(is_busy)
-    }
-
-    // Reads from each guest, and judges it. Returns whether one has sent anything.
-    fn heed_guests<R: AllocGlobal>(
+    // Judges each guest.
+    fn judge_guests<R: AllocGlobal>(
         &mut self,
         rt: &R,
         log: &mut Log,
         now: u64,
-    ) -> Result<bool, NoMemory> {
-        let mut came = false;
-        for back in 0..self.guests.len() {
+    ) -> Result<(), NoMemory> {
+        for back in 0..self.door.guests.len() {
             // From the last one on, since a guest that joins or goes leaves those before it in their places.
-            let place = self.guests.len().saturating_sub(back + 1);
-            if self.heed_guest(rt, log, place, now)? {
-                came = true;
-            }
+            let place = self.door.guests.len().saturating_sub(back + 1);
+            self.judge(rt, log, place, now)?;
         }
-        Ok(came)
-    }
-
-    fn heed_guest<R: AllocGlobal>(
-        &mut self,
-        rt: &R,
-        log: &mut Log,
-        place: usize,
-        now: u64,
-    ) -> Result<bool, NoMemory> {
-        let steady = self.steady;
-        let Some(guest) = self.guests.list.get_mut(place) else {
-            return Ok(false);
-        };
-        match guest.heed(steady)? {
-            Heeded::Waits(came) => {
-                self.judge(rt, log, place, now)?;
-                Ok(came)
-            }
-            Heeded::Asks => {
-                self.judge(rt, log, place, now)?;
-                Ok(true)
-            }
-            Heeded::Goes(gone) => {
-                self.drop_guest(log, place, gone, now);
-                Ok(true)
-            }
-        }
+        Ok(())
     }
 
     // Refuses the guest at `place`, has it entered in the book, or gives it a seat, if it has shown its code, and the
@@ -144,24 +111,26 @@ impl HubLinks {
         now: u64,
     ) -> Result<(), NoMemory> {
         match self.verdict(place) {
-            Verdict::Waits => {}
-            Verdict::Refuses(refusal) => self.refuse(log, place, refusal, now)?,
-            Verdict::Enters => self.let_enter(place),
-            Verdict::Joins => self.join(rt, log, place, now)?,
+            Verdict::Waits => Ok(()),
+            Verdict::Refuses(refusal) => self.refuse(log, place, refusal, now),
+            Verdict::Enters => {
+                self.door.let_enter(place);
+                Ok(())
+            }
+            Verdict::Joins => self.join(rt, log, place, now),
         }
-        Ok(())
     }
 
     // What is to be done with the guest at `place`.
     #[tactic(auto, using(crate::proofs::JoiningLemmas::in_book_at))]
     fn verdict(&self, place: usize) -> Verdict
         // Only a guest whose folder is in the book joins.
-        ensures in_book { result ≡ Joins → IsInBook self.now.book (slice_get self.now.guests.list.items place) }
+        ensures in_book { result ≡ Joins → IsInBook self.now.book (slice_get self.now.door.guests.list.items place) }
     {
         let Some(own) = &self.own else {
             return Verdict::Waits;
         };
-        match self.guests.list.get(place) {
+        match self.door.guests.list.get(place) {
             Some(guest) => guest.verdict(&self.book, own),
             None => Verdict::Waits,
         }
@@ -175,38 +144,11 @@ impl HubLinks {
         refusal: HandshakeRefusal,
         now: u64,
     ) -> Result<(), NoMemory> {
-        let Some(guest) = self.guests.list.get_mut(place) else {
-            return Ok(());
-        };
-        guest.refuse(refusal)?;
-        if let Some(asked) = guest.asked() {
+        if let Some(asked) = self.door.refuse(log, place, refusal, now)? {
             let words = asked.ask.words;
-            self.note_refusal(words.leaf, words.made, refusal);
+            note_refusal(&mut self.doubts, words.leaf, words.made, refusal);
         }
-        let gone = Gone::Handshake(HandshakeFault::Refused(refusal));
-        self.drop_guest(log, place, gone, now);
         Ok(())
-    }
-
-    // Has the guest at `place` entered in the book, unless another one is being entered as the same leaf.
-    fn let_enter(&mut self, place: usize) {
-        let Some(guest) = self.guests.list.get(place) else {
-            return;
-        };
-        let Some(asked) = guest.asked() else {
-            return;
-        };
-        if guest.is_entering(asked.ask.words.leaf) || self.is_entering(asked.ask.words.leaf) {
-            return;
-        }
-        if let Some(guest) = self.guests.list.get_mut(place) {
-            guest.stage = GuestStage::Enters(asked);
-        }
-    }
-
-    // Whether a guest is being entered in the book as this leaf.
-    fn is_entering(&self, leaf: u16) -> bool {
-        self.guests.list.iter().any(|guest| guest.is_entering(leaf))
     }
 
     // Gives the guest at `place` the seat of the leaf that it has shown to be. A leaf that has that seat is disconnected.
@@ -218,12 +160,12 @@ impl HubLinks {
         now: u64,
     ) -> Result<(), NoMemory>
         // The book has its folder.
-        requires in_book { IsInBook self.old.book (slice_get self.old.guests.list.items place) }
+        requires in_book { IsInBook self.old.book (slice_get self.old.door.guests.list.items place) }
     {
-        if place >= self.guests.len() {
+        if place >= self.door.guests.len() {
             return Ok(());
         }
-        let guest = self.guests.remove(place);
+        let guest = self.door.guests.remove(place);
         self.sit(rt, log, guest, now)
     }
 
@@ -237,16 +179,9 @@ impl HubLinks {
     ) -> Result<(), NoMemory>
         requires in_book { IsOfBook self.old.book guest.stage }
     {
-        let (Some(own), Some(asked)) = (&self.own, guest.asked()) else {
-            self.name(guest.slot, None);
+        let Some(welcome) = self.welcome_for(&guest, now) else {
+            self.door.name(guest.slot, None);
             return Ok(());
-        };
-        let leaf = asked.ask.words.leaf;
-        let welcome = Welcome {
-            own: own.progress_for(leaf),
-            may: self.may(leaf),
-            since: now,
-            steady: self.steady,
         };
         if let Some(seat) = guest.into_seat(rt.alloc(), &welcome)? {
             self.take_seat(log, seat, now);
@@ -254,19 +189,25 @@ impl HubLinks {
         Ok(())
     }
 
-    // What a leaf may do.
-    fn may(&self, leaf: u16) -> LeafRights {
-        match self.rights.get(usize::from(leaf)) {
-            Some(may) => *may,
-            None => LeafRights::Reads,
-        }
+    // What the hub tells a guest that has shown its code, once the process has told what it knows of its bot.
+    fn welcome_for(&self, guest: &Guest, now: u64) -> Option<Welcome> {
+        let (Some(own), Some(asked)) = (&self.own, guest.asked()) else {
+            return None;
+        };
+        let leaf = asked.ask.words.leaf;
+        Some(Welcome {
+            own: own.progress_for(leaf),
+            may: right_of(self.rights.as_slice(), leaf),
+            since: now,
+            steady: self.steady,
+        })
     }
 
     // Puts a seat in its place. A leaf that has that seat is disconnected.
     fn take_seat(&mut self, log: &mut Log, seat: Seat, now: u64) {
         let leaf = seat.leaf;
         self.unseat(log, leaf, Gone::Replaced, now);
-        self.name(seat.slot, Some(Who::Leaf(leaf)));
+        self.door.name(seat.slot, Some(Who::Leaf(leaf)));
         if let Some(place) = self.seats.get_mut(usize::from(leaf)) {
             log.note(now, &Entry::Joined(leaf, seat.address));
             *place = Some(seat);
@@ -281,47 +222,83 @@ impl HubLinks {
         ensures book { self.new.book ≡ self.old.book }
     {
         self.inbox.forget(usize::from(leaf));
-        let Some(seat) = self.leave(leaf) else {
-            return;
-        };
-        self.name(seat.slot, None);
-        log.note(now, &Entry::LeafGone(leaf, seat.address, gone));
-    }
-
-    // Empties the place of `leaf`, and returns its seat if it is linked.
-    fn leave(&mut self, leaf: u16) -> Option<Seat>
-        ensures gone { IsTaken (slice_get self.new.seats.items leaf) → ⊥ }
-        ensures others { (place : ℕ) → place ≢ leaf → slice_get self.new.seats.items place ≡ slice_get self.old.seats.items place }
-        ensures same { self.new ≡ record self.old { seats = self.new.seats } }
-    {
-        match self.seats.get_mut(usize::from(leaf)) {
-            Some(place) => place.take(),
-            None => None,
+        if let Some(seat) = leave(&mut self.seats, leaf) {
+            self.door.name(seat.slot, None);
+            log.note(now, &Entry::LeafGone(leaf, seat.address, gone));
         }
     }
 
     /// Disconnects each leaf whose connection is over, at second `now`.
     pub fn let_go(&mut self, log: &mut Log, now: u64) {
-        for leaf in 1..self.leaves.saturating_add(1) {
-            if let Some(gone) = self.gone_of(usize::from(leaf)) {
+        let steady = self.steady;
+        let listened = steady.saturating_sub(self.rested) >= SILENCE;
+        for leaf in 1..self.net.leaves.saturating_add(1) {
+            if let Some(gone) = gone_of(self.seats.as_mut_slice(), leaf, steady, listened) {
                 self.unseat(log, leaf, gone, now);
             }
         }
     }
+}
 
-    // Why a leaf is to be disconnected, if it is linked and its connection is over, silent or stuck.
-    fn gone_of(&mut self, leaf: usize) -> Option<Gone> {
-        let listened = self.steady.saturating_sub(self.rested);
-        match self.seats.get_mut(leaf) {
-            Some(Some(seat)) => {
-                seat.wire.end_if_stuck(self.steady);
-                if listened >= SILENCE {
-                    seat.wire.end_if_silent(self.steady);
-                }
-                seat.wire.gone()
+// Reads from each leaf. Returns whether there may be more at once.
+fn hear_all(
+    alloc: Global,
+    seats: &mut [Option<Seat>],
+    inbox: &mut Inbox,
+    steady: u64,
+) -> Result<bool, NoMemory> {
+    let mut more = false;
+    for (leaf, place) in seats.iter_mut().enumerate() {
+        if let Some(seat) = place {
+            if hear_leaf(alloc, seat, inbox, leaf, steady)? {
+                more = true;
             }
-            Some(None) | None => None,
         }
+    }
+    Ok(more)
+}
+
+// Reads from the leaf numbered `leaf`, unless packets of it wait. Returns whether there may be more at once.
+fn hear_leaf(
+    alloc: Global,
+    seat: &mut Seat,
+    inbox: &mut Inbox,
+    leaf: usize,
+    steady: u64,
+) -> Result<bool, NoMemory> {
+    if leaf >= inbox.stream_count() || inbox.count(leaf) > 0 {
+        seat.wire.rest(steady);
+        return Ok(false);
+    }
+    let packets = seat.hear(alloc, steady)?;
+    inbox.put(leaf, packets)?;
+    Ok(seat.is_busy())
+}
+
+// What a leaf may do.
+fn right_of(rights: &[LeafRights], leaf: u16) -> LeafRights {
+    match rights.get(usize::from(leaf)) {
+        Some(may) => *may,
+        None => LeafRights::Reads,
+    }
+}
+
+// Empties the place of `leaf`, and returns its seat if it is linked.
+fn leave(seats: &mut Vec<Option<Seat>>, leaf: u16) -> Option<Seat>
+    ensures gone { IsTaken (slice_get seats.new.items leaf) → ⊥ }
+    ensures others { (place : ℕ) → place ≢ leaf → slice_get seats.new.items place ≡ slice_get seats.old.items place }
+{
+    match seats.get_mut(usize::from(leaf)) {
+        Some(place) => place.take(),
+        None => None,
+    }
+}
+
+// Why a leaf is to be disconnected, if it is linked and its connection is over or stuck, or silent while the hub listened.
+fn gone_of(seats: &mut [Option<Seat>], leaf: u16, steady: u64, listened: bool) -> Option<Gone> {
+    match seats.get_mut(usize::from(leaf)) {
+        Some(Some(seat)) => seat.wire.end_if_dead(steady, listened),
+        Some(None) | None => None,
     }
 }
 

@@ -2,6 +2,9 @@
 use crate::book::Book;
 use crate::doubt::Doubted;
 use crate::drawn_number::DrawnNumber;
+use crate::handshake_progress::Progress;
+use crate::leaf_side::LeafSide;
+use crate::nonce::Nonce;
 use sealing::Key;
 
 /// What a hub is in its net.
@@ -34,4 +37,24 @@ pub struct LeafStation {
     pub made: DrawnNumber,
     /// The number of the net, if the leaf keeps it already.
     pub net: Option<DrawnNumber>,
+}
+
+impl LeafStation {
+    // The leaf's side of a new connection. The process has still to tell how far the leaf has come.
+    pub(crate) fn side(&self, nonce: Nonce) -> LeafSide {
+        LeafSide {
+            key: self.key,
+            leaf: self.leaf,
+            leaves: self.leaves,
+            net: self.net,
+            made: self.made,
+            own: Progress {
+                version: 0,
+                sum: [b'0'; 16],
+                last: 0,
+            },
+            nonce,
+            greeted: None,
+        }
+    }
 }

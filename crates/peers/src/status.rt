@@ -5,11 +5,13 @@ ghost use Rattle.peers.specs.declared.links.Links.TheVariants.{Alone};
 use crate::hub_connection::{Hub, HubConnection};
 use crate::hub_link::HubLink;
 use crate::hub_links::HubLinks;
+use crate::link_wire::LinkWire;
 use crate::links::Links;
 use crate::seat::Seat;
 use bytetext::NoMemory;
 use itoa::Buffer;
 use std::fmt::Display;
+use std::net::SocketAddr;
 
 /// Appends to `text` the lines that say which bots of `links` are linked. `version` is the version of this bot's records.
 ///
@@ -49,10 +51,20 @@ fn put_seat(text: &mut Vec<u8>, leaf: usize, seat: &Seat, version: u32) -> Resul
         b" behind ",
         u64::from(version.saturating_sub(seat.version)),
     )?;
-    put_count(text, b" unsent ", seat.wire.waiting() as u64)?;
-    put_count(text, b" since ", seat.since)?;
+    put_wire(text, &seat.wire, seat.since, &seat.address)
+}
+
+// What waits for the other end, since when it is linked, and its address.
+fn put_wire(
+    text: &mut Vec<u8>,
+    wire: &LinkWire,
+    since: u64,
+    address: &SocketAddr,
+) -> Result<(), NoMemory> {
+    put_count(text, b" unsent ", wire.waiting() as u64)?;
+    put_count(text, b" since ", since)?;
     put(text, b" address ")?;
-    put_text(text, &seat.address)?;
+    put_text(text, address)?;
     put(text, b"\n")
 }
 
@@ -93,11 +105,7 @@ fn put_link(text: &mut Vec<u8>, link: &HubLink, version: u32) -> Result<(), NoMe
         b" ahead ",
         u64::from(link.version.saturating_sub(version)),
     )?;
-    put_count(text, b" unsent ", link.wire.waiting() as u64)?;
-    put_count(text, b" since ", link.since)?;
-    put(text, b" address ")?;
-    put_text(text, &link.address)?;
-    put(text, b"\n")
+    put_wire(text, &link.wire, link.since, &link.address)
 }
 
 fn put_count(text: &mut Vec<u8>, word: &[u8], count: u64) -> Result<(), NoMemory> {

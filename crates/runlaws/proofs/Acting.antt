@@ -1,13 +1,14 @@
 -- What each act of a process is among the deeds.
 use Rattle.std.proofs.Common.{◌≡◌, ◌+◌, ◌==◌, ℕ, Bool, true, false, if◌then◌else◌, List, ◌∷◌, ◌++◌, length, slice_get, slice_set, Option, Some, refl, ap, sym, subst, append-nil, eq-eqb, eqb-true}
 use Rattle.sharewire.specs.declared.packet.Packet.{Packet}
+use Rattle.sharelink.specs.declared.answer.Outgoing.{Outgoing}
 use Rattle.procs.specs.Promises.{Promised}
 use Rattle.botcore.specs.declared.event.BotEvent.{BotEvent}
 use Rattle.botcore.specs.declared.report.Report.{Report}
 use Rattle.botcore.specs.Bots.{Bot}
 use Rattle.botworld.specs.declared.sent.Sent.{Sent}
 use Rattle.botworld.specs.Net.{posted}
-use Rattle.watching.specs.Acts.{Act, Opens, Creates, Began, Told, Made, Forgets, Hears, HasNoBot, Begins, IsBotOf, IsKept, EndsStep, May, bot_in}
+use Rattle.watching.specs.Acts.{Act, Opens, Creates, Began, Told, Made, Forgets, Hears, Sends, Waits, HasNoBot, Begins, IsBotOf, IsKept, EndsStep, May, bot_in}
 use Rattle.processes.specs.Deeds.{Process, Runs, Ended, Net, Made as MadeStep, Opened, WasTold}
 use Rattle.runlaws.specs.Calls.{Doing, Nothing, Opening, Telling, doing}
 use Rattle.runlaws.specs.Folders.{Folder, Does, Happening, HasFiles, Holder, NoneYet, NoneNow, Holds, past_of, files_of, is_holder, holder_after}
@@ -26,6 +27,8 @@ keeps_none_yet folder (Told bot event) = refl
 keeps_none_yet folder (Made report bot) = refl
 keeps_none_yet folder (Forgets bot) = refl
 keeps_none_yet folder (Hears heard) = refl
+keeps_none_yet folder (Sends outgoing) = refl
+keeps_none_yet folder Waits = refl
 
 keeps_none_now : (folder : ℕ) (act : Act) → holder_after folder (Does act) NoneNow ≡ NoneNow
 keeps_none_now folder (Opens x y) = refl
@@ -35,6 +38,8 @@ keeps_none_now folder (Told bot event) = refl
 keeps_none_now folder (Made report bot) = refl
 keeps_none_now folder (Forgets bot) = refl
 keeps_none_now folder (Hears heard) = refl
+keeps_none_now folder (Sends outgoing) = refl
+keeps_none_now folder Waits = refl
 
 keeps_other : (folder other : ℕ) → (folder == other) ≡ false → (act : Act) → holder_after folder (Does act) (Holds other) ≡ Holds other
 keeps_other folder other e (Opens x y) = refl
@@ -44,6 +49,8 @@ keeps_other folder other e (Told bot event) = refl
 keeps_other folder other e (Made report bot) = refl
 keeps_other folder other e (Forgets bot) = ap (λ (b : Bool). if b then NoneNow else Holds other) e
 keeps_other folder other e (Hears heard) = refl
+keeps_other folder other e (Sends outgoing) = refl
+keeps_other folder other e Waits = refl
 
 module _ (promised : Promised) (folders : ℕ → Folder) (leaves : ℕ) (first w : Net) (world : List Happening) (folder : ℕ)
     (packets : w.packets ≡ sent_in folders world) (many : length w.processes ≡ leaves + 1) where
@@ -98,6 +105,20 @@ module _ (promised : Promised) (folders : ℕ → Folder) (leaves : ℕ) (first 
         no_deed promised w number (Grows (Hears heard)) (Stays (Hears heard)) (Stands (Hears heard) (Holds folder))
         (λ old new same. same)
         (refl, holding_here folder (Does (Hears heard)) world (Lives bot refl is it.runs it.kept))
+
+    sends_goes : (outgoing : Outgoing) (bot : Bot) → bot_in (past_of folder world) ≡ Some bot → GoesBy (Sends outgoing) true (Holds folder)
+    sends_goes outgoing bot is =
+        let it = has bot is at in
+        no_deed promised w number (Grows (Sends outgoing)) (Stays (Sends outgoing)) (Stands (Sends outgoing) (Holds folder))
+        (λ old new same. same)
+        (refl, holding_here folder (Does (Sends outgoing)) world (Lives bot refl is it.runs it.kept))
+
+    waits_goes : (bot : Bot) → bot_in (past_of folder world) ≡ Some bot → GoesBy Waits true (Holds folder)
+    waits_goes bot is =
+        let it = has bot is at in
+        no_deed promised w number (Grows Waits) (Stays Waits) (Stands Waits (Holds folder))
+        (λ old new same. same)
+        (refl, holding_here folder (Does Waits) world (Lives bot refl is it.runs it.kept))
 
     began_goes : (bot : Bot) → Begins (past_of folder world) bot → IsBotOf (station leaves number) bot → IsKept bot
         → GoesBy (Began bot) true (Holds folder)
@@ -173,6 +194,10 @@ module _ (promised : Promised) (folders : ℕ → Folder) (leaves : ℕ) (first 
         subst (both (Forgets bot)) (sym (eq-eqb folder folder refl)) (forgets_goes bot)
     holder_goes (Hears heard) may meets =
         subst (λ (b : Bool). GoesBy (Hears heard) b (Holds folder)) (sym (eq-eqb folder folder refl)) (hears_goes heard may.0 may.1)
+    holder_goes (Sends outgoing) may meets =
+        subst (λ (b : Bool). GoesBy (Sends outgoing) b (Holds folder)) (sym (eq-eqb folder folder refl)) (sends_goes outgoing may.0.0 may.0.1)
+    holder_goes Waits may meets =
+        subst (λ (b : Bool). GoesBy Waits b (Holds folder)) (sym (eq-eqb folder folder refl)) (waits_goes may.0.0 may.0.1)
 
   -- ---- in any folder
 

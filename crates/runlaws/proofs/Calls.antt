@@ -6,7 +6,7 @@ use Rattle.botcore.specs.declared.report.Report.{Report}
 use Rattle.botcore.specs.Bots.{Bot}
 use Rattle.botcore.specs.Steps.{TakesStep}
 use Rattle.watching.specs.Openings.{IsOpened}
-use Rattle.watching.specs.Acts.{Act, Opens, Creates, Began, Told, Made, Forgets, Hears, Station, HasNoBot, Begins, IsBotOf, EndsStep, bot_in}
+use Rattle.watching.specs.Acts.{Act, Opens, Creates, Began, Told, Made, Forgets, Hears, Sends, Waits, Station, HasNoBot, Begins, IsBotOf, EndsStep, bot_in}
 use Rattle.runlaws.specs.Calls.{Doing, Nothing, Opening, Creating, Telling, Forgetting, doing}
 
 -- ---- before a bot has begun
@@ -20,6 +20,8 @@ no_bot (Told bot event ∷ past) none = absurd none
 no_bot (Made report bot ∷ past) none = absurd none
 no_bot (Forgets bot ∷ past) none = refl
 no_bot (Hears packets ∷ past) none = absurd none
+no_bot (Sends outgoing ∷ past) none = absurd none
+no_bot (Waits ∷ past) none = absurd none
 
 -- it has none, and is in no step
 pub has_none : (past : List Act) (bot : Bot) → HasNoBot past → bot_in past ≡ Some bot → ⊥
@@ -34,6 +36,8 @@ no_step (Told one other ∷ past) bot event none is = absurd none
 no_step (Made report one ∷ past) bot event none is = absurd none
 no_step (Forgets one ∷ past) bot event none is = cc
 no_step (Hears packets ∷ past) bot event none is = absurd none
+no_step (Sends outgoing ∷ past) bot event none is = absurd none
+no_step (Waits ∷ past) bot event none is = absurd none
 
 -- ---- when a bot begins
 
@@ -52,6 +56,8 @@ begins_opened (Told one event ∷ past) bot x y begins is = absurd begins
 begins_opened (Made report one ∷ past) bot x y begins is = absurd begins
 begins_opened (Forgets one ∷ past) bot x y begins is = absurd begins
 begins_opened (Hears packets ∷ past) bot x y begins is = absurd begins
+begins_opened (Sends outgoing ∷ past) bot x y begins is = absurd begins
+begins_opened (Waits ∷ past) bot x y begins is = absurd begins
 
 -- as the bot of this number in a net of so many bots
 pub opened_as : (past : List Act) (bot : Bot) (x y : List ℕ) (station : Station) (bots : ℕ) → Begins past bot
@@ -71,6 +77,8 @@ no_beginning (Told one event ∷ past) bot begins is = absurd begins
 no_beginning (Made report one ∷ past) bot begins is = absurd begins
 no_beginning (Forgets one ∷ past) bot begins is = absurd begins
 no_beginning (Hears packets ∷ past) bot begins is = absurd begins
+no_beginning (Sends outgoing ∷ past) bot begins is = absurd begins
+no_beginning (Waits ∷ past) bot begins is = absurd begins
 
 pub no_beginning_in_step : (past : List Act) (bot was : Bot) (event : BotEvent) → Begins past bot → doing past ≡ Telling was event → ⊥
 no_beginning_in_step [] bot was event begins is = absurd begins
@@ -81,6 +89,8 @@ no_beginning_in_step (Told one other ∷ past) bot was event begins is = absurd 
 no_beginning_in_step (Made report one ∷ past) bot was event begins is = absurd begins
 no_beginning_in_step (Forgets one ∷ past) bot was event begins is = absurd begins
 no_beginning_in_step (Hears packets ∷ past) bot was event begins is = absurd begins
+no_beginning_in_step (Sends outgoing ∷ past) bot was event begins is = absurd begins
+no_beginning_in_step (Waits ∷ past) bot was event begins is = absurd begins
 
 -- ---- when a step ends
 
@@ -103,3 +113,5 @@ module _ (promised : Promised) (names : List (List ℕ)) where
   ends_call (Made other bot ∷ past) report after ends = ends
   ends_call (Forgets bot ∷ past) report after ends = ends
   ends_call (Hears packets ∷ past) report after ends = ends
+  ends_call (Sends outgoing ∷ past) report after ends = ends
+  ends_call (Waits ∷ past) report after ends = ends

@@ -6,7 +6,7 @@ use Rattle.sharelink.specs.Telling.{end_last_request}
 use Rattle.botcore.specs.Bots.{Bot}
 use Rattle.botworld.specs.declared.sent.Sent.{Sent}
 use Rattle.botworld.specs.Net.{packet_at, posted}
-use Rattle.watching.specs.Acts.{Act, Opens, Creates, Began, Told, Made, Forgets, Hears}
+use Rattle.watching.specs.Acts.{Act, Opens, Creates, Began, Told, Made, Forgets, Hears, Sends, Waits}
 use Rattle.processes.specs.Deeds.{Net, IsTold, is_unanswered}
 use Rattle.runlaws.specs.Folders.{Folder, What, Does, Takes, Ends, Happening, Holder, NoneYet, NoneNow, Holds, is_holder, holder_of}
 use Rattle.runlaws.specs.Worlds.{posted_by, kept_by, sent_after, told_after, sent_in, told_in}
@@ -55,6 +55,8 @@ module _ (folders : ℕ → Folder) (sent : Sent) (stays : IsNeverDropped sent.p
       ]
   posted_too true number (Forgets bot) told packets rest is = rest is
   posted_too true number (Hears heard) told packets rest is = rest is
+  posted_too true number (Sends outgoing) told packets rest is = rest is
+  posted_too true number Waits told packets rest is = rest is
 
   kept_too : (holder : Holder) (number : ℕ) (bot : Bot) (packets : List Sent) → IsIn sent packets
       → IsIn sent (kept_by holder number bot packets)

@@ -9,7 +9,7 @@ use Rattle.botcore.specs.declared.event.BotEvent.TheVariants.{Connect, Line, Ask
 use Rattle.botcore.specs.Bots.{Bot}
 use Rattle.botworld.specs.declared.sent.Sent.{Sent}
 use Rattle.botworld.specs.Net.{packet_at, posted}
-use Rattle.watching.specs.Acts.{Act, Opens, Creates, Began, Told, Made, Forgets, Hears}
+use Rattle.watching.specs.Acts.{Act, Opens, Creates, Began, Told, Made, Forgets, Hears, Sends, Waits}
 use Rattle.processes.specs.Deeds.{Net, WasTold, is_unanswered, answered}
 use Rattle.processes.proofs.Turning.{WasTold-more}
 use Rattle.runlaws.specs.Calls.{Telling}
@@ -68,6 +68,8 @@ posted_still true number (Told one other) packets bot event told = told
 posted_still true number (Made report one) packets bot event told = WasTold-more packets (posted number report.packets) bot event told
 posted_still true number (Forgets one) packets bot event told = told
 posted_still true number (Hears heard) packets bot event told = told
+posted_still true number (Sends outgoing) packets bot event told = told
+posted_still true number Waits packets bot event told = told
 
 module _ (promised : Promised) (folders : ℕ → Folder) (leaves : ℕ) (first : Net) (world : List Happening) where
   renewed_still : (number : ℕ) (bot : Bot) → IsRenewed folders leaves number world bot → (other : ℕ) (was : Bot) (event : BotEvent)

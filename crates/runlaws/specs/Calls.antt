@@ -2,7 +2,7 @@
 use Rattle.std.specs.Prelude.{ℕ, List, [], ◌∷◌}
 use Rattle.botcore.specs.declared.event.BotEvent.{BotEvent}
 use Rattle.botcore.specs.Bots.{Bot}
-use Rattle.watching.specs.Acts.{Act, Opens, Creates, Began, Told, Made, Forgets, Hears}
+use Rattle.watching.specs.Acts.{Act, Opens, Creates, Began, Told, Made, Forgets, Hears, Sends, Waits}
 
 -- A call that has not returned. A process that ends now ends in this call.
 pub data Doing : Type 0 where
@@ -21,3 +21,5 @@ doing (Told bot event ∷ past) = Telling bot event
 doing (Made report bot ∷ past) = Nothing
 doing (Forgets bot ∷ past) = Forgetting
 doing (Hears packets ∷ past) = Nothing
+doing (Sends outgoing ∷ past) = Nothing
+doing (Waits ∷ past) = Nothing

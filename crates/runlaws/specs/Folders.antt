@@ -1,7 +1,7 @@
 -- What happens in the folders of bots, and what a world shows of them.
 use Rattle.std.specs.Prelude.{◌==◌, ℕ, Bool, true, false, if◌then◌else◌, List, [], ◌∷◌, Option, Some, None}
 use Rattle.botcore.specs.Bots.{Bot}
-use Rattle.watching.specs.Acts.{Act, Opens, Creates, Began, Told, Made, Forgets, Hears, bot_in}
+use Rattle.watching.specs.Acts.{Act, Opens, Creates, Began, Told, Made, Forgets, Hears, Sends, Waits, bot_in}
 use Rattle.processes.specs.Deeds.{Process, Runs, Ended}
 use Rattle.runlaws.specs.Calls.{Doing, Nothing, Opening, Creating, Telling, Forgetting, doing}
 
@@ -84,6 +84,8 @@ holder_after folder (Does (Told bot event)) holder = holder
 holder_after folder (Does (Made report bot)) holder = holder
 holder_after folder (Does (Forgets bot)) holder = without folder holder
 holder_after folder (Does (Hears packets)) holder = holder
+holder_after folder (Does (Sends outgoing)) holder = holder
+holder_after folder (Does Waits) holder = holder
 holder_after folder (Takes bot) holder = Holds folder
 holder_after folder (Ends first second) holder = holder
 

@@ -5,7 +5,7 @@ use Rattle.protocol.specs.History.{records_of}
 use Rattle.botcore.specs.Bots.{Bot}
 use Rattle.botcore.specs.Links.{link_version, link_records}
 use Rattle.botworld.specs.Network.{GrowsByNote}
-use Rattle.watching.specs.Acts.{Act, Opens, Creates, Began, Told, Made, Forgets, Hears}
+use Rattle.watching.specs.Acts.{Act, Opens, Creates, Began, Told, Made, Forgets, Hears, Sends, Waits}
 use Rattle.processes.specs.Deeds.{AtMostOneMore}
 use Rattle.runlaws.specs.Folders.{Folder, What, Does, Takes, Ends, Happening, holds, bot_of}
 
@@ -20,6 +20,8 @@ GrowsBy true number (Told bot event) old new = new ≡ old
 GrowsBy true number (Made report bot) old new = GrowsByNote number report.note old new
 GrowsBy true number (Forgets bot) old new = new ≡ old
 GrowsBy true number (Hears heard) old new = new ≡ old
+GrowsBy true number (Sends outgoing) old new = new ≡ old
+GrowsBy true number Waits old new = new ≡ old
 
 abbrev pub GrowsAtEnd : Bool → List AcceptedChange → List AcceptedChange → Type 0
 GrowsAtEnd false old new = new ≡ old

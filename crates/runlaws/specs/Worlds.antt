@@ -14,7 +14,7 @@ use Rattle.botcore.specs.Steps.{TakesStep}
 use Rattle.botworld.specs.declared.sent.Sent.{Sent}
 use Rattle.botworld.specs.Net.{posted}
 use Rattle.watching.specs.Openings.{CrashesIn, IsUnopened}
-use Rattle.watching.specs.Acts.{Act, Opens, Creates, Began, Told, Made, Forgets, Hears, Station, bot_in}
+use Rattle.watching.specs.Acts.{Act, Opens, Creates, Began, Told, Made, Forgets, Hears, Sends, Waits, Station, bot_in}
 use Rattle.watching.specs.Following.{IsLawful}
 use Rattle.processes.specs.Deeds.{Process, Runs, Net, Deed, Made as MadeStep, Died, Opened, Unopened, Replaced, WasTold, IsHubEnd, Run, net_after, is_unanswered, answered}
 use Rattle.processes.specs.Promises.{Once}
@@ -34,6 +34,8 @@ posted_by true number (Told bot event) packets = packets
 posted_by true number (Made report bot) packets = packets ++ posted number report.packets
 posted_by true number (Forgets bot) packets = packets
 posted_by true number (Hears heard) packets = packets
+posted_by true number (Sends outgoing) packets = packets
+posted_by true number Waits packets = packets
 
 -- The packets after a folder has taken its number with this bot. The requests of an earlier bot of the number leave, if
 -- they have higher numbers than the last request of this one.
@@ -86,6 +88,8 @@ module _ (folders : ℕ → Folder) where
   step_by true folder call (Does (Made report bot)) = step_ended folder call report bot
   step_by true folder call (Does (Forgets bot)) = []
   step_by true folder call (Does (Hears heard)) = []
+  step_by true folder call (Does (Sends outgoing)) = []
+  step_by true folder call (Does Waits) = []
   step_by true folder call (Takes bot) = []
   step_by true folder call (Ends first second) = []
 
@@ -126,6 +130,8 @@ module _ (folders : ℕ → Folder) where
   Meets world folder (Made report bot) = Unit {0}
   Meets world folder (Forgets bot) = Unit {0}
   Meets world folder (Hears heard) = Unit {0}
+  Meets world folder (Sends outgoing) = Unit {0}
+  Meets world folder Waits = Unit {0}
 
 module _ (folders : ℕ → Folder) (leaves : ℕ) where
   -- A leaf is renewed, so that its number gets a new bot. The requests of this one have higher numbers than the last

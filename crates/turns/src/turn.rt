@@ -3,6 +3,7 @@ ghost use Rattle.std.specs.Prelude.{◌≡◌, ◌≢◌, ◌<◌, ◌++◌, ◌
 ghost use Rattle.std.specs.List.{AllByRecursion};
 ghost use Rattle.sharelink.specs.Shapes.{HasGoodRecords};
 ghost use Rattle.botcore.specs.declared.report.End.TheVariants.{NoMemory as ends_no_memory};
+ghost use Rattle.turns.specs.Queues.{IsStepped, IsUnstepped, Queues};
 ghost use Rattle.turns.specs.Turns.{Turns, IsTold, IsTurnEvent, Stops, AllGood};
 ghost use Rattle.watching.specs.Acts.{IsHeard, MayStep, MayTake};
 ghost use Rattle.watching.specs.Following.{Follows, IsWatched};
@@ -94,7 +95,8 @@ impl Drop for Told {
 /// have taken the bytes in or not: connect again, or end the process.
 ///
 /// The call tells `watcher` each step, before it and after it. The watcher must have the bot as it is, and have taken each
-/// packet for the process.
+/// packet for the process. What the reports have for the other bots is to be queued now, in order, before the watcher
+/// lets the process wait.
 #[tactic(auto, using(watching::proofs::FollowingLemmas::follows_same))]
 pub fn take_turn<P: Promise, D: Disk, B: Run, W: Watcher>(
     alloc: Global,
@@ -112,6 +114,7 @@ pub fn take_turn<P: Promise, D: Disk, B: Run, W: Watcher>(
     // Whatever becomes of the turn, the watcher was told of lawful steps alone, and has the bot as it is now.
     ensures follows { Follows (MayStep P.promised store.now) (W.past watcher.old) (W.past watcher.new) }
     ensures watched { IsWatched P.promised store.now W.may (W.past watcher.new) bot.new }
+    ensures queues { Queues (W.past watcher.old) (W.past watcher.new) result }
 {
     let mut stepped = Stepped::new(alloc);
     let events = match events_of(alloc, lines, heard) {
@@ -190,7 +193,7 @@ impl Stepped {
 
 // Makes a step, and keeps its report, and its line if it has one. Out of memory, it keeps nothing, and the bot is as
 // it was, since no step is a restart.
-#[tactic(auto, using(watching::proofs::FollowingLemmas::follows_same))]
+#[tactic(auto, using(watching::proofs::FollowingLemmas::follows_same, crate::proofs::QueueLemmas::unstepped_same))]
 fn step_one<P: Promise, D: Disk, B: Run, W: Watcher>(
     alloc: Global,
     bot: &mut Bot<D>,
@@ -209,6 +212,9 @@ fn step_one<P: Promise, D: Disk, B: Run, W: Watcher>(
     ensures reports { OnErr result (stepped.new.reports.items ≡ stepped.old.reports.items) }
     ensures follows { Follows (MayStep P.promised store.now) (W.past watcher.old) (W.past watcher.new) }
     ensures watched { IsWatched P.promised store.now W.may (W.past watcher.new) bot.new }
+    ensures acts { OnOk result (IsStepped (W.past watcher.old) (W.past watcher.new) event
+        stepped.old.reports.items stepped.new.reports.items) }
+    ensures unstepped { OnErr result (IsUnstepped (W.past watcher.old) (W.past watcher.new)) }
 {
     stepped.reports.reserve(1)?;
     match event {

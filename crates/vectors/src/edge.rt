@@ -1,5 +1,5 @@
 // What a case of the edge of a bot as a process asks for.
-use crate::{books, configurations, handshakes, lookups, records, seconds, wires};
+use crate::{books, configurations, handshakes, lookups, records, registrations, seconds, wires};
 use bytetext::Text;
 use caselines::{CaseError, NO_SUCH_CASE, Sink};
 use std::alloc::Global;
@@ -22,8 +22,10 @@ pub fn answer(
         b"leafkey" => books::leaf_key(words, out),
         b"long" => configurations::long(alloc, words, out),
         b"open" => records::open(alloc, words, out),
+        b"pbkdf2" => registrations::pbkdf2(alloc, words, out),
         b"query" => lookups::query(words, out),
         b"redial" => seconds::redial(words, out),
+        b"register" => registrations::register(alloc, words, out),
         b"reply" => lookups::reply(alloc, words, out),
         b"seal" => records::seal(alloc, words, out),
         b"secret" => books::secret(alloc, words, out),

@@ -58,6 +58,8 @@
 //! | `leaf SECRET NUMBER LEAVES NET MADE VERSION SUM LAST NONCE HEARD..` | what a leaf makes of each HEARD, in turn |
 //! | `book LEAVES LINES NUMBER MADE..` | the place of each leaf that shows a folder, or which line is bad |
 //! | `late BEGAN NOW` | whether a handshake that began then is too late now |
+//! | `pbkdf2 sha256\|sha512 PASSWORD SALT COUNT ROUNDS` | the salted password, with ROUNDS iterations in the first piece |
+//! | `register NAME PASSWORD ALLOWED private\|open WANTED N512 N256 LINE..` | what the client says to each LINE |
 //! | `seal SECRET frames\|beat CONTENT ..` | the bytes of each record of one direction, with ` ; ` between them |
 //! | `open SECRET PIECE..` | for each piece what its records carry, as `frames BYTES` and `beats BYTES`, and the fault, or `none` |
 //! | `query NUMBER NAME 4\|6` | the bytes of the query for NAME's addresses of this family, or `no name` |
@@ -125,6 +127,12 @@
 //! of the leaf is `asks` or `reads`. Of a key the code of the empty text is shown. In a HEARD, in the BYTES of a secret
 //! and in the LINES of a book each `/` stands for a line feed.
 //!
+//! `register` is a registration with the account NAME, `-` for none. ALLOWED has a letter for each mechanism that is
+//! allowed: `w` for SCRAM-SHA-512, `s` for SCRAM-SHA-256, `e` for EXTERNAL and `p` for PLAIN. WANTED has the first letter
+//! of each capability that is wanted, `w` for `away-notify`, or `-`. The nonces are of the 15 bytes N512 and N256. The
+//! answers, with ` ; ` between, are the lines that the client `says`, or `none`, with `over` after them once it has
+//! nothing more to say; or the name of the fault.
+//!
 //! The crate's files `stdin` and `stdout` hold the cases and the answers. The answers were worked out by hand from the
 //! rules that each library states; the codes of `hmac` are those of RFC 4231, and what Python's module of that name
 //! computes. The cases of bots, of their streams and of scripts are those of `botcases`.
@@ -153,6 +161,7 @@ mod persons;
 mod puppet;
 mod queues;
 mod records;
+mod registrations;
 mod seconds;
 mod spellings;
 mod timers;

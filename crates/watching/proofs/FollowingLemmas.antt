@@ -3,7 +3,7 @@ use Rattle.std.proofs.Common.{◌≡◌, ℕ, List, [], ◌∷◌, ap, sym, subs
 use Rattle.procs.specs.Promises.{Promised}
 use Rattle.botcore.specs.Bots.{Bot}
 use Rattle.botcore.specs.Links.{link_version}
-use Rattle.watching.specs.Acts.{Act, Opens, Creates, Began, Told, Made, Forgets, Hears, Station, MayBegin, MayStep, May, HasNoBot, NumbersAbove, bot_in}
+use Rattle.watching.specs.Acts.{Act, Opens, Creates, Began, Told, Made, Forgets, Hears, Sends, Waits, Station, MayBegin, MayStep, May, HasNoBot, NumbersAbove, bot_in}
 use Rattle.watching.specs.Following.{Follows, Lets, HasBegun, IsWatched, IsLawful, Allows, IsAt}
 use Rattle.watching.specs.Following.Follows.{so_far, more}
 
@@ -44,6 +44,8 @@ module _ (promised : Promised) (names : List (List ℕ)) (station : Station) whe
   step_may past (Made report bot) lawful = lawful
   step_may past (Forgets bot) lawful = absurd lawful
   step_may past (Hears packets) lawful = lawful
+  step_may past (Sends outgoing) lawful = lawful
+  step_may past Waits lawful = absurd lawful
 
   begin_may : (past : List Act) (act : Act) → MayBegin station past act → May promised names station past act
   begin_may past (Opens first second) lawful = lawful
@@ -53,6 +55,8 @@ module _ (promised : Promised) (names : List (List ℕ)) (station : Station) whe
   begin_may past (Made report bot) lawful = absurd lawful
   begin_may past (Forgets bot) lawful = absurd lawful
   begin_may past (Hears packets) lawful = absurd lawful
+  begin_may past (Sends outgoing) lawful = absurd lawful
+  begin_may past Waits lawful = absurd lawful
 
   -- a watcher that allows each lawful act lets a bot begin, and lets it make steps
   pub allows_begin : (may : List Act → Act → Type 0) (past : List Act) → Allows promised names station may → IsLawful promised names station past
@@ -120,3 +124,5 @@ numbers_begin (Told bot event ∷ past) last numbers = absurd numbers
 numbers_begin (Made report bot ∷ past) last numbers = absurd numbers
 numbers_begin (Forgets bot ∷ past) last numbers = tt
 numbers_begin (Hears packets ∷ past) last numbers = absurd numbers
+numbers_begin (Sends outgoing ∷ past) last numbers = absurd numbers
+numbers_begin (Waits ∷ past) last numbers = absurd numbers

@@ -1,15 +1,15 @@
 -- Packets that are heard, and steps that take them.
-use Rattle.std.proofs.Common.{◌≡◌, ◌⊎◌, inl, inr, ℕ, List, [], ◌∷◌, refl, sym, subst}
+use Rattle.std.proofs.Common.{◌≡◌, inl, inr, ℕ, List, [], ◌∷◌, refl, sym, subst}
 use Rattle.std.specs.List.{AllByRecursion}
 use Rattle.sharewire.specs.declared.packet.Packet.{Packet}
 use Rattle.procs.specs.Promises.{Promised}
 use Rattle.botcore.specs.declared.event.BotEvent.{BotEvent}
 use Rattle.botcore.specs.declared.event.BotEvent.TheVariants.{Connect, Line, Ask, Pump, Receive, Clock, Bind, Unbind, Compact, Restart}
 use Rattle.botcore.specs.Bots.{Bot}
-use Rattle.watching.specs.Acts.{Act, Opens, Creates, Began, Told, Made, Forgets, Hears, MayStep, MayTake, IsOneOf, IsHeard, bot_in}
+use Rattle.watching.specs.Acts.{Act, Opens, Creates, Began, Told, Made, Forgets, Hears, Sends, Waits, MayStep, MayTake, IsOneOf, IsHeard}
 use Rattle.watching.specs.Following.{Follows, IsWatched}
 use Rattle.watching.specs.Following.Follows.{so_far, more}
-use Rattle.watching.proofs.FollowingLemmas.{follows_act, lets_on}
+use Rattle.watching.proofs.FollowingLemmas.{lets_on}
 
 -- ---- packets that are heard just now
 
@@ -58,6 +58,8 @@ module _ (promised : Promised) (names : List (List ℕ)) where
   heard_by past (Made report bot) packet lawful is = is
   heard_by past (Forgets bot) packet lawful is = absurd lawful
   heard_by past (Hears packets) packet lawful is = inr is
+  heard_by past (Sends outgoing) packet lawful is = is
+  heard_by past Waits packet lawful is = absurd lawful
 
   heard_on : {past new : List Act} (packet : Packet) → Follows (MayStep promised names) past new → IsHeard past packet
       → IsHeard new packet

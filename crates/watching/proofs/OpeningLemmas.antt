@@ -25,7 +25,7 @@ module _ (station : Station) (may : List Act → Act → Type 0) (past mid : Lis
   has_begun : (new : List Act) → new ≡ Began bot ∷ mid → HasBegun station past new bot
   has_begun new new_is =
       subst (λ (p : List Act). HasBegun station past p bot) (sym (new_is ∙ ap (λ (p : List Act). Began bot ∷ p) mid_is))
-      (record { follows = more first (begins, of, kept); bot_is = refl })
+      (record { follows = more first (begins, of, kept); bot_is = refl; unsent_is = refl; sent_is = refl; ticked = tt })
 
 -- ---- a bot that is opened from two disks
 

@@ -30,12 +30,12 @@ module _ (promised : Promised) (names : List (List ℕ)) (may : List Act → Act
     ended = more begun (step, kept)
 
     module _ (made : List Act) (made_is : made ≡ Made report after ∷ told) where
-      all : made ≡ Made report after ∷ Told bot event ∷ past
-      all = made_is ∙ ap (λ (p : List Act). Made report after ∷ p) is
+      pub acts_of_step : made ≡ Made report after ∷ Told bot event ∷ past
+      acts_of_step = made_is ∙ ap (λ (p : List Act). Made report after ∷ p) is
 
       pub step_follows : Follows (MayStep promised names) past made
-      step_follows = subst (λ (p : List Act). Follows (MayStep promised names) past p) (sym all) ended
+      step_follows = subst (λ (p : List Act). Follows (MayStep promised names) past p) (sym acts_of_step) ended
 
       pub step_watched : IsWatched promised names may made after
-      step_watched = subst (λ (p : List Act). IsWatched promised names may p after) (sym all)
+      step_watched = subst (λ (p : List Act). IsWatched promised names may p after) (sym acts_of_step)
           (record { lets = lets_on {law = MayStep promised names} may watched.lets ended; bot_is = refl })

@@ -1,7 +1,8 @@
 -- What a process does with its bot, as its watcher is told, and which of these acts are lawful.
-use Rattle.std.specs.Prelude.{◌≡◌, ◌⊎◌, ◌+◌, ℕ, List, [], ◌∷◌, Option, Some, None}
+use Rattle.std.specs.Prelude.{◌≡◌, ◌⊎◌, ◌+◌, ◌++◌, ℕ, List, [], ◌∷◌, drop, Option, Some, None}
 use Rattle.sharewire.specs.declared.packet.Packet.{Packet}
 use Rattle.procs.specs.Promises.{Promised}
+use Rattle.sharelink.specs.declared.answer.Outgoing.{Outgoing}
 use Rattle.sharelink.specs.BotLinks.{MayLeave}
 use Rattle.botcore.specs.declared.config.Config.{Config}
 use Rattle.botcore.specs.declared.event.BotEvent.{BotEvent}
@@ -29,6 +30,10 @@ pub data Act : Type 0 where
   Forgets : Bot → Act
   -- these packets of other bots are taken from the process's connections
   Hears : List Packet → Act
+  -- this packet is queued on the connection to its recipient
+  Sends : Outgoing → Act
+  -- the process waits until there may be something to do
+  Waits : Act
 
 -- A past is a list of acts, the newest first. This is the bot of the process after it; none before the bot has begun,
 -- and none in the middle of an act.
@@ -41,6 +46,8 @@ bot_in (Told bot event ∷ past) = None
 bot_in (Made report bot ∷ past) = Some bot
 bot_in (Forgets bot ∷ past) = None
 bot_in (Hears packets ∷ past) = bot_in past
+bot_in (Sends outgoing ∷ past) = bot_in past
+bot_in (Waits ∷ past) = bot_in past
 
 -- ---- how a bot may begin
 
@@ -63,6 +70,8 @@ HasNoBot (Told bot event ∷ past) = ⊥
 HasNoBot (Made report bot ∷ past) = ⊥
 HasNoBot (Forgets bot ∷ past) = Unit {0}
 HasNoBot (Hears packets ∷ past) = ⊥
+HasNoBot (Sends outgoing ∷ past) = ⊥
+HasNoBot (Waits ∷ past) = ⊥
 
 -- the requests of the first bot of a process are numbered from 1 on
 abbrev pub NumbersAbove : List Act → ℕ → Type 0
@@ -74,6 +83,8 @@ NumbersAbove (Told bot event ∷ past) last = ⊥
 NumbersAbove (Made report bot ∷ past) last = ⊥
 NumbersAbove (Forgets bot ∷ past) last = Unit {0}
 NumbersAbove (Hears packets ∷ past) last = ⊥
+NumbersAbove (Sends outgoing ∷ past) last = ⊥
+NumbersAbove (Waits ∷ past) last = ⊥
 
 -- a bot that was opened is the one that its disks held, and one that was created is new
 abbrev pub Begins : List Act → Bot → Type 0
@@ -85,6 +96,8 @@ Begins (Told other event ∷ past) bot = ⊥
 Begins (Made report other ∷ past) bot = ⊥
 Begins (Forgets other ∷ past) bot = ⊥
 Begins (Hears packets ∷ past) bot = ⊥
+Begins (Sends outgoing ∷ past) bot = ⊥
+Begins (Waits ∷ past) bot = ⊥
 
 -- the bot is this station's
 abbrev pub IsBotOf : Station → Bot → Type 0
@@ -103,6 +116,8 @@ MayBegin station past (Told bot event) = ⊥
 MayBegin station past (Made report bot) = ⊥
 MayBegin station past (Forgets bot) = ⊥
 MayBegin station past (Hears packets) = ⊥
+MayBegin station past (Sends outgoing) = ⊥
+MayBegin station past Waits = ⊥
 
 -- ---- what a process has heard
 
@@ -121,6 +136,67 @@ IsHeard (Told bot event ∷ past) packet = IsHeard past packet
 IsHeard (Made report bot ∷ past) packet = IsHeard past packet
 IsHeard (Forgets bot ∷ past) packet = ⊥
 IsHeard (Hears packets ∷ past) packet = IsOneOf packets packet ⊎ IsHeard past packet
+IsHeard (Sends outgoing ∷ past) packet = IsHeard past packet
+IsHeard (Waits ∷ past) packet = IsHeard past packet
+
+-- ---- what a process has sent
+
+-- the packets that the steps of its bot have reported since the bot has begun, in order, and that are not queued yet
+abbrev pub unsent : List Act → List Outgoing
+unsent [] = []
+unsent (Opens first second ∷ past) = []
+unsent (Creates first second last ∷ past) = []
+unsent (Began bot ∷ past) = []
+unsent (Told bot event ∷ past) = unsent past
+unsent (Made report bot ∷ past) = unsent past ++ report.packets
+unsent (Forgets bot ∷ past) = []
+unsent (Hears packets ∷ past) = unsent past
+unsent (Sends outgoing ∷ past) = drop 1 (unsent past)
+unsent (Waits ∷ past) = unsent past
+
+-- the packets that are queued since the bot has begun, the newest first
+abbrev pub sent_by : List Act → List Outgoing
+sent_by [] = []
+sent_by (Opens first second ∷ past) = []
+sent_by (Creates first second last ∷ past) = []
+sent_by (Began bot ∷ past) = []
+sent_by (Told bot event ∷ past) = sent_by past
+sent_by (Made report bot ∷ past) = sent_by past
+sent_by (Forgets bot ∷ past) = []
+sent_by (Hears packets ∷ past) = sent_by past
+sent_by (Sends outgoing ∷ past) = outgoing ∷ sent_by past
+sent_by (Waits ∷ past) = sent_by past
+
+-- the packet is the first of those that are not queued yet
+abbrev pub IsDue : List Act → Outgoing → Type 0
+IsDue past outgoing = (rest : List Outgoing) × (unsent past ≡ outgoing ∷ rest)
+
+-- ---- when a process may wait
+
+abbrev pub IsReading : BotEvent → Type 0
+IsReading Connect = ⊥
+IsReading (Line line) = ⊥
+IsReading (Ask change) = ⊥
+IsReading Pump = ⊥
+IsReading (Receive packet) = ⊥
+IsReading (Clock now) = Unit {0}
+IsReading (Bind asked) = ⊥
+IsReading (Unbind gone) = ⊥
+IsReading Compact = ⊥
+IsReading Restart = ⊥
+
+-- the bot has begun, or was told a reading of the clock, since the process waited last
+abbrev pub HasTicked : List Act → Type 0
+HasTicked [] = ⊥
+HasTicked (Opens first second ∷ past) = ⊥
+HasTicked (Creates first second last ∷ past) = ⊥
+HasTicked (Began bot ∷ past) = Unit {0}
+HasTicked (Told bot event ∷ past) = IsReading event ⊎ HasTicked past
+HasTicked (Made report bot ∷ past) = HasTicked past
+HasTicked (Forgets bot ∷ past) = ⊥
+HasTicked (Hears packets ∷ past) = HasTicked past
+HasTicked (Sends outgoing ∷ past) = HasTicked past
+HasTicked (Waits ∷ past) = ⊥
 
 -- ---- which steps a bot may make
 
@@ -149,9 +225,11 @@ module _ (promised : Promised) (names : List (List ℕ)) where
   EndsStep (Made other bot ∷ past) report after = ⊥
   EndsStep (Forgets bot ∷ past) report after = ⊥
   EndsStep (Hears packets ∷ past) report after = ⊥
+  EndsStep (Sends outgoing ∷ past) report after = ⊥
+  EndsStep (Waits ∷ past) report after = ⊥
 
   -- The acts of a step: the bot is the one of the past, and the step is one that it takes with the procs of these names.
-  -- Packets are taken between two steps.
+  -- Packets are taken and queued between two steps: those that the bot has reported are queued in order, each once.
   abbrev pub MayStep : List Act → Act → Type 0
   MayStep past (Opens first second) = ⊥
   MayStep past (Creates first second last) = ⊥
@@ -160,11 +238,13 @@ module _ (promised : Promised) (names : List (List ℕ)) where
   MayStep past (Made report bot) = EndsStep past report bot × IsKept bot
   MayStep past (Forgets bot) = ⊥
   MayStep past (Hears packets) = (bot : Bot) × (bot_in past ≡ Some bot)
+  MayStep past (Sends outgoing) = ((bot : Bot) × (bot_in past ≡ Some bot)) × IsDue past outgoing
+  MayStep past Waits = ⊥
 
   -- ---- all acts
 
   -- Each act of a process of this station that is lawful after a past. Only the journal of a bot without records is
-  -- forgotten.
+  -- forgotten. A process waits once all packets are queued, and its bot was told the time.
   abbrev pub May : Station → List Act → Act → Type 0
   May station past (Opens first second) = MayBegin station past (Opens first second)
   May station past (Creates first second last) = MayBegin station past (Creates first second last)
@@ -173,3 +253,5 @@ module _ (promised : Promised) (names : List (List ℕ)) where
   May station past (Made report bot) = MayStep past (Made report bot)
   May station past (Forgets bot) = (bot_in past ≡ Some bot) × (link_version bot.link ≡ 0)
   May station past (Hears packets) = MayStep past (Hears packets)
+  May station past (Sends outgoing) = MayStep past (Sends outgoing)
+  May station past Waits = ((bot : Bot) × (bot_in past ≡ Some bot)) × (unsent past ≡ []) × HasTicked past

@@ -10,7 +10,12 @@
 //! is lawful.
 //!
 //! The packets of other bots come from a [`Mailbox`]. The watcher itself takes them there for the process, and a step of a
-//! packet is lawful only if the packet was taken so. So no process can have its bot take a packet that it made up.
+//! packet is lawful only if the packet was taken so. So no process can have its bot take a packet that it made up. The
+//! watcher also queues the packets for other bots there: those that the bot has reported, in order, each once and to the bot
+//! that the report names. A mailbox accounts for all that it was told, so no process can tell another bot a packet that its
+//! own bot did not report.
+//!
+//! A process that waits says so, and may do it once all packets are queued and its bot was told the time.
 //!
 //! In `specs/`, `Acts` defines the acts and which of them are lawful (`May`). `Openings` says what a bot that was opened
 //! has to do with the bytes of its disks, and what a crash leaves there. `Following` has the words of contracts: a past

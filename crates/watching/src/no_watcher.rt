@@ -9,6 +9,7 @@ use botcore::{Bot, BotEvent, Report};
 use bytetext::NoMemory;
 use disks::Disk;
 use ircline::Line;
+use sharelink::Outgoing;
 use sharewire::Packet;
 use std::alloc::Global;
 use std::marker::Model;
@@ -90,5 +91,20 @@ impl Watcher for NoWatcher {
         let packets = mailbox.take_packets(alloc)?;
         *self = self.after(&packets, &packets, &packets);
         Ok(packets)
+    }
+
+    fn sends<M: Mailbox>(
+        &mut self,
+        alloc: Global,
+        mailbox: &mut M,
+        outgoing: &Outgoing,
+        now: u64,
+    ) -> Result<(), NoMemory> {
+        *self = self.after(outgoing, outgoing, outgoing);
+        mailbox.tell(alloc, outgoing, now)
+    }
+
+    fn waits(&mut self) {
+        *self = self.after(&(), &(), &());
     }
 }

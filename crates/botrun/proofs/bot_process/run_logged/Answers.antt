@@ -1,5 +1,6 @@
 use Rattle.std.proofs.Common.{refl}
-use Rattle.watching.proofs.FollowingLemmas.{numbers_first, lawful_first, allows_begin, at_begun, at_watched, at_stepped, may_forget, forgets_lawful, numbers_again}
+use Rattle.watching.proofs.FollowingLemmas.{numbers_first, lawful_first, allows_begin, at_begun, at_watched, may_forget, forgets_lawful, numbers_again}
+use Rattle.watching.proofs.SendingLemmas.{up_begun, up_quiet, up_reported}
 use Rattle.botrun.specs.Watched.{station_of}
 use Rattle.botrun.proofs.bot_process.run_logged.Goals as goal
 
@@ -15,17 +16,26 @@ begin-requires-clause-lets g c =
 
 pub bind_all-requires : goal.bind_all-requires
 bind_all-requires g c = record {
-  at = at_begun g.P.Promise.promised c.args.store.now (station_of c.args.settings.now) g.W.Watcher.may _ _ _ c.requires.allows
-      c.loop-life.invariant.lawful c.in_ok-process.ensures.begun;
+  watched = at_watched _ _ _ _ _ _ (at_begun g.P.Promise.promised c.args.store.now (station_of c.args.settings.now) g.W.Watcher.may _ _ _
+      c.requires.allows c.loop-life.invariant.lawful c.in_ok-process.ensures.begun);
 }
 
 pub look_back-requires : goal.look_back-requires
-look_back-requires g c = record { watched = at_watched _ _ _ _ _ _ c.in_ok-bind_all.ensures.at }
+look_back-requires g c =
+    let begun = up_begun g.P.Promise.promised c.args.store.now (station_of c.args.settings.now) g.W.Watcher.may _ _ _ _ c.requires.allows
+    c.loop-life.invariant.lawful c.in_ok-process.ensures.begun c.in_ok-process.ensures.told in
+    record {
+      watched = c.bind_all.ensures.watched;
+      settled = (up_quiet _ _ _ _ _ _ _ _ _ _ begun c.bind_all.ensures refl).even.settled;
+    }
 
 pub make_turns-requires : goal.make_turns-requires
-make_turns-requires g c = record {
-  at = at_stepped _ _ _ _ _ _ _ _ c.in_ok-bind_all.ensures.at c.look_back.ensures.follows c.look_back.ensures.watched;
-}
+make_turns-requires g c =
+    let begun = up_begun g.P.Promise.promised c.args.store.now (station_of c.args.settings.now) g.W.Watcher.may _ _ _ _ c.requires.allows
+    c.loop-life.invariant.lawful c.in_ok-process.ensures.begun c.in_ok-process.ensures.told in
+    record {
+      up = up_reported _ _ _ _ _ _ _ _ _ _ (up_quiet _ _ _ _ _ _ _ _ _ _ begun c.bind_all.ensures refl) c.in_ok-look_back.ensures;
+    }
 
 pub give_up-requires-clause-allowed : goal.give_up-requires-clause-allowed
 give_up-requires-clause-allowed g c =

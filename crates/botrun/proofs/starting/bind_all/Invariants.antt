@@ -1,8 +1,7 @@
-use Rattle.watching.specs.Following.{IsAt}
-use Rattle.botrun.specs.Watched.{station_of}
+use Rattle.watching.specs.Following.{StepsQuietly}
 use Rattle.botrun.proofs.starting.bind_all.Given as goal
 
--- the bot is where its binds so far have led
+-- the binds so far have led here
 abbrev pub invariant-loop-bind : goal.invariant-loop-bind
 invariant-loop-bind g l =
-    IsAt g.P.Promise.promised l.store (station_of l.settings) g.W.Watcher.may (g.W.Watcher.past l.watcher) l.bot
+    StepsQuietly g.P.Promise.promised l.store g.W.Watcher.may (g.W.Watcher.past l.fn.watcher) (g.W.Watcher.past l.watcher) l.bot

@@ -5,18 +5,19 @@ use Rattle.eggprocs.specs.declared.proc_name.ProcName.{ProcName}
 use Rattle.eggprocs.specs.declared.proc_name.ProcName.TheVariants as which
 use Rattle.eggprocs.specs.declared.rights.TheConstants.{OP, VOICE, MASTER, OWNER}
 use Rattle.eggprocs.specs.Laws.{IsOnlyForOneOf}
-use Rattle.eggprocs.specs.Procs.{name_of, actions_by}
+use Rattle.eggprocs.specs.Procs.{name_of, wanted_by}
 use Rattle.eggprocs.specs.Rights.{flags_by, is_from_op, is_from_voice}
-use Rattle.eggprocs.proofs.LawLemmas.{does-nothing, has_one_of-ops, has_one_of-more, is_from_op-lacks, is_from_voice-lacks, autoop-lacks, op-refused, deop-refused, kick-refused, topic-refused, invite-refused, ban-refused, unban-refused, voice-refused, devoice-refused, opall-law}
+use Rattle.eggprocs.proofs.DueLemmas.{opall-law}
+use Rattle.eggprocs.proofs.LawLemmas.{does-nothing, has_one_of-ops, has_one_of-more, is_from_op-lacks, is_from_voice-lacks, autoop-lacks, op-refused, deop-refused, kick-refused, topic-refused, invite-refused, ban-refused, unban-refused, voice-refused, devoice-refused}
 use Rattle.eggprocs.proofs.laws.commands_want_flags.Goals as goal
 
 -- a command that does nothing for a caller without the rights of an operator, or without these and voice
-for-ops : (w : ProcName) → ((call : Call) (seen : Seen) → is_from_op call seen ≡ false → actions_by w call seen ≡ [])
+for-ops : (w : ProcName) → ((call : Call) (seen : Seen) → is_from_op call seen ≡ false → wanted_by w call seen ≡ [])
     → IsOnlyForOneOf (OP ∷ MASTER ∷ OWNER ∷ []) (name_of w)
 for-ops w refused = λ call seen lacks.
     does-nothing w call seen (refused call seen (is_from_op-lacks call seen (sym (has_one_of-ops (flags_by call seen)) ∙ lacks)))
 
-for-voice : (w : ProcName) → ((call : Call) (seen : Seen) → is_from_voice call seen ≡ false → actions_by w call seen ≡ [])
+for-voice : (w : ProcName) → ((call : Call) (seen : Seen) → is_from_voice call seen ≡ false → wanted_by w call seen ≡ [])
     → IsOnlyForOneOf (OP ∷ MASTER ∷ OWNER ∷ VOICE ∷ []) (name_of w)
 for-voice w refused = λ call seen lacks.
     does-nothing w call seen (refused call seen (is_from_voice-lacks call seen (sym (has_one_of-more VOICE (flags_by call seen)) ∙ lacks)))

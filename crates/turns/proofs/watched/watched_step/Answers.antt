@@ -1,4 +1,4 @@
-use Rattle.watching.proofs.StepLemmas.{may_tell, may_make, step_follows, step_watched}
+use Rattle.watching.proofs.StepLemmas.{may_tell, may_make, step_follows, step_watched, acts_of_step}
 use Rattle.turns.proofs.watched.watched_step.Goals as goal
 
 pub tells-requires : goal.tells-requires
@@ -21,5 +21,11 @@ returns-clause-follows g c =
 pub returns-clause-watched : goal.returns-clause-watched
 returns-clause-watched g c =
     step_watched g.P.Promise.promised c.args.store.now g.W.Watcher.may (g.W.Watcher.past c.args.watcher.now) c.args.bot.now c.args.event
+    c.requires.watched c.requires.takes (g.W.Watcher.past c.tells.new.self) c.step-report.result c.step-report.new.self
+    c.tells.ensures c.step-report.ensures.takes c.know_disks.ensures.left (g.W.Watcher.past c.made.new.self) c.made.ensures
+
+pub returns-clause-past : goal.returns-clause-past
+returns-clause-past g c =
+    acts_of_step g.P.Promise.promised c.args.store.now g.W.Watcher.may (g.W.Watcher.past c.args.watcher.now) c.args.bot.now c.args.event
     c.requires.watched c.requires.takes (g.W.Watcher.past c.tells.new.self) c.step-report.result c.step-report.new.self
     c.tells.ensures c.step-report.ensures.takes c.know_disks.ensures.left (g.W.Watcher.past c.made.new.self) c.made.ensures

@@ -1,10 +1,12 @@
-use Rattle.std.proofs.Common.{false}
-use Rattle.watching.proofs.FollowingLemmas.{at_same, at_stepped, at_watched, follows_on}
+use Rattle.std.proofs.Common.{◌∙◌, false, refl, sym}
+use Rattle.watching.proofs.FollowingLemmas.{at_watched}
+use Rattle.watching.proofs.SendingLemmas.{even_heard, lets_all, up_sent}
 use Rattle.botrun.proofs.TakingLemmas.{all_admitted, goes_on_from}
 use Rattle.botrun.proofs.process.Process.hear.Goals as goal
 
 pub watched_packets-requires : goal.watched_packets-requires
-watched_packets-requires g c = record { watched = at_watched _ _ _ _ _ _ c.requires.at }
+watched_packets-requires g c =
+    record { watched = at_watched _ _ _ _ _ _ c.requires.even.at; told = c.requires.even.settled.told_is }
 
 pub take_turn-told-requires-clause-heard : goal.take_turn-told-requires-clause-heard
 take_turn-told-requires-clause-heard g c = all_admitted _ _ _ _ c.admit-packets.ensures.packets c.in_ok-waiting.ensures.heard
@@ -12,12 +14,30 @@ take_turn-told-requires-clause-heard g c = all_admitted _ _ _ _ c.admit-packets.
 pub take_turn-told-requires-clause-watched : goal.take_turn-told-requires-clause-watched
 take_turn-told-requires-clause-watched g c = c.watched_packets.ensures.watched
 
+pub pass-requires-clause-lets : goal.pass-requires-clause-lets
+pass-requires-clause-lets g c =
+    let packets = c.watched_packets.ensures in
+    let turn = c.take_turn-told.ensures in
+    lets_all _ _ _ _ _ _ _ _ _ _ _
+    (even_heard _ _ _ _ _ _ _ _ _ c.requires.even packets.follows packets.watched packets.quiet packets.told)
+    turn.watched turn.queues.unsent_is
+
+pub pass-requires-clause-told : goal.pass-requires-clause-told
+pass-requires-clause-told g c =
+    let packets = c.watched_packets.ensures in
+    packets.told ∙ c.requires.even.settled.told_is ∙ sym packets.quiet.sent_is ∙ sym c.take_turn-told.ensures.queues.sent_is
+
 pub pump-requires : goal.pump-requires
-pump-requires g c = record {
-  at = at_same _ _ _ _ _ _ _ c.pass.ensures.bot
-      (at_stepped _ _ _ _ _ _ _ _ c.requires.at (follows_on c.watched_packets.ensures.follows c.take_turn-told.ensures.follows)
-      c.take_turn-told.ensures.watched);
-}
+pump-requires g c =
+    let packets = c.watched_packets.ensures in
+    let turn = c.take_turn-told.ensures in
+    let passed = c.in_ok-pass.ensures in
+    record {
+      up = up_sent _ _ _ _ _ _ _ _ _ _ _ _ _ _
+          (even_heard _ _ _ _ _ _ _ _ _ c.requires.even packets.follows packets.watched packets.quiet packets.told)
+          turn.follows turn.watched turn.queues.unsent_is (turn.queues.none passed.done) (turn.queues.ticked passed.done)
+          passed.past refl passed.told;
+    }
 
 pub returns : goal.returns
 returns g c = record {
@@ -32,7 +52,7 @@ returns g c = record {
       compact = false;
     };
     same = c.take_heard-bytes.ensures.all;
-    left = c.watched_packets.new.mailbox.links;
+    left = c.watched_packets.new.mailbox.mail.links;
     waiting = c.in_ok-waiting.waiting.items;
     taken = c.in_ok-waiting.ensures.gives;
     packets = c.admit-packets.ensures.packets;
@@ -40,7 +60,7 @@ returns g c = record {
     mid = c.take_turn-told.new.bot;
     between = c.take_turn-told.new.lines;
     turn = c.take_turn-told.ensures.turn;
-    rest = goes_on_from _ _ _ _ _ _ _ _ _ _ c.pass.ensures.bot c.pass.ensures.held c.in_ok-pump.ensures.goes_on c.in_ok-compact_if_due.ensures.goes_on;
+    rest = goes_on_from _ _ _ _ _ _ _ _ _ _ refl refl c.in_ok-pump.ensures.goes_on c.in_ok-compact_if_due.ensures.goes_on;
   };
-  at = c.in_ok-compact_if_due.ensures.at;
+  up = c.in_ok-compact_if_due.ensures.up;
 }

@@ -1,8 +1,9 @@
-use Rattle.watching.specs.Following.{IsAt}
+use Rattle.watching.specs.Following.{IsUp}
 use Rattle.botrun.specs.Watched.{station_of}
 use Rattle.botrun.proofs.process.Process.obey_all.Given as goal
 
 -- the bot is where the commands so far have led
 abbrev pub invariant-loop-round : goal.invariant-loop-round
 invariant-loop-round g l =
-    IsAt g.P.Promise.promised l.store (station_of l.settings) g.W.Watcher.may (g.W.Watcher.past l.watcher) l.self.bot
+    IsUp g.P.Promise.promised l.store (station_of l.settings) g.W.Watcher.may (g.W.Watcher.past l.watcher) l.self.bot
+    l.self.others.mail.account.told

@@ -1,0 +1,28 @@
+// The net of a hub.
+use crate::drawn_number::DrawnNumber;
+use crate::hub_side::HubSide;
+use crate::nonce::Nonce;
+use sealing::Key;
+
+// What a hub knows of its net.
+#[derive(Clone, Copy)]
+pub(crate) struct HubNet {
+    // The net's secret, as a key.
+    pub(crate) key: Key,
+    // The number of the net.
+    pub(crate) number: DrawnNumber,
+    // The number of leaves.
+    pub(crate) leaves: u16,
+}
+
+impl HubNet {
+    // The hub's side of a new connection.
+    pub(crate) fn side(&self, nonce: Nonce) -> HubSide {
+        HubSide {
+            key: self.key,
+            net: self.number,
+            leaves: self.leaves,
+            nonce,
+        }
+    }
+}

@@ -1,0 +1,9 @@
+pub mod MacLemmas
+pub mod PayloadLemmas
+pub mod HearingLemmas
+pub mod LineLemmas
+pub mod StepShapes
+pub mod RunLaws
+pub mod TalkLaws
+pub mod PasswordLaws
+pub mod LineLaws

@@ -1,0 +1,16 @@
+pub mod WideHmac
+pub mod Macs
+pub mod Pbkdf2
+pub mod Messages
+pub mod Proofs
+pub mod Accounts
+pub mod Exchange
+pub mod Lists
+pub mod Sets
+pub mod Steps
+pub mod Payloads
+pub mod Cues
+pub mod Hearings
+pub mod Registrations
+pub mod Runs
+pub mod Talks
