@@ -53,7 +53,8 @@ class Exchange:
 
     def __init__(self):
         self.hash = random.choice(list(NAMES))
-        self.name = bytes(random.choices(PRINTABLE + b"==,,", k=random.choice([1, 5, 9, 255])))
+        # ("-" says in a case that no account is wanted)
+        self.name = bytes(random.choices(PRINTABLE + b"==,,", k=random.choice([1, 5, 9, 255]))).replace(b"-", b"_")
         self.password = bytes(random.choices(PRINTABLE, k=random.choice([1, 8, 20, 64, 65, 130, 255])))
         self.nonces = {"sha512": random.randbytes(15), "sha256": random.randbytes(15)}
         self.salt = random.randbytes(random.choice([0, 1, 8, 16, 33, 300]))
