@@ -1,4 +1,4 @@
-"""Makes the man pages eggnet(1) and eggnet.conf(5) from docs/OPERATING.md, docs/FORMATS.md and the program's help.
+"""Makes the man pages eggnet(1) and eggnet.conf(5) from docs/FORMATS.md, the pages for administrators and the program's help.
 
 It reads just the Markdown of these pages: headings, paragraphs, lists, tables, and code that is indented or fenced. A row
 of a table becomes a paragraph whose first cell is its tag.
@@ -12,8 +12,11 @@ import sys
 Block = collections.namedtuple("Block", "kind text depth", defaults=[0])
 # What groff shows otherwise than as the byte that stands for it.
 SIGNS = {"\\": "\\e", "~": "\\(ti", "^": "\\(ha", "`": "\\(ga", "'": "\\(aq", '"': "\\(dq"}
-# The sections of OPERATING that eggnet(1) has, and those that it calls by the names that man pages have.
-SECTIONS = ["Start it", "A net", "Commands to a running bot", "Limits", "Statuses", "The folder", "As a service",
+# The pages for administrators; the first one says what the program is.
+PAGES = ["docs/OPERATING.md", "docs/OPERATING_A_NET.md", "docs/WHEN_SOMETHING_IS_WRONG.md"]
+# Their sections that eggnet(1) has, and those that it calls by the names that man pages have.
+SECTIONS = ["Start it", "Commands to a running bot", "Change it while it runs", "The log", "A net",
+            "Several bots on one channel", "Limits", "Statuses", "The folder", "As a service", "An older copy",
             "When a disk is full", "When a disk fails"]
 CUSTOMARY = {"Statuses": "Exit status", "The folder": "Files"}
 
@@ -131,6 +134,12 @@ def sections_of(page):
     return {"": re.sub(r"\A\s*# .*\n", "", parts[0]), **dict(zip(parts[1::2], parts[2::2]))}
 
 
+def operating_of(text_of):
+    """Returns the sections of the pages for administrators, by a function that returns the text of a page."""
+    first, *others = [sections_of(text_of(it)) for it in PAGES]
+    return {**{name: text for it in others for name, text in it.items()}, **first}
+
+
 def pick(sections, name):
     return roff(sections[name]) if name in sections else sys.exit(f"package: a page has no section {name!r} any more")
 
@@ -151,9 +160,10 @@ def usage_of(program, command):
 
 
 def words_of_tell(operating):
-    """Returns the words that a running bot obeys, from OPERATING's table of commands."""
-    rows = [it.text for it in blocks_of(sections_of(operating)["Commands to a running bot"]) if it.kind == "row"]
-    return [words.split()[0] for row in rows[2:] for words in re.findall(r"`([^`]+)`", cells_of(row)[0])]
+    """Returns the words that a running bot obeys, each once, from the table of commands in the administrators' pages."""
+    rows = [it.text for it in blocks_of(operating["Commands to a running bot"]) if it.kind == "row"]
+    said = [words.split()[0] for row in rows[2:] for words in re.findall(r"`([^`]+)`", cells_of(row)[0])]
+    return [*dict.fromkeys(said)]
 
 
 def page(name, number, about, day, version, *parts):
@@ -167,22 +177,21 @@ def page(name, number, about, day, version, *parts):
 
 def program_page(program, operating, day, version):
     """Returns eggnet(1)."""
-    sections, commands = sections_of(operating), commands_of(program)
+    commands = commands_of(program)
     usages = [re.sub("[<>]", "", usage_of(program, it)) for it in commands]
     synopsis = [line for it in usages for line in (f".B eggnet {escape(it)}", ".br")]
     listed = [line for it, what in commands.items() for line in (".TP", f".B {it}", inline(what))]
     seen = [".BR eggnet.conf (5);",
             "the pages in /usr/share/doc/eggnet/docs, of which FORMATS.md has the scripts of \\fBreplay\\fR."]
-    chosen = [(CUSTOMARY.get(it, it), pick(sections, it)) for it in SECTIONS]
+    chosen = [(CUSTOMARY.get(it, it), pick(operating, it)) for it in SECTIONS]
     return page("eggnet", 1, "IRC bots that share a userfile", day, version, ("synopsis", synopsis),
-                ("description", pick(sections, "")), ("commands", listed), *chosen, ("see also", seen))
+                ("description", pick(operating, "")), ("commands", listed), *chosen, ("see also", seen))
 
 
 def configuration_page(operating, formats, day, version):
     """Returns eggnet.conf(5)."""
-    sections = sections_of(operating)
     files = [".TP", ".I /etc/eggnet/NAME.conf", "the configuration of the bot that the service \\fBeggnet@NAME\\fR runs"]
     return page("eggnet.conf", 5, "configuration of a bot of eggnet", day, version,
-                ("description", pick(sections, "A configuration")),
-                ("lines", pick(sections_of(formats), "Configuration file")), ("procs", pick(sections, "Its procs")),
+                ("description", pick(operating, "A configuration")),
+                ("lines", pick(sections_of(formats), "Configuration file")), ("procs", pick(operating, "Its procs")),
                 ("files", files), ("see also", [".BR eggnet (1)"]))

@@ -27,7 +27,7 @@ from bots import TOP, Ours, Tally, comes, program_of, ran
 sys.path.insert(0, str(TOP / "packaging"))
 import manual
 
-CONFIGURATION, FOLDER = "etc/eggnet/egg.conf", "var/lib/eggnet/egg"
+CONFIGURATION, FOLDER, LOG = "etc/eggnet/egg.conf", "var/lib/eggnet/egg", "var/log/eggnet/egg.log"
 # What dpkg, adduser and the C library keep for themselves.
 OF_OTHERS = re.compile(r"(var/lib/dpkg|var/log|var/cache|etc/(passwd|group|shadow|gshadow|subuid|subgid)-?$|etc/ld\.so\.cache"
                        r"|proc|sys/|dev|run|tmp)")
@@ -36,8 +36,8 @@ OF_OTHERS = re.compile(r"(var/lib/dpkg|var/log|var/cache|etc/(passwd|group|shado
 def package(into, program, **environment):
     """Runs tools/package, and returns its status and what it says on standard error."""
     words = [str(TOP / "tools/package"), *([program] if program else []), "--into", into]
-    status, _, said = ran(words, env={**os.environ, **environment}, cwd="/")
-    return status, said
+    done = subprocess.run(words, env={**os.environ, **environment}, cwd="/", capture_output=True, text=True, check=False)
+    return done.returncode, done.stderr
 
 
 def is_made_again(tally, room, program):
@@ -124,7 +124,7 @@ def are_pages_whole(tally, room):
         said += subprocess.run(groff, input=text, capture_output=True, check=False).stderr.decode()
         tally.note(f"{name}({number}) renders without a warning", not said, said)
         shown = plain(ran(["man", "-E", "UTF-8", "-l", page], env={**os.environ, "MANWIDTH": "1000"})[1])
-        operating = manual.sections_of((TOP / "docs/OPERATING.md").read_text())
+        operating = manual.operating_of(lambda name: (TOP / name).read_text())
         chosen = [operating[it] for it in (manual.SECTIONS if number == 1 else ["A configuration", "Its procs"])]
         codes = {plain(code) for text in chosen for code in re.findall(r"`([^`\n]+)`", text)}
         lacking = sorted(it for it in codes if it not in shown)
@@ -140,7 +140,7 @@ _eggnet; printf '%s\\n' "${{COMPREPLY[@]}}" """
 
 
 def completes(tally, room, program):
-    commands, words = list(manual.commands_of(program)), manual.words_of_tell((TOP / "docs/OPERATING.md").read_text())
+    commands, words = list(manual.commands_of(program)), manual.words_of_tell(manual.operating_of(lambda name: (TOP / name).read_text()))
     first = {*offers(room, "eggnet", "")}
     tally.note("completion offers each command", first == {*commands, "--help", "--version"}, len(commands))
     said = offers(room, "eggnet", "tell", "x", "")
@@ -158,7 +158,7 @@ class Debian:
         if kept:
             subprocess.run(["cp", "-aT", kept, self.root], check=True)
         else:
-            subprocess.run(["debootstrap", "--variant=minbase", "--include=systemd", "bookworm", self.root],
+            subprocess.run(["debootstrap", "--variant=minbase", "--include=systemd,logrotate", "bookworm", self.root],
                            stdout=subprocess.DEVNULL, check=True)
 
     def path(self, name):
@@ -204,16 +204,20 @@ class Unit:
         self.said = dict(re.findall(r"^(\w+)=(.*)$", text.replace("%i", "egg"), re.M))
         self.user = f"{self.said['User']}:{self.said['Group']}"
 
-    def make_folder(self):
-        """Makes the folder that StateDirectory names, as systemd does."""
-        folder, mode = f"/var/lib/{self.said['StateDirectory']}", self.said["StateDirectoryMode"]
+    def make_folders(self):
+        """Makes the folders that StateDirectory and LogsDirectory name, as systemd does."""
+        folder, logs = f"/var/lib/{self.said['StateDirectory']}", f"/var/log/{self.said['LogsDirectory']}"
         self.debian.runs("install", "-d", "-m", "0755", os.path.dirname(folder))
-        return self.debian.runs("install", "-d", "-m", mode, "-o", self.said["User"], "-g", self.said["Group"], folder)
+        made = [(folder, self.said["StateDirectoryMode"]), (logs, self.said["LogsDirectoryMode"])]
+        return [self.debian.runs("install", "-d", "-m", mode, "-o", self.said["User"], "-g", self.said["Group"], it)[0]
+                for it, mode in made] == [0, 0]
 
     def words(self, name):
         """The words that run a command of the unit."""
-        root, state = self.debian.root, f"{self.debian.root}/var/lib/{self.said['StateDirectory']}"
-        script = f"mount --bind {root} {root} && mount --bind {state} {state} && mount -o remount,bind,ro {root} && " \
+        root = self.debian.root
+        state, logs = f"{root}/var/lib/{self.said['StateDirectory']}", f"{root}/var/log/{self.said['LogsDirectory']}"
+        script = f"mount --bind {root} {root} && mount --bind {state} {state} && mount --bind {logs} {logs} && " \
+                 f"mount -o remount,bind,ro {root} && " \
                  f"umask {self.said['UMask']} && exec chroot {root} setpriv --reuid={self.said['User']} " \
                  f"--regid={self.said['Group']} --clear-groups --no-new-privs --bounding-set=-all "
         return ["unshare", "--mount", "sh", "-c", script + self.said[name].lstrip("-")]
@@ -225,7 +229,7 @@ class Unit:
         return bool(comes(lambda: " on #egg" in self.logged()))
 
     def logged(self):
-        return self.debian.path("tmp/log").read_text()
+        return "".join(it.read_text() for it in (self.debian.path("tmp/log"), self.debian.path(LOG)) if it.exists())
 
     def stop(self):
         """Runs ExecStop, and returns its status and the bot's."""
@@ -274,9 +278,31 @@ def makes_allowed_calls(tally, debian, unit):
     tally.note("no memory is written and run, as MemoryDenyWriteExecute wants", not both, both)
 
 
+def reloads(tally, debian, unit, text):
+    """ExecReload takes a changed file and refuses a faulty one, and the rule for logrotate renames the log."""
+    logs = f"{text}log file /{LOG}\n"
+    debian.path(CONFIGURATION).write_text(logs)
+    tally.note("with a line log file, the bot is on its channel", unit.start(), unit.logged().splitlines()[-1:])
+    mode = debian.runs("stat", "-c", "%a %U", f"/{LOG}")[1]
+    tally.note("the log has mode 600", mode == "600 eggnet\n", mode)
+    debian.path(CONFIGURATION).write_text(f"{logs}channel #added\n")
+    taken = ran(unit.words("ExecReload"))
+    tally.note("ExecReload: it joins a channel that was added", taken[0] == 0 and comes(lambda: " on #added" in unit.logged()), taken)
+    debian.path(CONFIGURATION).write_text(f"{logs}chanel #added\n")
+    refused = ran(unit.words("ExecReload"))
+    tell = ("eggnet", "tell", f"/{FOLDER}", "status")
+    tally.note("ExecReload: a faulty file is refused, and the bot stays on its channels", refused[0] == 1
+               and "channel #added on" in debian.runs(*tell, user=unit.user)[1], refused)
+    rotated = debian.runs("logrotate", "--force", "--state", "/tmp/rotated", "/etc/logrotate.d/eggnet")
+    tally.note("logrotate renames the log without a word", rotated == (0, "", "") and debian.path(f"{LOG}.1").exists(), rotated)
+    is_new = comes(lambda: debian.path(LOG).exists() and debian.path(LOG).stat().st_size)
+    tally.note("and the bot goes on in a new one", is_new and unit.stop() == (0, 0)
+               and debian.path(LOG).read_text().rstrip().endswith(" ended"))
+
+
 def runs_as_a_service(tally, debian, server):
     unit = Unit(debian)
-    tally.note("the service's folder can be made", unit.make_folder()[0] == 0)
+    tally.note("the service's folders can be made", unit.make_folders())
     text = configure(debian, server)
     before = debian.files()
     if not tally.note("ExecStart: the bot is on its channel", unit.start(), unit.logged().splitlines()[-1:]):
@@ -299,6 +325,7 @@ def runs_as_a_service(tally, debian, server):
     tally.note("started again it has its records", unit.start() and "user me" in debian.runs(*tell, "show")[1])
     os.kill(unit.process.pid, signal.SIGTERM)
     tally.note("SIGTERM ends it", unit.process.wait() == -signal.SIGTERM)
+    reloads(tally, debian, unit, text)
     debian.path(CONFIGURATION).write_text(text.replace("nick ", "nickname "))
     faulty = ran(unit.words("ExecStart"))
     tally.note("a faulty configuration: status 1, which the unit does not start again", faulty[0] == 1
@@ -313,6 +340,11 @@ exec >/steps.out 2>&1
 systemctl enable --quiet --now eggnet@egg; sleep 4
 state started eggnet@egg
 echo "told: $($tell adduser me)"
+echo "logs: $(stat -c '%a %U' /var/log/eggnet)"
+systemctl reload eggnet@egg 2>/dev/null; echo "reloaded: $?"
+cp -p /etc/eggnet/egg.conf /etc/eggnet/kept; echo "chanel #egg" >>/etc/eggnet/egg.conf
+systemctl reload eggnet@egg 2>/dev/null; echo "not_reloaded: $?"
+mv /etc/eggnet/kept /etc/eggnet/egg.conf
 systemctl kill -s KILL eggnet@egg; sleep 13
 state killed eggnet@egg
 echo "records: $($tell show | grep -c 'user me')"
@@ -327,7 +359,8 @@ kill -s 38 1
 """
 STEPS_UNIT = "[Service]\nType=oneshot\nTimeoutStartSec=200\nExecStart=/steps\n[Install]\nWantedBy=multi-user.target\n"
 # What each step says if it is well. NRestarts stands first; systemd counts on from the kill to the command to end.
-STEPS_WELL = {"started": "0 active success", "told": "accepted 1", "killed": "1 active success", "records": "1",
+STEPS_WELL = {"started": "0 active success", "told": "accepted 1", "logs": "750 eggnet", "reloaded": "0",
+              "not_reloaded": "1", "killed": "1 active success", "records": "1",
               "told_to_end": "1 inactive success", "faulty": "0 exit-code failed", "removed": "0", "log": "2"}
 
 
@@ -376,6 +409,7 @@ def is_purged(tally, debian, deb, before):
     left = sorted(it for it in debian.files() - before if not it.startswith("var/lib/eggnet"))
     are_kept = debian.path(f"{FOLDER}/journal/first").exists()
     tally.note("purged, it leaves only its records", status == 0 and not left and are_kept, f"{left} {said}")
+    tally.note("its logs are gone too", not debian.path("var/log/eggnet").exists())
     tally.note("the user stays with the records", debian.has_user())
     tally.note("it is installed over them again", debian.install(deb)[0] == 0)
     shown = debian.runs("eggnet", "show", f"/{FOLDER}", user="eggnet:eggnet")

@@ -1,3 +1,4 @@
 pub mod Causes
 pub mod Folders
 pub mod Books
+pub mod Owners

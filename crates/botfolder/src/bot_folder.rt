@@ -43,8 +43,8 @@ impl BotFolder {
     /// syncs its name to its device. If another program holds the folder's lock, tries again for two seconds.
     ///
     /// # Errors
-    /// `LongName`, `NoParent`, `NotAFolder`, `LetsOthersIn`, `BarsOwner`, `NotRegular` and `InUse`, then what the system
-    /// gives, as [`FolderFault`] describes them; `NoMemory` if an allocation fails. The check of the name's length does
+    /// `LongName`, `NoParent`, `IsLink`, `OtherUser`, `NotAFolder`, `LetsOthersIn`, `BarsOwner`, `NotRegular` and `InUse`,
+    /// then what the system gives, as [`FolderFault`] describes them; `NoMemory` if an allocation fails. The check of the name's length does
     /// not allocate. The folder may have been created, and a file `lock` in it.
     pub fn take<R: AllocGlobal + Files<File = File> + Clock>(
         rt: &R,

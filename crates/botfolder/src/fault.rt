@@ -23,6 +23,15 @@ pub enum FolderFault {
     /// It is not a folder, or a part of its path is not.
     #[error("is not a folder, or lies below something that is not: give the name of a folder")]
     NotAFolder,
+    /// It is a symbolic link, which may lead to somebody else's folder.
+    #[error("is a symbolic link: give the name of the folder to which it leads")]
+    IsLink,
+    /// It belongs to another user.
+    #[error("belongs to another user: run this as the user whose folder it is, or give that user's folder to this one by chown")]
+    OtherUser,
+    /// It exists, and was to be made.
+    #[error("exists already: give the name of a folder that does not exist")]
+    Exists,
     /// Its mode lets others enter it.
     #[error("lets others in: take their right to enter it away, as chmod 700 does")]
     LetsOthersIn,

@@ -4,6 +4,7 @@ ghost use Rattle.bytetext.specs.declared.failure.Failure.TheVariants.{Refused};
 ghost use Rattle.botfolder.specs.declared.fault.FolderFault.TheVariants.{LongName};
 
 use crate::fault::{FolderError, FolderFault, sync_error, system_error};
+use crate::owner::{Besides, keep_to_owner};
 use crate::paths::above;
 use bytetext::Failure;
 use std::fs;
@@ -27,11 +28,12 @@ pub(crate) fn make_folder<R: Files<File = File>>(rt: &R, folder: &str) -> Result
     sync_folder(rt, above(folder))
 }
 
-// Refuses a folder that others may enter, since they could give its bot commands, and one in which its owner may not
-// make files.
+// Refuses a folder that is a link or belongs to another user, one that others may enter, since they could give its bot
+// commands, and one in which its owner may not make files.
 pub(crate) fn keep_others_out<R: Files>(rt: &R, folder: &str) -> Result<(), FolderError>
     ensures { result ≢ Err (Refused LongName) }
 {
+    keep_to_owner(rt, folder, Besides::Nobody)?;
     match fs::metadata(rt, folder) {
         Ok(found) => {
             if !found.is_dir() {
@@ -45,6 +47,23 @@ pub(crate) fn keep_others_out<R: Files>(rt: &R, folder: &str) -> Result<(), Fold
             }
         }
         Err(error) => Err(system_error(&error)),
+    }
+}
+
+// Creates `folder`, which must not exist, for its owner alone.
+pub(crate) fn make_new_folder<R: Files<File = File>>(
+    rt: &R,
+    folder: &str,
+) -> Result<(), FolderError>
+    ensures { result ≢ Err (Refused LongName) }
+{
+    match DirBuilder::new().mode(0o700).create(rt, folder) {
+        Ok(()) => Ok(()),
+        Err(error) => match error.kind() {
+            ErrorKind::AlreadyExists => Err(Failure::Refused(FolderFault::Exists)),
+            ErrorKind::NotFound => Err(Failure::Refused(FolderFault::NoParent)),
+            _ => Err(system_error(&error)),
+        },
     }
 }
 

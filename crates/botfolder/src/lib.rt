@@ -39,11 +39,17 @@
 //! [`BotFolder::room`] returns a [`Room`], which finds out whether the disk has room for changes before one is written to
 //! the journal.
 //!
+//! [`BotFolder::copy_journal`] copies the journal of the running bot into a new folder.
+//!
+//! A folder that is a symbolic link or belongs to another user is refused. Root may read a folder of another user and
+//! enter it to give its bot commands ([`check_owner`]), but can't run a bot there.
+//!
 //! The lock is released when the program ends, however it ends. [`read_stopped`] reads the journal of a bot that does
 //! not run, and leaves the folder unchanged. It locks the journal for a moment, so a start that finds a lock taken tries
 //! it again for two seconds. What has the name of a file and is a FIFO, a device or a folder is not opened.
 #![tactic(auto)]
 
+mod backup;
 mod begun;
 mod book_file;
 mod bot_folder;
@@ -53,6 +59,7 @@ mod folder_file;
 mod folders;
 mod locking;
 mod number_file;
+mod owner;
 mod paths;
 mod room;
 mod stopped;
@@ -65,6 +72,7 @@ pub use crate::doubt_file::MAX_DOUBT;
 pub use crate::fault::{FolderError, FolderFault};
 pub use crate::folder_file::FolderFile;
 pub use crate::number_file::NUMBER_DIGITS;
+pub use crate::owner::check_owner;
 pub use crate::paths::{MAX_PATH, control_of};
 pub use crate::room::{Room, SET_ASIDE};
 pub use crate::stopped::{Stopped, read_stopped};

@@ -5,6 +5,7 @@ ghost use Rattle.botfolder.specs.Folders.{AreCopies};
 use crate::bot_folder::is_there;
 use crate::fault::{FolderError, FolderFault, system_error};
 use crate::folder_file::{FolderFile, len_of, open_file, read_file};
+use crate::owner::check_owner;
 use crate::paths::{JOURNAL, below};
 use bytetext::Failure;
 use disks::MemDisk;
@@ -23,7 +24,8 @@ pub struct Stopped {
 /// while the bytes of its two files are read: a bot that starts at that moment tries again.
 ///
 /// # Errors
-/// `NoBot` if no journal was made in the folder, or the folder does not exist; `NotRegular`, and `LacksFile`; `InUse`
+/// `IsLink`, and `OtherUser` unless this process is root's; `NoBot` if no journal was made in the folder, or the folder
+/// does not exist; `NotRegular`, and `LacksFile`; `InUse`
 /// if a bot runs on it, which can be asked instead; and what the system gives, as [`FolderFault`] describes them;
 /// `NoMemory` if an allocation fails.
 pub fn read_stopped<R: AllocGlobal + Files<File = File>>(
@@ -32,6 +34,7 @@ pub fn read_stopped<R: AllocGlobal + Files<File = File>>(
 ) -> Result<Stopped, FolderError>
     ensures { IfOk result AreCopies }
 {
+    check_owner(rt, folder)?;
     if !is_there(rt, folder, JOURNAL)? {
         return Err(Failure::Refused(FolderFault::NoBot));
     }
@@ -54,7 +57,7 @@ pub fn read_stopped<R: AllocGlobal + Files<File = File>>(
 }
 
 // Opens a file for reading.
-fn found_file<R: AllocGlobal + Files<File = File>>(
+pub(crate) fn found_file<R: AllocGlobal + Files<File = File>>(
     rt: &R,
     folder: &str,
     file: FolderFile,

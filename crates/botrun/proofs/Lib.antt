@@ -2,3 +2,4 @@ mod Adding
 pub mod TakingLemmas
 mod OwnLemmas
 mod QuietLemmas
+mod StationLemmas

@@ -1,9 +1,11 @@
 -- The exit status of a bot's process.
-use Rattle.std.specs.Prelude.{ℕ}
+use Rattle.std.specs.Prelude.{ℕ, ◌==◌, ◌||◌, if◌then◌else◌}
 use Rattle.peers.specs.declared.secret.SecretFault.{SecretFault}
 use Rattle.peers.specs.declared.secret.SecretFault.TheVariants.{Unreadable, NotRegular, ProcessFiles, MachineFiles, NoMemory as no_memory, DiskFails, Length, BadLeafKey, LeafKey, OtherLeaf}
+use Rattle.botrun.specs.declared.account.AccountFault.{AccountFault}
+use Rattle.botrun.specs.declared.account.AccountFault.TheVariants as account
 use Rattle.botrun.specs.declared.ending.RunError.{RunError}
-use Rattle.botrun.specs.declared.ending.RunError.TheVariants.{Account, NoServer, BindKind, BindProc, Bind, Config, Secret, NoNet, NoMade, BadDoubt, Book, Listen, Folder, OtherJournal, GenerationsSpent, Control, DiskFailed, System, NoMemory}
+use Rattle.botrun.specs.declared.ending.RunError.TheVariants.{NoServer, Page, BindKind, BindProc, Bind, Config, LogFile, Secret, Account, NoNet, NoMade, BadDoubt, Book, Listen, Folder, OtherJournal, GenerationsSpent, Control, DiskFailed, System, NoMemory}
 
 -- 1 for a file of the secret that holds none for this bot or that this user may not read; 3 for what the machine refuses
 abbrev pub secret_status : SecretFault → ℕ
@@ -18,16 +20,30 @@ secret_status BadLeafKey = 1
 secret_status LeafKey = 1
 secret_status OtherLeaf = 1
 
+-- the same for the file of a password
+abbrev pub account_status : AccountFault → ℕ
+account_status account.Unreadable = 1
+account_status account.NotRegular = 1
+account_status account.System = 3
+account_status (account.Credentials fault) = 1
+
+-- what the system's error of this number says of a file: EIO, ENOMEM, ENFILE and EMFILE are the machine's
+abbrev pub account_cause : ℕ → AccountFault
+account_cause code =
+    if code == 5 || code == 12 || code == 23 || code == 24 then account.System else account.Unreadable
+
 -- 1 for the configuration, the file of its secret, a journal that is another bot's, lacks its net's number or cannot be
 -- rewritten, and a faulty number of the folder or book of leaves; 3 for what the machine refuses; 4 if out of memory
 abbrev pub status_of : RunError → ℕ
-status_of Account = 1
 status_of NoServer = 1
+status_of Page = 1
 status_of (BindKind line) = 1
 status_of (BindProc line) = 1
 status_of (Bind line fault) = 1
 status_of Config = 1
+status_of LogFile = 1
 status_of (Secret fault) = secret_status fault
+status_of (Account fault) = account_status fault
 status_of NoNet = 1
 status_of NoMade = 1
 status_of BadDoubt = 1

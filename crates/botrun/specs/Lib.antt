@@ -7,6 +7,7 @@ pub mod Outcomes
 pub mod Owns
 pub mod Passing
 pub mod Refusing
+pub mod Reloading
 pub mod Renewals
 pub mod Spaces
 pub mod Stations

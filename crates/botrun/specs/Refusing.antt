@@ -1,12 +1,15 @@
 -- Which commands of an administrator ask for a change of the records.
 use Rattle.std.specs.Prelude.{Bool, true, false}
 use Rattle.control.specs.declared.admin_command.AdminCommand.{AdminCommand}
-use Rattle.control.specs.declared.admin_command.AdminCommand.TheVariants.{Change, Show, Status, Bind, Unbind, Say, Compact, Jump, Renew, Trust, Die}
+use Rattle.control.specs.declared.admin_command.AdminCommand.TheVariants.{Change, Show, ShowJson, Status, StatusJson, Bind, Unbind, Say, Compact, Jump, Renew, Trust}
+use Rattle.control.specs.declared.admin_command.AdminCommand.TheVariants.{Reload, Reopen, Backup, Join, Part, Die}
 
 abbrev pub is_change : AdminCommand → Bool
 is_change (Change change) = true
 is_change Show = false
+is_change ShowJson = false
 is_change Status = false
+is_change StatusJson = false
 is_change (Bind words) = false
 is_change (Unbind words) = false
 is_change (Say line) = false
@@ -14,4 +17,9 @@ is_change Compact = false
 is_change Jump = false
 is_change (Renew leaf) = false
 is_change Trust = false
+is_change Reload = false
+is_change Reopen = false
+is_change (Backup folder) = false
+is_change (Join words) = false
+is_change (Part channel) = false
 is_change (Die text) = false

@@ -7,15 +7,18 @@ ghost use Rattle.botrun.specs.Renewals.{HasNoRecords};
 ghost use Rattle.botrun.specs.Stations.{IsKnownWhereWanted, IsLinkedAs};
 ghost use Rattle.botrun.specs.Watched.{station_of};
 
+use crate::account::{account_of, uplink_of};
 use crate::admins::Admins;
 use crate::bases::Bases;
 use crate::checking::check;
 use crate::ending::{RunError, of_folder};
 use crate::entry::Entry;
 use crate::kept_sum::KeptSum;
+use crate::log_opening::log_of;
 use crate::netting::{is_nets, links_of, requests_in, secret_of};
 use crate::others::Others;
 use crate::process::{Process, Turned};
+use crate::reloading::Reloading;
 use crate::seconds::Seconds;
 use crate::space::Space;
 use crate::starting::{bind_all, bot_of, folder_of, forget_journal};
@@ -26,7 +29,6 @@ use ircline::LineReader;
 use net::{Log, Timeline, Watch};
 use peers::Secret;
 use procs::{ProcStore, Promise, Run};
-use serverlink::IrcConnection;
 use settings::Settings;
 use std::alloc::Global;
 use std::fs::File;
@@ -40,10 +42,11 @@ use watching::Watcher;
 // The most events that one wait reports.
 const EVENTS: usize = 64;
 
-/// Runs the bot of `settings` until an admin ends it. Its binds call the procs of `store`.
+/// Runs the bot of `settings` until an admin ends it. Its binds call the procs of `store`. If an admin says so, it reads
+/// `file` again, the file of these settings, and takes all of it or nothing.
 ///
 /// # Errors
-/// - Before anything is opened: the errors of [`check`], then `Secret`.
+/// - Before anything is opened: the errors of [`check`], then `Secret` and `Account`.
 /// - Before anybody is connected or let in: `Folder`, `System`, `Config`, `OtherJournal`, `GenerationsSpent`, `NoNet`,
 ///   `NoMade`, `BadDoubt`, `Book`, `Listen` and `Control`; once more when a leaf begins again.
 /// - Later: `DiskFailed` and `System`, and `Folder` if a leaf cannot save the number of its net or forget its journal, or
@@ -64,19 +67,22 @@ const EVENTS: usize = 64;
 pub fn run<R, P: Promise, B: Run, W: Watcher>(
     rt: &R,
     store: &ProcStore<P, B>,
-    settings: &Settings,
+    settings: &mut Settings,
+    file: &str,
     watcher: &mut W,
 ) -> Result<(), RunError>
 where
     R: AllocGlobal + Net + Clock + Files<File = File> + Print + RandomSource,
     requires unwatched { W.past watcher.old ≡ [] }
-    requires allows { Allows P.promised store.now (station_of settings.now) W.may }
+    requires allows { Allows P.promised store.now (station_of settings.old) W.may }
 {
     check(rt.alloc(), store, settings)?;
     let secret = secret_of(rt, settings)?;
+    // A bot that cannot log in changes nothing in its folder; the account is read again when the bot begins there.
+    let _account = account_of(rt, settings)?;
     // Before the folder, so that a bot that gets no log changes nothing there.
-    let mut log = Log::open(rt)?;
-    let ended = run_logged(rt, &mut log, store, settings, secret, watcher);
+    let mut log = log_of(rt, settings)?;
+    let ended = run_logged(rt, &mut log, store, settings, file, secret, watcher);
     log.flush(rt);
     ended
 }
@@ -87,16 +93,17 @@ fn run_logged<R, P: Promise, B: Run, W: Watcher>(
     rt: &R,
     log: &mut Log,
     store: &ProcStore<P, B>,
-    settings: &Settings,
+    settings: &mut Settings,
+    file: &str,
     secret: Option<Secret>,
     watcher: &mut W,
 ) -> Result<(), RunError>
 where
     R: AllocGlobal + Net + Clock + Files<File = File> + Print + RandomSource,
-    requires some { 0 < length settings.now.servers }
-    requires known { IsKnownWhereWanted settings.now.station secret }
+    requires some { 0 < length settings.old.servers }
+    requires known { IsKnownWhereWanted settings.old.station secret }
     requires unwatched { W.past watcher.old ≡ [] }
-    requires allows { Allows P.promised store.now (station_of settings.now) W.may }
+    requires allows { Allows P.promised store.now (station_of settings.old) W.may }
 {
     let mut folder = folder_of(rt, settings)?;
     let mut watch = Watch::new(rt, EVENTS)?;
@@ -104,7 +111,7 @@ where
     warn(log, settings, secret, timeline.read_clocks(rt)?);
     let mut last = 0;
     for _life in 0..u64::MAX {
-        let mut process = begin(rt, &watch, folder, settings, secret, last, watcher)?;
+        let mut process = begin(rt, &watch, folder, settings, file, secret, last, watcher)?;
         bind_all(rt.alloc(), &mut process.bot, store, settings, watcher)?;
         let up = timeline.read_clocks(rt)?;
         look_back(rt.alloc(), &mut process, store, up, watcher)?;
@@ -166,20 +173,24 @@ fn make_turns<R, P: Promise, B: Run, W: Watcher>(
     timeline: &mut Timeline,
     process: &mut Process,
     store: &ProcStore<P, B>,
-    settings: &Settings,
+    settings: &mut Settings,
     watcher: &mut W,
 ) -> Result<Option<u32>, RunError>
 where
     R: AllocGlobal + Net + Clock + Files<File = File> + Print + RandomSource,
-    requires up { IsUp P.promised store.now (station_of settings.now) W.may (W.past watcher.old) process.old.bot
+    requires up { IsUp P.promised store.now (station_of settings.old) W.may (W.past watcher.old) process.old.bot
         process.old.others.mail.account.told }
+    // What is read again is of the same bot.
+    ensures station { settings.new.station ≡ settings.old.station }
+    ensures some { 0 < length settings.old.servers → 0 < length settings.new.servers }
     // A bot with records never begins again.
     ensures again { IfOk result (λ above. IfSome above (λ _. HasNoRecords process.new.bot)) }
     ensures at { IfOk result (λ _.
-        IsAt P.promised store.now (station_of settings.now) W.may (W.past watcher.new) process.new.bot) }
+        IsAt P.promised store.now (station_of settings.new) W.may (W.past watcher.new) process.new.bot) }
 {
     let mut turned = Turned::Busy;
     for _turn in 0..u64::MAX {
+        process.reloading.settle(settings);
         log.flush(rt);
         watcher.waits();
         let seconds = wait(rt, watch, timeline, turned)?;
@@ -208,6 +219,7 @@ fn begin<R, W: Watcher>(
     watch: &Watch,
     folder: BotFolder,
     settings: &Settings,
+    file: &str,
     secret: Option<Secret>,
     last: u32,
     watcher: &mut W,
@@ -223,7 +235,7 @@ where
     ensures begun { IfOk result (λ process.
         HasBegun (station_of settings.now) (W.past watcher.old) (W.past watcher.new) process.bot) }
 {
-    let uplink = IrcConnection::new(rt.alloc(), settings)?;
+    let uplink = uplink_of(rt, settings)?;
     let bot = bot_of(rt, &folder, settings, last, watcher)?;
     let links = links_of(
         rt,
@@ -248,6 +260,7 @@ where
         sums: Sums::new(),
         space,
         until: None,
+        reloading: Reloading::new(rt.alloc(), file)?,
     })
 }
 

@@ -1,7 +1,7 @@
 // Checks a configuration before anything is opened.
 ghost use Rattle.std.specs.Prelude.{◌<◌, ◌≡◌, ◌≢◌, None, [], length, IfErr, OnOk};
 ghost use Rattle.botrun.specs.declared.checking.NoBind.TheVariants.{NoMemory as out_of_memory};
-ghost use Rattle.botrun.specs.declared.ending.RunError.TheVariants.{NoServer as no_server, Account as account, NoMemory as no_memory};
+ghost use Rattle.botrun.specs.declared.ending.RunError.TheVariants.{NoServer as no_server, Page as page, NoMemory as no_memory};
 
 use crate::ending::RunError;
 use botcore::{NewBind, OldBind};
@@ -15,7 +15,7 @@ use std::alloc::Global;
 /// anything is opened.
 ///
 /// # Errors
-/// `NoServer` and `Account`, as [`RunError`] describes them; then the first bind that is rejected, as `BindKind`,
+/// `NoServer` and `Page`, as [`RunError`] describes them; then the first bind that is rejected, as `BindKind`,
 /// `BindProc` or `Bind`; `NoMemory` if an allocation fails: never if there is no bind.
 pub fn check<P: Promise, B: Run>(
     alloc: Global,
@@ -23,17 +23,17 @@ pub fn check<P: Promise, B: Run>(
     settings: &Settings,
 ) -> Result<(), RunError>
     ensures some { OnOk result (0 < length settings.now.servers) }
-    // The bot authenticates as nobody.
-    ensures nobody { OnOk result (settings.now.account ≡ None) }
+    // The bot serves no page.
+    ensures unserved { OnOk result (settings.now.page ≡ None) }
     ensures server { IfErr result (λ why. why ≡ no_server → settings.now.servers ≡ []) }
-    ensures account { IfErr result (λ why. why ≡ account → settings.now.account ≢ None) }
+    ensures page { IfErr result (λ why. why ≡ page → settings.now.page ≢ None) }
     ensures memory { IfErr result (λ why. why ≡ no_memory → 0 < length settings.now.binds) }
 {
     if settings.servers.is_empty() {
         return Err(RunError::NoServer);
     }
-    if settings.account.is_some() {
-        return Err(RunError::Account);
+    if settings.page.is_some() {
+        return Err(RunError::Page);
     }
     let mut table = BindTable::new(alloc);
     for bind in settings.binds.as_slice() {
@@ -49,7 +49,7 @@ fn check_bind<P: Promise, B: Run>(
     table: &mut BindTable,
     bind: &BindLine,
 ) -> Result<(), RunError>
-    ensures { IfErr result (λ why. (why ≢ no_server) × (why ≢ account)) }
+    ensures { IfErr result (λ why. (why ≢ no_server) × (why ≢ page)) }
 {
     let asked = match new_bind(alloc, store, &bind.words) {
         Ok(asked) => asked,
@@ -91,7 +91,7 @@ impl From<NoMemory> for NoBind {
 
 // The error for a line whose bind cannot be asked for.
 pub(crate) fn of_line(line: u64, why: NoBind) -> RunError
-    ensures { (result ≢ no_server) × (result ≢ account) }
+    ensures { (result ≢ no_server) × (result ≢ page) }
 {
     match why {
         NoBind::Kind => RunError::BindKind { line },

@@ -3,6 +3,7 @@ ghost use Rattle.std.specs.Prelude.{◌≡◌};
 ghost use Rattle.botrun.specs.Ending.{status_of};
 ghost use Rattle.botrun.specs.declared.ending.RunError.TheVariants.{NoMemory as no_memory};
 
+use crate::account::AccountFault;
 use botcore::{BotError, BotFault};
 use botfolder::{FolderError, FolderFault, FolderFile};
 use bytejournal::JournalFault;
@@ -20,10 +21,10 @@ use std::{fmt, io};
 /// Why a bot's process does not run, or ends before an admin ends it. Each text follows its [`Subject`].
 #[derive(Clone, Copy, Debug, PartialEq, Eq)]
 pub enum RunError {
-    /// The configuration has a line `account`.
-    Account,
     /// The configuration has no line `server`.
     NoServer,
+    /// The configuration has a line `page`.
+    Page,
     /// The bind in this line has an unknown type.
     BindKind {
         /// The line's number, from 1.
@@ -47,6 +48,10 @@ pub enum RunError {
     Folder(FolderFault),
     /// The file of the line `secret` cannot be read, or holds no secret that this bot can use.
     Secret(SecretFault),
+    /// The file of the line `log file` cannot be opened.
+    LogFile,
+    /// The bot cannot log in to the account of the line `account`.
+    Account(AccountFault),
     /// The folder holds a journal, but not the number of the bot's net.
     NoNet,
     /// The folder's file `made` does not hold a number.
@@ -91,21 +96,22 @@ pub enum Subject {
 impl RunError {
     /// Returns the exit status of a program that ends with this error:
     ///
-    /// - 1 for a configuration, a file of its secret that holds none for this bot or that this user may not read, another
-    ///   bot's journal, a journal without the number of its net, or one that cannot be rewritten, and a faulty number of
-    ///   the folder or book of leaves;
-    /// - 3 for what the system, a folder, a socket or a disk refuses, also while the secret is read;
+    /// - 1 for a configuration, a file of its log that can't be opened, a file of its secret that holds none for this
+    ///   bot or that this user may not read, another bot's journal, a journal without the number of its net, or one that
+    ///   cannot be rewritten, and a faulty number of the folder or book of leaves;
+    /// - 3 for what the system, a folder, a socket or a disk refuses, also while the secret or the password is read;
     /// - 4 if the program is out of memory.
     pub fn status(self) -> u8
         ensures { result ≡ status_of self }
     {
         match self {
-            RunError::Account
-            | RunError::NoServer
+            RunError::NoServer
+            | RunError::Page
             | RunError::BindKind { line: _ }
             | RunError::BindProc { line: _ }
             | RunError::Bind { line: _, fault: _ }
             | RunError::Config
+            | RunError::LogFile
             | RunError::Secret(
                 SecretFault::Unreadable
                 | SecretFault::NotRegular
@@ -113,6 +119,9 @@ impl RunError {
                 | SecretFault::BadLeafKey
                 | SecretFault::LeafKey
                 | SecretFault::OtherLeaf,
+            )
+            | RunError::Account(
+                AccountFault::Unreadable | AccountFault::NotRegular | AccountFault::Credentials(_),
             )
             | RunError::NoNet
             | RunError::NoMade
@@ -126,6 +135,7 @@ impl RunError {
                 | SecretFault::NoMemory
                 | SecretFault::DiskFails,
             )
+            | RunError::Account(AccountFault::System)
             | RunError::Folder(_)
             | RunError::Listen(_)
             | RunError::Control(_)
@@ -138,13 +148,15 @@ impl RunError {
     /// Returns what stands before the error's text.
     pub fn subject(self) -> Subject {
         match self {
-            RunError::Account
-            | RunError::NoServer
+            RunError::NoServer
+            | RunError::Page
             | RunError::BindKind { line: _ }
             | RunError::BindProc { line: _ }
             | RunError::Bind { line: _, fault: _ }
             | RunError::Config
+            | RunError::LogFile
             | RunError::Secret(_)
+            | RunError::Account(_)
             | RunError::Listen(_) => Subject::File,
             RunError::OtherJournal
             | RunError::GenerationsSpent
@@ -179,6 +191,7 @@ impl Display for RunError {
             RunError::Folder(fault) => fault.fmt(f),
             RunError::Control(fault) => f.write_str(of_control(fault)),
             RunError::Secret(fault) => put(f, "the file of the line secret ", &fault),
+            RunError::Account(fault) => fault.fmt(f),
             RunError::Book(fault) => put(f, "holds a file leaves with a fault: ", &fault),
             RunError::Listen(fault) => put(f, "the address of the line listen ", &fault),
             RunError::DiskFailed { change } => {
@@ -189,9 +202,10 @@ impl Display for RunError {
                 )?;
                 f.write_str(" may count or not")
             }
-            RunError::Account
-            | RunError::NoServer
+            RunError::NoServer
+            | RunError::Page
             | RunError::Config
+            | RunError::LogFile
             | RunError::NoNet
             | RunError::NoMade
             | RunError::BadDoubt
@@ -226,10 +240,11 @@ pub(crate) const PROC: &str = "say a proc that this program has";
 // The text of an error without parts; empty for the others.
 fn sentence(error: RunError) -> &'static str {
     match error {
-        RunError::Account =>
-            "take the line account out, and say a line as in perform PRIVMSG NickServ :IDENTIFY password",
         RunError::NoServer => "a bot needs a line: server HOST PORT",
+        RunError::Page => "take the line page out: this release serves no page",
         RunError::Config => "mend the lines bot, nick and channel: one is out of its range",
+        RunError::LogFile =>
+            "the file of the line log file can't be opened: make its folder, and give the bot's user the right to write there",
         RunError::OtherJournal =>
             "holds the journal of another bot, or none that can be read: give the folder of this bot",
         RunError::GenerationsSpent =>
@@ -248,6 +263,7 @@ fn sentence(error: RunError) -> &'static str {
         | RunError::Bind { line: _, fault: _ }
         | RunError::Folder(_)
         | RunError::Secret(_)
+        | RunError::Account(_)
         | RunError::Book(_)
         | RunError::Listen(_)
         | RunError::Control(_)

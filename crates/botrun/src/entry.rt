@@ -1,7 +1,10 @@
 // What the log says, except about the server.
+use crate::audit::Source;
+use crate::change_words::ChangeWords;
 use serverlink::{Shown, put};
 use std::fmt;
 use std::fmt::Display;
+use userfile::Change;
 
 // An event that is logged.
 #[derive(Drop)]
@@ -22,6 +25,16 @@ pub(crate) enum Entry<'a> {
     LeftOut(&'static str, &'a [u8]),
     // An admin asks for this.
     Asked(&'a [u8]),
+    // A person on IRC asks a proc for this change.
+    AskedOnIrc(Source<'a>, &'a Change),
+    // This proc asks for the change by itself.
+    AskedByProc(&'a [u8], &'a Change),
+    // What a hub accepted under this number, and the bot that asked for it.
+    Change(u32, u16, &'a Change),
+    // A new file of the log is open.
+    Reopened,
+    // The file of the log can't be opened, so the old one stays.
+    NotReopened,
     // A silent admin is disconnected, since another one waits.
     GaveWay,
     // A leaf whose journal has another layout says hello.
@@ -68,6 +81,27 @@ impl Display for Entry<'_> {
                 put(f, " ", &Shown(proc))
             }
             Entry::Asked(line) => put(f, "admin: ", &Shown(line)),
+            Entry::AskedOnIrc(source, change) => {
+                put(f, "asked on IRC by ", &Shown(source.nick))?;
+                put(f, "!", &Shown(source.host))?;
+                put(f, ", handle ", &Shown(source.handle))?;
+                put(f, ": ", &ChangeWords(change))
+            }
+            Entry::AskedByProc(proc, change) => {
+                put(f, "asked by the proc ", &Shown(proc))?;
+                put(f, ": ", &ChangeWords(change))
+            }
+            Entry::Change(number, bot, change) => {
+                put(f, "change ", &number)?;
+                put(f, ", asked by bot ", &bot)?;
+                put(f, ": ", &ChangeWords(change))
+            }
+            Entry::Reopened => f.write_str("log opened again"),
+            Entry::NotReopened => {
+                f.write_str(
+                    "the file of the log can't be opened again: this goes on in the old one",
+                )
+            }
             Entry::GaveWay => f.write_str("admin gone: it was silent, and another waited"),
             Entry::OtherLayout => {
                 f.write_str("a leaf has another layout: run one version of the program on all bots")

@@ -84,18 +84,24 @@
 //! searches for such records.
 #![tactic(auto)]
 
+mod account;
 mod admins;
 mod answering;
 mod answers;
 mod asks;
+mod audit;
 mod bases;
 mod bot_process;
+mod change_words;
 mod checking;
+mod copying;
 mod deeds;
 mod ending;
 mod entry;
+mod fixed_words;
 mod keeping;
 mod kept_sum;
+mod log_opening;
 mod looking;
 mod netting;
 mod noticing;
@@ -105,17 +111,24 @@ mod outcome;
 mod own;
 mod passing;
 mod process;
+mod rebinding;
 mod record_sum;
 mod refusing;
+mod rejoining;
+mod reloading;
+mod rereading;
 mod seconds;
 mod space;
 mod starting;
 mod status;
+mod status_json;
 mod steps;
 mod sums;
 
+pub use crate::account::AccountFault;
 pub use crate::admins::{MAX_ADMINS, MAX_UNSENT};
 pub use crate::bot_process::run;
 pub use crate::checking::check;
 pub use crate::ending::{RunError, Subject};
 pub use crate::record_sum::sum_of;
+pub use crate::rereading::file_bytes;

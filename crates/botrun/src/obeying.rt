@@ -5,20 +5,25 @@ ghost use Rattle.watching.specs.Following.{IsUp};
 ghost use Rattle.botrun.specs.Watched.{station_of};
 
 use crate::answers::of_advice;
+use crate::copying::{backup, reopen};
 use crate::deeds::{bind, die, jump, say, show, unbind};
 use crate::ending::RunError;
 use crate::entry::Entry;
 use crate::keeping::{renew, trust};
 use crate::process::Process;
 use crate::refusing::refusal;
+use crate::rejoining::{join, part};
+use crate::reloading::reload;
 use crate::status::status_of;
+use crate::status_json::{show_json, status_json};
 use bytetext::Failure;
-use control::AdminCommand;
+use control::{AdminCommand, ChannelWords};
 use net::Log;
 use procs::{ProcStore, Promise, Run};
 use recordtext::first_word;
 use settings::Settings;
 use std::fs::File;
+use std::net::Net;
 use std::rt::Files;
 use watching::Watcher;
 
@@ -31,7 +36,12 @@ const MAX_COMMANDS: usize = 16;
 impl Process {
     // Executes the admins' commands, in rounds of one command of each, so that no admin waits for all commands
     // of another. Begins no further round once the bot is to end or is down. Returns whether there was a command.
-    pub(crate) fn obey_all<R: AllocGlobal + Files<File = File>, P: Promise, B: Run, W: Watcher>(
+    pub(crate) fn obey_all<
+        R: AllocGlobal + Net + Files<File = File> + Print,
+        P: Promise,
+        B: Run,
+        W: Watcher,
+    >(
         &mut self,
         rt: &R,
         log: &mut Log,
@@ -59,7 +69,7 @@ impl Process {
     }
 
     // Executes one command of each admin. Returns whether there was one.
-    fn obey_each<R: AllocGlobal + Files<File = File>, P: Promise, B: Run, W: Watcher>(
+    fn obey_each<R: AllocGlobal + Net + Files<File = File> + Print, P: Promise, B: Run, W: Watcher>(
         &mut self,
         rt: &R,
         log: &mut Log,
@@ -92,7 +102,7 @@ impl Process {
     }
 
     // Executes the command in a line, and returns the answer.
-    fn obey<R: AllocGlobal + Files<File = File>, P: Promise, B: Run, W: Watcher>(
+    fn obey<R: AllocGlobal + Net + Files<File = File> + Print, P: Promise, B: Run, W: Watcher>(
         &mut self,
         rt: &R,
         log: &mut Log,
@@ -115,10 +125,7 @@ impl Process {
             Err(Failure::Refused(advice)) => return Ok(of_advice(alloc, advice)?),
             Err(Failure::NoMemory) => return Err(RunError::NoMemory),
         };
-        if is_logged(&command) {
-            let (word, _rest) = first_word(line);
-            log.note(now, &Entry::Asked(word));
-        }
+        log_command(log, &command, line, now);
         if let Some(refusal) = refusal(alloc, &self.others.mail.links, &self.space, &command)? {
             return Ok(refusal);
         }
@@ -126,7 +133,7 @@ impl Process {
     }
 
     // Executes a command that is not refused, and returns the answer.
-    fn execute<R: AllocGlobal + Files<File = File>, P: Promise, B: Run, W: Watcher>(
+    fn execute<R: AllocGlobal + Net + Files<File = File> + Print, P: Promise, B: Run, W: Watcher>(
         &mut self,
         rt: &R,
         log: &mut Log,
@@ -149,9 +156,14 @@ impl Process {
                 self.change(rt, log, store, settings, change, now, watcher)
             }
             AdminCommand::Show => show(alloc, &self.bot, settings),
+            AdminCommand::ShowJson => Ok(show_json(alloc, &self.bot, settings)?),
             AdminCommand::Status => {
                 let (bot, uplink) = (&self.bot, &self.uplink);
                 Ok(status_of(alloc, bot, uplink, &self.others, &self.admins, settings)?)
+            }
+            AdminCommand::StatusJson => {
+                let (bot, uplink) = (&self.bot, &self.uplink);
+                Ok(status_json(alloc, bot, uplink, &self.others, &self.admins, settings)?)
             }
             AdminCommand::Bind(words) => bind(alloc, &mut self.bot, store, &words, watcher),
             AdminCommand::Unbind(words) => unbind(alloc, &mut self.bot, store, words, watcher),
@@ -163,6 +175,19 @@ impl Process {
                 renew(rt, log, &self.folder, links, settings, leaf, now)
             }
             AdminCommand::Trust => trust(rt, &self.folder, &mut self.others.mail.links, settings),
+            AdminCommand::Reload => {
+                let (bot, uplink) = (&mut self.bot, &mut self.uplink);
+                let reloading = &mut self.reloading;
+                reload(
+                    rt, log, bot, uplink, reloading, store, settings, now, watcher,
+                )
+            }
+            AdminCommand::Reopen => reopen(rt, log, settings, now),
+            AdminCommand::Backup(folder) => {
+                backup(rt, &self.folder, self.bot.version(), &folder)
+            }
+            AdminCommand::Join(words) => join(alloc, &mut self.uplink, words, settings, now),
+            AdminCommand::Part(channel) => part(alloc, &mut self.uplink, &channel),
             AdminCommand::Die(text) => {
                 let until = &mut self.until;
                 die(rt, log, &mut self.uplink, until, settings, &text, now)
@@ -171,18 +196,41 @@ impl Process {
     }
 }
 
-// Whether a command is logged: not if it only asks for the bot's state.
-fn is_logged(command: &AdminCommand) -> bool {
+// Logs the line of a command, unless it only asks for the bot's state. Of `say`, whose line may hold a password, and of
+// `+chan` with a key, the first word alone is logged.
+fn log_command(log: &mut Log, command: &AdminCommand, line: &[u8], now: u64) {
     match command {
-        AdminCommand::Show | AdminCommand::Status => false,
+        AdminCommand::Show
+        | AdminCommand::ShowJson
+        | AdminCommand::Status
+        | AdminCommand::StatusJson => {}
+        AdminCommand::Say(_)
+        | AdminCommand::Join(
+            ChannelWords {
+                channel: _,
+                key: Some(_),
+            },
+        ) => {
+            let (word, _rest) = first_word(line);
+            log.note(now, &Entry::Asked(word));
+        }
         AdminCommand::Change(_)
         | AdminCommand::Bind(_)
         | AdminCommand::Unbind(_)
-        | AdminCommand::Say(_)
         | AdminCommand::Compact
         | AdminCommand::Jump
         | AdminCommand::Renew(_)
         | AdminCommand::Trust
-        | AdminCommand::Die(_) => true,
+        | AdminCommand::Reload
+        | AdminCommand::Reopen
+        | AdminCommand::Backup(_)
+        | AdminCommand::Join(
+            ChannelWords {
+                channel: _,
+                key: None,
+            },
+        )
+        | AdminCommand::Part(_)
+        | AdminCommand::Die(_) => log.note(now, &Entry::Asked(line)),
     }
 }

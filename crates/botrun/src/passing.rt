@@ -10,6 +10,7 @@ ghost use Rattle.botrun.specs.Askers.{turn_askers};
 ghost use Rattle.botrun.specs.Passing.{told_all, told_of};
 
 use crate::admins::Admins;
+use crate::audit::log_changes;
 use crate::ending::RunError;
 use crate::entry::Entry;
 use crate::noticing::notice_waiting;
@@ -56,6 +57,7 @@ pub(crate) fn pass<R: AllocGlobal, W: Watcher>(
     let mut rest = told.reports.as_slice();
     while let Some((report, behind)) = rest.split_first() {
         pass_lines(log, uplink, settings, report, now)?;
+        log_changes(log, report, now);
         others.pass(rt, log, report, now, watcher)?;
         if waits {
             notice_waiting(rt.alloc(), uplink, report)?;

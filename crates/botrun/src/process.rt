@@ -12,6 +12,7 @@ use crate::keeping::{enter_new_leaves, keep_new_doubt, keep_new_net};
 use crate::kept_sum::KeptSum;
 use crate::others::Others;
 use crate::own::tell_own;
+use crate::reloading::Reloading;
 use crate::seconds::Seconds;
 use crate::space::Space;
 use crate::sums::{Sums, tell_sum};
@@ -21,7 +22,7 @@ use bytetext::NoMemory;
 use disks::FileDisk;
 use ircline::LineReader;
 use net::{Log, Registry, Watch};
-use peers::Links;
+use peers::{Dice, Links};
 use procs::{ProcStore, Promise, Run};
 use serverlink::IrcConnection;
 use settings::Settings;
@@ -48,6 +49,8 @@ pub(crate) struct Process {
     pub(crate) space: Space,
     // Once the process is to end: the second until which it waits for what is still unsent.
     pub(crate) until: Option<u64>,
+    // The configuration file, and what was read of it again.
+    pub(crate) reloading: Reloading,
 }
 
 // Written by hand, so that the drop is proved once, and not in each function that drops one.
@@ -65,6 +68,7 @@ impl Drop for Process {
             sums: _,
             space: _,
             until: _,
+            reloading: _,
         } = self;
     }
 }
@@ -110,7 +114,7 @@ impl Process {
         watcher: &mut W,
     ) -> Result<Turned, RunError>
     where
-        R: AllocGlobal + Net + Files<File = File> + RandomSource,
+        R: AllocGlobal + Net + Files<File = File> + Print + RandomSource,
         requires moment { seconds.wall < MOMENTS_END }
         requires even { IsEven P.promised store.now (station_of settings.now) W.may (W.past watcher.old) self.old.bot
             self.old.others.mail.account.told }
@@ -182,6 +186,7 @@ impl Process {
             sums: _,
             space: _,
             until: _,
+            reloading: _,
         } = self;
         folder
     }
@@ -215,13 +220,13 @@ fn connect<R: AllocGlobal + Net + Files<File = File> + RandomSource>(
     if until.is_some() {
         return Ok(false);
     }
-    let _linking = links.connect(rt, log, registry, settings, now)?;
+    let _linking = links.connect(rt, &mut Dice::new(), log, registry, settings, now)?;
     uplink.connect(rt, log, registry, settings, now)
 }
 
 // Keeps up the connection to the server, offers each connection its unsent bytes, and closes the connections that are
 // over. Returns whether another turn is due at once: a connection may take more, is to be closed, or has more to be done
-// for it.
+// for it, as a login that derives its salted password.
 fn send<R: AllocGlobal>(
     rt: &R,
     log: &mut Log,
@@ -234,12 +239,13 @@ fn send<R: AllocGlobal>(
     requires moment { now < MOMENTS_END }
 {
     uplink.keep(rt, log, settings, now)?;
+    let derives = uplink.derive(rt, log, settings, now)?;
     let server = uplink.send();
     let admins = admins.send();
     let peers = links.send()?;
     uplink.let_go(log, now);
     links.let_go(log, now);
-    Ok(server || admins || peers)
+    Ok(derives || server || admins || peers)
 }
 
 // A bot whose disk failed does not go on: when its journal is opened again, the journal shows what counts.

@@ -75,7 +75,14 @@ fn is_change(command: &AdminCommand) -> bool
     match command {
         AdminCommand::Change(_) => true,
         AdminCommand::Show
+        | AdminCommand::ShowJson
         | AdminCommand::Status
+        | AdminCommand::StatusJson
+        | AdminCommand::Reload
+        | AdminCommand::Reopen
+        | AdminCommand::Backup(_)
+        | AdminCommand::Join(_)
+        | AdminCommand::Part(_)
         | AdminCommand::Bind(_)
         | AdminCommand::Unbind(_)
         | AdminCommand::Say(_)
@@ -95,7 +102,14 @@ fn needs_room(command: &AdminCommand) -> bool {
         | AdminCommand::Renew(_)
         | AdminCommand::Trust => true,
         AdminCommand::Show
+        | AdminCommand::ShowJson
         | AdminCommand::Status
+        | AdminCommand::StatusJson
+        | AdminCommand::Reload
+        | AdminCommand::Reopen
+        | AdminCommand::Backup(_)
+        | AdminCommand::Join(_)
+        | AdminCommand::Part(_)
         | AdminCommand::Bind(_)
         | AdminCommand::Unbind(_)
         | AdminCommand::Say(_)

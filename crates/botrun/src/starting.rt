@@ -10,7 +10,7 @@ use crate::ending::{RunError, of_bot, of_folder};
 use crate::netting::begin_net;
 use botcore::{Bot, BotEvent, Config, End, Refusal};
 use botfolder::{Begun, BotFolder, FolderFault};
-use bytetext::{NoMemory, TryCopy};
+use bytetext::{NoMemory, Texts, TryCopy};
 use disks::{FileDisk, Pair};
 use procs::{ProcStore, Promise, Run};
 use settings::{BindLine, Settings};
@@ -127,7 +127,8 @@ fn made<R: AllocGlobal + Files<File = File>, W: Watcher>(
     }
 }
 
-// The configuration with which the bot is opened or created.
+// The configuration with which the bot is opened or created. The bot itself joins no channel: which those are can change
+// while it runs, so the connection to the server joins all of them.
 fn config_of(alloc: Global, settings: &Settings) -> Result<Config, NoMemory>
     ensures { IfOk result (λ config. station_in config ≡ station_of settings.now) }
 {
@@ -135,7 +136,7 @@ fn config_of(alloc: Global, settings: &Settings) -> Result<Config, NoMemory>
         number: settings.station.number,
         leaves: settings.station.leaves,
         nick: settings.nick.copy(alloc)?,
-        channels: settings.channels.copy(alloc)?,
+        channels: Texts::empty(alloc),
         exclusive: settings.exclusive,
         zone: settings.zone.copy(alloc)?,
     })

@@ -9,6 +9,10 @@ use std::alloc::{AllocError, Global};
 /// The program's version.
 const VERSION: &str = "0.2.0";
 
+/// The toolchain's kit that proves and builds the program: what `rt version` prints first. `tools/package` packs no
+/// program that names another one.
+const KIT: &str = "rattle-kit-13f";
+
 /// What the program is to do.
 #[derive(Drop)]
 pub enum ProgramTask<'a> {
@@ -49,9 +53,10 @@ pub fn refused<R: Print + Eprint>(rt: &R, error: &Error) -> u8 {
     }
 }
 
-/// Returns what `--version` prints after the program's name: the version, and the layout of the journals that it writes.
+/// Returns what `--version` prints after the program's name: the version, the layout of the journals that it writes, and
+/// the toolchain's kit.
 pub fn version_of(alloc: Global) -> Result<String, AllocError> {
-    format!(in alloc; "{VERSION}, journal layout {LAYOUT}")
+    format!(in alloc; "{VERSION}, journal layout {LAYOUT}, {KIT}")
 }
 
 /// Returns the task that `words` ask for. The first of them is the program's name. `--version` prints `version`.

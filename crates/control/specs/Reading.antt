@@ -1,13 +1,15 @@
 -- What a command asks for, or what to say instead.
-use Rattle.std.specs.Prelude.{◌≡◌, ℕ, ◌==◌, ◌||◌, nat_lt, Bool, List, [], ◌∷◌, length, Option, None, Some, Result, Ok, Err, if◌then◌else◌}
-use Rattle.std.specs.List.{list_any}
+use Rattle.std.specs.Prelude.{◌≡◌, ℕ, ◌==◌, ◌||◌, ◌&&◌, not, nat_lt, nat_le, Bool, false, codes, slice_index, List, [], ◌∷◌, length, Option, None, Some, Result, Ok, Err, if◌then◌else◌}
+use Rattle.std.specs.List.{list_all, list_any}
+use Rattle.std.specs.Str.{bytes_eq}
 use Rattle.bytetext.specs.declared.failure.Failure.{Failure}
 use Rattle.bytetext.specs.declared.failure.Failure.TheVariants.{Refused, NoMemory}
 use Rattle.bytetext.specs.Numerals.{number_from}
+use Rattle.rfccase.specs.Channels.{is_channel_name}
 use Rattle.userfile.specs.declared.change.Change.{Change}
 use Rattle.recordtext.specs.Words.{words_of, is_empty, rest_of}
 use Rattle.recordtext.specs.Changes.{change_named}
-use Rattle.control.specs.declared.TheConstants.{MAX_COMMAND, MAX_LINE}
+use Rattle.control.specs.declared.TheConstants.{MAX_COMMAND, MAX_KEY, MAX_LINE}
 use Rattle.control.specs.declared.command_word.CommandWord.{CommandWord}
 use Rattle.control.specs.declared.command_word.CommandWord.TheVariants as word
 use Rattle.control.specs.declared.advice.CommandAdvice.{CommandAdvice}
@@ -86,6 +88,55 @@ abbrev pub die_said : List (List ℕ) → Result AdminCommand CommandAdvice
 die_said [] = Ok (command.Die [])
 die_said (w ∷ words) = Ok (command.Die (die_text (rest_of (w ∷ words))))
 
+-- show and status: json may follow
+abbrev pub show_said : List (List ℕ) → Result AdminCommand CommandAdvice
+show_said [] = Ok command.Show
+show_said (form ∷ []) = if bytes_eq form (codes "json") then Ok command.ShowJson else Err (Form word.Show)
+show_said (form ∷ w ∷ words) = Err (Form word.Show)
+
+abbrev pub status_said : List (List ℕ) → Result AdminCommand CommandAdvice
+status_said [] = Ok command.Status
+status_said (form ∷ []) = if bytes_eq form (codes "json") then Ok command.StatusJson else Err (Form word.Status)
+status_said (form ∷ w ∷ words) = Err (Form word.Status)
+
+-- backup FOLDER, which is a path from the root
+abbrev pub is_absolute : List ℕ → Bool
+is_absolute [] = false
+is_absolute (b ∷ path) = b == 47
+
+abbrev pub folder_named : Option (List ℕ) → Result AdminCommand CommandAdvice
+folder_named None = Err (Form word.Backup)
+folder_named (Some folder) = if is_absolute folder then Ok (command.Backup folder) else Err (Form word.Backup)
+
+abbrev pub backup_said : List (List ℕ) → Result AdminCommand CommandAdvice
+backup_said [] = Err (Form word.Backup)
+backup_said (w ∷ words) = folder_named (rest_of (w ∷ words))
+
+-- +chan CHANNEL KEY, and the KEY may be left out: it has no control byte, space or comma, and does not begin with a colon
+-- (RFC 2812 section 2.3.1 has 1 to 23 bytes; servers of today accept more)
+abbrev pub is_key_byte : ℕ → Bool
+is_key_byte b = nat_lt 32 b && not (b == 44)
+
+abbrev pub is_key : List ℕ → Bool
+is_key word =
+    nat_le 1 (length word) && (nat_le (length word) MAX_KEY && (not (slice_index word 0 == 58) && list_all is_key_byte word))
+
+abbrev pub joined : List ℕ → Option (List ℕ) → Result AdminCommand CommandAdvice
+joined name key =
+    if is_channel_name name then Ok (command.Join (record { channel = name; key = key })) else Err (Form word.AddChan)
+
+abbrev pub join_said : List (List ℕ) → Result AdminCommand CommandAdvice
+join_said [] = Err (Form word.AddChan)
+join_said (name ∷ []) = joined name None
+join_said (name ∷ key ∷ []) = if is_key key then joined name (Some key) else Err (Form word.AddChan)
+join_said (name ∷ key ∷ w ∷ words) = Err (Form word.AddChan)
+
+-- -chan CHANNEL
+abbrev pub part_said : List (List ℕ) → Result AdminCommand CommandAdvice
+part_said [] = Err (Form word.DelChan)
+part_said (name ∷ []) = if is_channel_name name then Ok (command.Part name) else Err (Form word.DelChan)
+part_said (name ∷ w ∷ words) = Err (Form word.DelChan)
+
 -- ---- a line
 
 abbrev pub said_of : Option CommandWord → List ℕ → List (List ℕ) → Result AdminCommand CommandAdvice
@@ -93,6 +144,9 @@ said_of None spelling words = Err Unknown
 said_of (Some word.AddBan) spelling words = change_said word.AddBan spelling words
 said_of (Some word.AddHost) spelling words = change_said word.AddHost spelling words
 said_of (Some word.AddUser) spelling words = change_said word.AddUser spelling words
+said_of (Some word.AddChan) spelling words = join_said words
+said_of (Some word.DelChan) spelling words = part_said words
+said_of (Some word.Backup) spelling words = backup_said words
 said_of (Some word.Bind) spelling words = bind_said words
 said_of (Some word.Bot) spelling words = change_said word.Bot spelling words
 said_of (Some word.Chan) spelling words = change_said word.Chan spelling words
@@ -104,10 +158,12 @@ said_of (Some word.Die) spelling words = die_said words
 said_of (Some word.Global) spelling words = change_said word.Global spelling words
 said_of (Some word.Info) spelling words = change_said word.Info spelling words
 said_of (Some word.Jump) spelling words = alone word.Jump words command.Jump
+said_of (Some word.Reload) spelling words = alone word.Reload words command.Reload
 said_of (Some word.Renew) spelling words = renew_said words
+said_of (Some word.Reopen) spelling words = alone word.Reopen words command.Reopen
 said_of (Some word.Say) spelling words = say_said words
-said_of (Some word.Show) spelling words = alone word.Show words command.Show
-said_of (Some word.Status) spelling words = alone word.Status words command.Status
+said_of (Some word.Show) spelling words = show_said words
+said_of (Some word.Status) spelling words = status_said words
 said_of (Some word.Sticky) spelling words = change_said word.Sticky spelling words
 said_of (Some word.Trust) spelling words = alone word.Trust words command.Trust
 said_of (Some word.Unbind) spelling words = unbind_said words

@@ -2,13 +2,16 @@
 use Rattle.std.specs.Prelude.{ℕ, List, [], ◌∷◌, Option, find, codes}
 use Rattle.std.specs.Str.{bytes_eq}
 use Rattle.control.specs.declared.command_word.CommandWord.{CommandWord}
-use Rattle.control.specs.declared.command_word.CommandWord.TheVariants.{AddBan, AddHost, AddUser, Bind, Bot, Chan, Compact, DelBan, DelHost}
-use Rattle.control.specs.declared.command_word.CommandWord.TheVariants.{DelUser, Die, Global, Info, Jump, Renew, Say, Show, Status, Sticky, Trust, Unbind}
+use Rattle.control.specs.declared.command_word.CommandWord.TheVariants.{AddChan, DelChan, AddBan, AddHost, AddUser, Backup, Bind, Bot, Chan, Compact}
+use Rattle.control.specs.declared.command_word.CommandWord.TheVariants.{DelBan, DelHost, DelUser, Die, Global, Info, Jump, Reload, Renew, Reopen, Say, Show, Status, Sticky, Trust, Unbind}
 
 abbrev pub spelling_of : CommandWord → List ℕ
+spelling_of AddChan = codes "+chan"
+spelling_of DelChan = codes "-chan"
 spelling_of AddBan = codes "addban"
 spelling_of AddHost = codes "addhost"
 spelling_of AddUser = codes "adduser"
+spelling_of Backup = codes "backup"
 spelling_of Bind = codes "bind"
 spelling_of Bot = codes "bot"
 spelling_of Chan = codes "chan"
@@ -20,7 +23,9 @@ spelling_of Die = codes "die"
 spelling_of Global = codes "global"
 spelling_of Info = codes "info"
 spelling_of Jump = codes "jump"
+spelling_of Reload = codes "reload"
 spelling_of Renew = codes "renew"
+spelling_of Reopen = codes "reopen"
 spelling_of Say = codes "say"
 spelling_of Show = codes "show"
 spelling_of Status = codes "status"
@@ -30,7 +35,8 @@ spelling_of Unbind = codes "unbind"
 
 abbrev pub all_words : List CommandWord
 all_words =
-    AddBan ∷ AddHost ∷ AddUser ∷ Bind ∷ Bot ∷ Chan ∷ Compact ∷ DelBan ∷ DelHost ∷ DelUser ∷ Die ∷ Global ∷ Info ∷ Jump ∷ Renew ∷ Say ∷
+    AddChan ∷ DelChan ∷ AddBan ∷ AddHost ∷ AddUser ∷ Backup ∷ Bind ∷ Bot ∷ Chan ∷ Compact ∷ DelBan ∷ DelHost ∷ DelUser ∷ Die ∷
+    Global ∷ Info ∷ Jump ∷ Reload ∷ Renew ∷ Reopen ∷ Say ∷
     Show ∷ Status ∷ Sticky ∷ Trust ∷ Unbind ∷ []
 
 -- the word with this spelling: no two are spelled alike

@@ -10,8 +10,12 @@ pub enum AdminCommand {
     Change(Change),
     /// To show the version and the records.
     Show,
+    /// To show the version and the records as JSON.
+    ShowJson,
     /// To show the bot's status.
     Status,
+    /// To show the bot's status as JSON.
+    StatusJson,
     /// To add a bind. Nothing has checked that such a type exists, or that flags and mask are well formed.
     Bind(BindWords),
     /// To remove a bind.
@@ -27,6 +31,16 @@ pub enum AdminCommand {
     Renew(u16),
     /// At a hub: to count its own records as the net's, though a leaf has shown newer or other ones.
     Trust,
+    /// To read the configuration file again.
+    Reload,
+    /// To open the log's file again.
+    Reopen,
+    /// To copy the journal into a new folder of this absolute path.
+    Backup(Text),
+    /// To join a channel, until the bot ends.
+    Join(ChannelWords),
+    /// To leave the channel of this name, until the bot ends.
+    Part(Text),
     /// To end, and to send the server this text, which may be empty.
     Die(Text),
 }
@@ -40,4 +54,13 @@ pub struct UnbindWords {
     pub proc: Text,
     /// The mask or keyword.
     pub mask: Text,
+}
+
+/// A channel to join.
+#[derive(Debug, Drop)]
+pub struct ChannelWords {
+    /// The channel's name.
+    pub channel: Text,
+    /// Its key, if it needs one: 1 to [`MAX_KEY`](crate::MAX_KEY) bytes.
+    pub key: Option<Text>,
 }

@@ -28,8 +28,9 @@ impl Display for CommandAdvice {
                 "say it in one line, without a carriage return or NUL",
             ),
             CommandAdvice::Unknown => f.write_str(
-                "begin with addban, addhost, adduser, bind, bot, chan, compact, delban, delhost, deluser, die, global, \
-                 info, jump, renew, say, show, status, sticky, trust-this-copy or unbind",
+                "begin with +chan, -chan, addban, addhost, adduser, backup, bind, bot, chan, compact, delban, delhost, \
+                 deluser, die, global, info, jump, reload, renew, reopen, say, show, status, sticky, trust-this-copy or \
+                 unbind",
             ),
             CommandAdvice::Form(word) => f.write_str(form_of(word)),
         }
@@ -39,11 +40,16 @@ impl Display for CommandAdvice {
 // The form of a command of this word.
 fn form_of(word: CommandWord) -> &'static str {
     match word {
+        CommandWord::AddChan =>
+            "say +chan CHANNEL KEY, and the KEY may be left out, as in +chan #egg",
+        CommandWord::DelChan => "say -chan CHANNEL, as in -chan #egg",
         CommandWord::AddBan =>
             "say addban CHANNEL MASK HANDLE EXPIRY COMMENT, as in addban #egg *!*@spam.example alice 0 no spam here",
         CommandWord::AddHost =>
             "say addhost HANDLE MASK, as in addhost alice *!*alice@host.example",
         CommandWord::AddUser => "say adduser HANDLE, as in adduser alice",
+        CommandWord::Backup =>
+            "say backup FOLDER, with FOLDER a path from / that nothing has yet, as in backup /var/backups/egg1",
         CommandWord::Bind => "say bind TYPE FLAGS PROC MASK, as in bind pub - echo !echo",
         CommandWord::Bot => "say bot HANDLE FLAGS, as in bot egg1 s",
         CommandWord::Chan => "say chan HANDLE CHANNEL FLAGS, as in chan alice #egg o",
@@ -56,10 +62,12 @@ fn form_of(word: CommandWord) -> &'static str {
         CommandWord::Global => "say global HANDLE FLAGS, as in global alice o",
         CommandWord::Info => "say info HANDLE TEXT, as in info alice I keep the eggs",
         CommandWord::Jump => "say jump alone",
+        CommandWord::Reload => "say reload alone",
         CommandWord::Renew => "say renew N, with N a leaf's number from 1, as in renew 3",
+        CommandWord::Reopen => "say reopen alone",
         CommandWord::Say => "say say LINE, of at most 510 bytes, as in say PRIVMSG #egg :hello",
-        CommandWord::Show => "say show alone",
-        CommandWord::Status => "say status alone",
+        CommandWord::Show => "say show, or show json",
+        CommandWord::Status => "say status, or status json",
         CommandWord::Sticky =>
             "say sticky CHANNEL MASK N, with N 1 or 0, as in sticky #egg *!*@spam.example 1",
         CommandWord::Trust => "say trust-this-copy alone",

@@ -1,12 +1,13 @@
 // A command to a running bot.
 use crate::admin_command::AdminCommand;
 use crate::answer::body_of;
-use crate::fault::{AskError, AskFault, command_error, machine_error, socket_error};
-use botfolder::{FolderFault, MAX_PATH, control_of};
+use crate::fault::{AskError, AskFault, command_error, folder_error, machine_error, socket_error};
+use botfolder::{FolderFault, MAX_PATH, check_owner, control_of};
 use bytetext::Failure;
 use net::{Bounds, Connection, Registry, UnixSocket, Watch};
 use std::io::ErrorKind;
 use std::net::Net;
+use std::rt::Files;
 use std::time::{Clock, Duration};
 use std::{io, thread};
 
@@ -38,10 +39,11 @@ const PAUSE: u64 = 20;
 /// waits for the bot's end.
 ///
 /// # Errors
-/// `Command` if `line` is no command; `Folder` for a name that is too long; `Nobody`, `Barred`, `Busy`, `LetGo`,
+/// `Command` if `line` is no command; `Folder` for a name that is too long, for a symbolic link, and for a folder of another
+/// user unless this process is root's; `Nobody`, `Barred`, `Busy`, `LetGo`,
 /// `Silent`, `TooLong` and `Machine`, as [`AskFault`] describes them; `NoMemory` if an allocation fails. After `LetGo`,
 /// `Silent`, `TooLong`, `Machine` or `NoMemory` the bot may have carried out the command.
-pub fn ask<R: AllocGlobal + Net + Clock>(
+pub fn ask<R: AllocGlobal + Net + Clock + Files>(
     rt: &R,
     folder: &str,
     line: &[u8],
@@ -52,6 +54,10 @@ pub fn ask<R: AllocGlobal + Net + Clock>(
     };
     if folder.len() > MAX_PATH {
         return Err(Failure::Refused(AskFault::Folder(FolderFault::LongName)));
+    }
+    // Who listens in another folder is nobody's own bot.
+    if let Err(error) = check_owner(rt, folder) {
+        return Err(folder_error(error));
     }
     let path = control_of(rt.alloc(), folder)?;
     let mut watch = match Watch::new(rt, 4) {
@@ -88,14 +94,21 @@ fn is_die(command: &AdminCommand) -> bool {
         AdminCommand::Die(_) => true,
         AdminCommand::Change(_)
         | AdminCommand::Show
+        | AdminCommand::ShowJson
         | AdminCommand::Status
+        | AdminCommand::StatusJson
         | AdminCommand::Bind(_)
         | AdminCommand::Unbind(_)
         | AdminCommand::Say(_)
         | AdminCommand::Compact
         | AdminCommand::Jump
         | AdminCommand::Renew(_)
-        | AdminCommand::Trust => false,
+        | AdminCommand::Trust
+        | AdminCommand::Reload
+        | AdminCommand::Reopen
+        | AdminCommand::Backup(_)
+        | AdminCommand::Join(_)
+        | AdminCommand::Part(_) => false,
     }
 }
 

@@ -5,12 +5,18 @@ ghost use Rattle.control.specs.Vocabulary.{spelling_of, word_named};
 /// The first word of a command.
 #[derive(Clone, Copy, Debug, PartialEq, Eq)]
 pub enum CommandWord {
+    /// A channel is joined.
+    AddChan,
+    /// A channel is left.
+    DelChan,
     /// A ban is added.
     AddBan,
     /// A hostmask is added to a user.
     AddHost,
     /// A user is added.
     AddUser,
+    /// The journal is copied.
+    Backup,
     /// A bind is made.
     Bind,
     /// A user's flags as a bot are set.
@@ -33,8 +39,12 @@ pub enum CommandWord {
     Info,
     /// The bot leaves its server for the next.
     Jump,
+    /// The configuration file is read again.
+    Reload,
     /// A leaf may come back from another folder.
     Renew,
+    /// The log's file is opened again.
+    Reopen,
     /// The bot sends the server a line.
     Say,
     /// The records are shown.
@@ -50,10 +60,13 @@ pub enum CommandWord {
 }
 
 // Every word.
-const ALL: [CommandWord; 21] = [
+const ALL: [CommandWord; 26] = [
+    CommandWord::AddChan,
+    CommandWord::DelChan,
     CommandWord::AddBan,
     CommandWord::AddHost,
     CommandWord::AddUser,
+    CommandWord::Backup,
     CommandWord::Bind,
     CommandWord::Bot,
     CommandWord::Chan,
@@ -65,7 +78,9 @@ const ALL: [CommandWord; 21] = [
     CommandWord::Global,
     CommandWord::Info,
     CommandWord::Jump,
+    CommandWord::Reload,
     CommandWord::Renew,
+    CommandWord::Reopen,
     CommandWord::Say,
     CommandWord::Show,
     CommandWord::Status,
@@ -80,9 +95,12 @@ impl CommandWord {
         ensures { result.now ≡ spelling_of self }
     {
         match self {
+            CommandWord::AddChan => "+chan",
+            CommandWord::DelChan => "-chan",
             CommandWord::AddBan => "addban",
             CommandWord::AddHost => "addhost",
             CommandWord::AddUser => "adduser",
+            CommandWord::Backup => "backup",
             CommandWord::Bind => "bind",
             CommandWord::Bot => "bot",
             CommandWord::Chan => "chan",
@@ -94,7 +112,9 @@ impl CommandWord {
             CommandWord::Global => "global",
             CommandWord::Info => "info",
             CommandWord::Jump => "jump",
+            CommandWord::Reload => "reload",
             CommandWord::Renew => "renew",
+            CommandWord::Reopen => "reopen",
             CommandWord::Say => "say",
             CommandWord::Show => "show",
             CommandWord::Status => "status",

@@ -18,8 +18,8 @@
 //! | Line | What the bot does |
 //! |---|---|
 //! | a change, such as `adduser alice` or `chan alice #egg o` | changes the userfile so ([`recordtext`]) |
-//! | `show` | shows the version and the records |
-//! | `status` | shows its status |
+//! | `show` | shows the version and the records; `show json` shows them as JSON |
+//! | `status` | shows its status; `status json` shows it as JSON |
 //! | `bind` type flags proc MASK | adds the bind, until the bot ends |
 //! | `unbind` type proc MASK | removes the bind |
 //! | `say LINE` | sends the server this line, of 1 to 510 bytes |
@@ -27,6 +27,11 @@
 //! | `jump` | leaves this server for the next |
 //! | `renew` number | a hub: disconnects this leaf, and lets it come back from another folder |
 //! | `trust-this-copy` | a hub: counts its records as the net's, though a leaf has shown newer or other ones |
+//! | `reload` | reads its configuration file again, and takes all of it or nothing |
+//! | `reopen` | opens its log's file again |
+//! | `backup FOLDER` | copies its journal into a new folder; FOLDER is a path from `/` |
+//! | `+chan` channel key | joins the channel, until the bot ends; the key may be left out |
+//! | `-chan` channel | leaves the channel, until the bot ends |
 //! | `die TEXT` | ends, and sends the server the TEXT, which may be left out |
 //!
 //! [`AdminCommand::read`] returns what a line asks for, or what to say instead. Only the bot, when it is asked, decides
@@ -56,7 +61,7 @@ mod fault;
 mod reading;
 mod showing;
 
-pub use crate::admin_command::{AdminCommand, UnbindWords};
+pub use crate::admin_command::{AdminCommand, ChannelWords, UnbindWords};
 pub use crate::advice::{CommandAdvice, CommandError};
 pub use crate::answer::{body_of, is_refusal};
 pub use crate::asking::{MAX_ANSWER, PATIENCE, ask};
@@ -69,3 +74,6 @@ pub const MAX_COMMAND: usize = 600;
 
 /// The most bytes of a line for the server, without its CR and LF (RFC 2812 section 2.3).
 pub const MAX_LINE: usize = 510;
+
+/// The most bytes of a channel's key.
+pub const MAX_KEY: usize = 50;

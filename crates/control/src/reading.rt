@@ -1,15 +1,17 @@
 // A line of an admin, read.
 ghost use Rattle.std.specs.Prelude.{◌≡◌, ◌∷◌, map, IfOk};
-ghost use Rattle.std.specs.List.{list_any};
-ghost use Rattle.control.specs.Reading.{Answers, alone, bind_said, bound, command_by_words, die_said, die_text, is_bare};
-ghost use Rattle.control.specs.Reading.{renew_said, renewed, said, say_said, unbind_said, unbound};
+ghost use Rattle.std.specs.List.{list_all, list_any};
+ghost use Rattle.control.specs.Reading.{Answers, alone, backup_said, bind_said, bound, command_by_words, die_said, die_text};
+ghost use Rattle.control.specs.Reading.{folder_named, is_absolute, is_bare, is_key, is_key_byte, join_said, joined, part_said};
+ghost use Rattle.control.specs.Reading.{renew_said, renewed, said, say_said, show_said, status_said, unbind_said, unbound};
 
-use crate::admin_command::{AdminCommand, UnbindWords};
+use crate::admin_command::{AdminCommand, ChannelWords, UnbindWords};
 use crate::advice::{CommandAdvice, CommandError};
 use crate::command_word::CommandWord;
-use crate::{MAX_COMMAND, MAX_LINE};
+use crate::{MAX_COMMAND, MAX_KEY, MAX_LINE};
 use bytetext::{Failure, Text};
 use recordtext::{change_named, pieces_of, rest_of};
+use rfccase::is_channel_name;
 use settings::{BindWords, value_of_digits};
 use std::alloc::Global;
 
@@ -81,14 +83,19 @@ fn command_by_words(alloc: Global, words: &[&[u8]]) -> Result<AdminCommand, Comm
             Some(change) => Ok(AdminCommand::Change(change)),
             None => Err(Failure::Refused(CommandAdvice::Form(word))),
         },
+        CommandWord::AddChan => join_said(alloc, words),
+        CommandWord::DelChan => part_said(alloc, words),
+        CommandWord::Backup => backup_said(alloc, words),
         CommandWord::Bind => bind_said(alloc, words),
         CommandWord::Compact => alone(word, words, AdminCommand::Compact),
         CommandWord::Die => die_said(alloc, words),
         CommandWord::Jump => alone(word, words, AdminCommand::Jump),
+        CommandWord::Reload => alone(word, words, AdminCommand::Reload),
         CommandWord::Renew => renew_said(words),
+        CommandWord::Reopen => alone(word, words, AdminCommand::Reopen),
         CommandWord::Say => say_said(alloc, words),
-        CommandWord::Show => alone(word, words, AdminCommand::Show),
-        CommandWord::Status => alone(word, words, AdminCommand::Status),
+        CommandWord::Show => show_said(words),
+        CommandWord::Status => status_said(words),
         CommandWord::Trust => alone(word, words, AdminCommand::Trust),
         CommandWord::Unbind => unbind_said(alloc, words),
     }
@@ -107,6 +114,119 @@ fn alone(
     } else {
         Err(Failure::Refused(CommandAdvice::Form(word)))
     }
+}
+
+// Nothing, or `json`.
+fn show_said(words: &[&[u8]]) -> Result<AdminCommand, CommandError>
+    ensures { Answers (show_said (map (λ word. word.now) words.now)) result }
+{
+    match words {
+        [] => Ok(AdminCommand::Show),
+        [form] if *form == b"json".as_slice() => Ok(AdminCommand::ShowJson),
+        [_] | [_, _, ..] => Err(Failure::Refused(CommandAdvice::Form(CommandWord::Show))),
+    }
+}
+
+// Nothing, or `json`.
+fn status_said(words: &[&[u8]]) -> Result<AdminCommand, CommandError>
+    ensures { Answers (status_said (map (λ word. word.now) words.now)) result }
+{
+    match words {
+        [] => Ok(AdminCommand::Status),
+        [form] if *form == b"json".as_slice() => Ok(AdminCommand::StatusJson),
+        [_] | [_, _, ..] => Err(Failure::Refused(CommandAdvice::Form(CommandWord::Status))),
+    }
+}
+
+// FOLDER
+fn backup_said(alloc: Global, words: &[&[u8]]) -> Result<AdminCommand, CommandError>
+    ensures { Answers (backup_said (map (λ word. word.now) words.now)) result }
+{
+    match words {
+        [first, rest @ ..] => folder_named(rest_of(alloc, first, rest)?),
+        [] => Err(Failure::Refused(CommandAdvice::Form(CommandWord::Backup))),
+    }
+}
+
+// The folder of this name, if it is a path from the root.
+fn folder_named(folder: Option<Text>) -> Result<AdminCommand, CommandError>
+    ensures { Answers (folder_named folder) result }
+{
+    match folder {
+        Some(folder) if is_absolute(folder.as_bytes()) => Ok(AdminCommand::Backup(folder)),
+        Some(_) | None => Err(Failure::Refused(CommandAdvice::Form(CommandWord::Backup))),
+    }
+}
+
+// A bot runs in a folder that an admin can't see, so a path from there would mean another place.
+fn is_absolute(path: &[u8]) -> bool
+    ensures { result ≡ is_absolute path.now }
+{
+    match path {
+        [first, ..] => *first == b'/',
+        [] => false,
+    }
+}
+
+// CHANNEL, or CHANNEL KEY
+fn join_said(alloc: Global, words: &[&[u8]]) -> Result<AdminCommand, CommandError>
+    ensures { Answers (join_said (map (λ word. word.now) words.now)) result }
+{
+    match words {
+        [name] => joined(alloc, name, None),
+        [name, key] if is_key(key) => joined(alloc, name, Some(Text::from_slice(alloc, key)?)),
+        [] | [_, _] | [_, _, _, ..] => Err(Failure::Refused(CommandAdvice::Form(
+            CommandWord::AddChan,
+        ))),
+    }
+}
+
+// The channel of this name and key, if that is a name.
+fn joined(alloc: Global, name: &[u8], key: Option<Text>) -> Result<AdminCommand, CommandError>
+    ensures { Answers (joined name.now key) result }
+{
+    if !is_channel_name(name) {
+        return Err(Failure::Refused(CommandAdvice::Form(CommandWord::AddChan)));
+    }
+    Ok(AdminCommand::Join(ChannelWords {
+        channel: Text::from_slice(alloc, name)?,
+        key,
+    }))
+}
+
+// CHANNEL
+fn part_said(alloc: Global, words: &[&[u8]]) -> Result<AdminCommand, CommandError>
+    ensures { Answers (part_said (map (λ word. word.now) words.now)) result }
+{
+    match words {
+        [name] if is_channel_name(name) => {
+            Ok(AdminCommand::Part(Text::from_slice(alloc, name)?))
+        }
+        [] | [_] | [_, _, ..] => Err(Failure::Refused(CommandAdvice::Form(CommandWord::DelChan))),
+    }
+}
+
+// Whether a word can stand as a key in a JOIN, which is no list of keys and no text at the line's end.
+fn is_key(word: &[u8]) -> bool
+    ensures { result ≡ is_key word.now }
+{
+    if word.is_empty() || word.len() > MAX_KEY || word[0] == b':' {
+        return false;
+    }
+    are_key_bytes(word)
+}
+
+fn are_key_bytes(word: &[u8]) -> bool
+    ensures { result ≡ list_all is_key_byte word.now }
+{
+    word.iter().all(|byte| is_key_byte(*byte))
+}
+
+// Neither a control byte nor a space nor a comma.
+fn is_key_byte(byte: u8) -> bool
+    ensures { result ≡ is_key_byte byte }
+{
+    byte > b' ' && byte != b','
 }
 
 // TYPE FLAGS PROC MASK..

@@ -39,7 +39,7 @@ pub fn show<R: AllocGlobal + Net + Clock + Files<File = File>>(
 }
 
 // What the running bot says.
-fn asked<R: AllocGlobal + Net + Clock>(rt: &R, folder: &str) -> Result<Vec<u8>, AskError> {
+fn asked<R: AllocGlobal + Net + Clock + Files>(rt: &R, folder: &str) -> Result<Vec<u8>, AskError> {
     match ask(rt, folder, b"show") {
         Err(Failure::Refused(AskFault::Nobody)) => Err(Failure::Refused(AskFault::Begins)),
         answer => answer,

@@ -7,7 +7,7 @@ use crate::files::files_verdict;
 use crate::folder::look_at_folder;
 use crate::journal::journal_verdict;
 use crate::report::Report;
-use crate::secret::{look_at_secret, open_mode};
+use crate::secret::{look_at_password, look_at_secret, open_mode};
 use crate::subject::Subject;
 use crate::user::User;
 use crate::verdict::{Bad, Note, Verdict};
@@ -43,6 +43,9 @@ pub fn examine<R: Print + AllocGlobal + Net + Clock + Files<File = File> + Rando
             look_at_secret(rt, &mut report, name.as_bytes(), settings.station.number)?;
         }
         Some(_) | None => {}
+    }
+    if let Some(account) = &settings.account {
+        look_at_password(rt, &mut report, account.file.as_bytes())?;
     }
     look_at_servers(rt, &mut report, settings)?;
     if !is_alone {

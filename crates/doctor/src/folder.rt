@@ -4,7 +4,7 @@ use crate::modes::{Seen, verdict_above, verdict_of_mode, verdict_of_owner};
 use crate::report::Report;
 use crate::subject::Subject;
 use crate::user::User;
-use crate::verdict::{Bad, Fine, Note, Verdict};
+use crate::verdict::{Bad, Fine, Verdict};
 use botfolder::{FolderFault, MAX_PATH};
 use std::fs::Metadata;
 use std::io::ErrorKind;
@@ -24,10 +24,7 @@ pub(crate) fn look_at_folder<R: Print + Files>(
         faulty(FolderFault::LongName)
     } else {
         match fs::symlink_metadata(rt, path) {
-            Ok(found) if found.is_symlink() => {
-                report.tell(rt, folder, Verdict::Note(Note::Link))?;
-                return look_inside(rt, report, path, user);
-            }
+            Ok(found) if found.is_symlink() => faulty(FolderFault::IsLink),
             Ok(_) => return look_inside(rt, report, path, user),
             Err(error) => match error.kind() {
                 ErrorKind::NotFound => verdict_of_missing(rt, above(path), user),
@@ -39,7 +36,7 @@ pub(crate) fn look_at_folder<R: Print + Files>(
     Ok(false)
 }
 
-// Looks at what `path` names, or leads to.
+// Looks at what `path` names.
 fn look_inside<R: Print + Files>(
     rt: &R,
     report: &mut Report,
@@ -52,11 +49,7 @@ fn look_inside<R: Print + Files>(
             return Ok(true);
         }
         Ok(_) => FolderFault::NotAFolder,
-        Err(error) => match error.kind() {
-            // A link that leads nowhere.
-            ErrorKind::NotFound => FolderFault::NotAFolder,
-            _ => fault_of(&error),
-        },
+        Err(error) => fault_of(&error),
     };
     report.tell(rt, Subject::Folder(path.as_bytes()), faulty(fault))?;
     Ok(false)

@@ -24,7 +24,7 @@
 //! | `folder` | the bot's folder, or the folder above it if it is missing |
 //! | `journal` | the journal of a bot that does not run |
 //! | `files` | how many files this process may open |
-//! | `secret` | the file of the net's secret, or of a leaf's key |
+//! | `secret` | the file of the net's secret or of a leaf's key, and that of the password of the account |
 //! | `dialling` | whether somebody answers at an address, for at most five seconds each for the name and the connection |
 //! | `door` | whether a hub can listen at its address |
 //!

@@ -1,4 +1,4 @@
-// The file of the net's secret, or of a leaf's key.
+// The files of secrets: of the net's or of a leaf's key, and of the password of an account.
 ghost use Rattle.std.specs.Prelude.{◌≡◌};
 ghost use Rattle.doctor.specs.Secrets.{verdict_of_secret};
 
@@ -28,6 +28,34 @@ pub(crate) fn look_at_secret<R: Print + Files<File = File>>(
     match open_mode(rt, path) {
         Some(mode) => report.tell(rt, secret, Verdict::Bad(Bad::OpenSecret(mode))),
         None => Ok(()),
+    }
+}
+
+// Looks at the file `name` of the password of the bot's account, and tells what it finds. Only `run` reads the password.
+pub(crate) fn look_at_password<R: Print + Files<File = File>>(
+    rt: &R,
+    report: &mut Report,
+    name: &[u8],
+) -> Result<(), DoctorFault> {
+    let password = Subject::Password(name);
+    let Ok(path) = str::from_utf8(name) else {
+        return report.tell(rt, password, Verdict::Bad(Bad::Password));
+    };
+    if !is_readable(rt, path) {
+        return report.tell(rt, password, Verdict::Bad(Bad::Password));
+    }
+    report.tell(rt, password, Verdict::Fine(Fine::Password))?;
+    match open_mode(rt, path) {
+        Some(mode) => report.tell(rt, password, Verdict::Bad(Bad::OpenSecret(mode))),
+        None => Ok(()),
+    }
+}
+
+// Whether this user can read the file at `path`. A FIFO is not opened: that would wait for a writer.
+fn is_readable<R: Files<File = File>>(rt: &R, path: &str) -> bool {
+    match fs::metadata(rt, path) {
+        Ok(found) => found.is_file() && File::open(rt, path).is_ok(),
+        Err(_) => false,
     }
 }
 

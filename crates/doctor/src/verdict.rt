@@ -59,6 +59,8 @@ pub(crate) enum Fine {
     Files { limit: u64, needed: u64 },
     #[error("holds what this bot needs")]
     Secret,
+    #[error("can be read")]
+    Password,
     #[error("answers at {0}")]
     Answers(SocketAddr),
     #[error("is free")]
@@ -70,8 +72,6 @@ pub(crate) enum Fine {
 pub(crate) enum Note {
     #[error("reads well, but holds passwords, and others may read it: {0}")]
     OpenConfig(FileMode),
-    #[error("is a symbolic link: name the folder itself in the line data")]
-    Link,
     #[error("lets others read the names there: take that right away, as chmod 700 does")]
     OpenFolder,
     #[error("is in use by a running bot, so its journal was not read: ask the bot, as eggnet show does")]
@@ -105,6 +105,8 @@ pub(crate) enum Bad {
     Files { limit: u64, needed: u64 },
     #[error("{0}")]
     Secret(SecretFault),
+    #[error("can't be read: give a regular file that this user may read")]
+    Password,
     #[error("may be read by others: {0}")]
     OpenSecret(FileMode),
     #[error("can't be reached; {0}")]

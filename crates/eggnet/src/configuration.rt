@@ -1,18 +1,18 @@
 // The bot of a configuration file.
-use botrun::{RunError, Subject, check, run};
+use botrun::{RunError, Subject, check, file_bytes, run};
 use bytetext::Failure;
 use doctor::{DoctorFault, examine};
 use eggprocs::Ours;
 use procs::{ProcStore, Run};
 use replaying::{FAULT, STREAM_FAULT, not_written, out_of_memory};
-use settings::{MAX_FILE, Settings};
+use settings::Settings;
 use std::fs::File;
 use std::net::Net;
 use std::random::RandomSource;
 use std::rt::Files;
 use std::str;
 use std::time::Clock;
-use streams::{Duplex, ReadError, read_up_to};
+use streams::ReadError;
 use watching::NoWatcher;
 
 /// Runs the bot of the configuration file `file`, with the procs in `store`, until it is asked to end. Returns the exit
@@ -21,12 +21,12 @@ pub fn run_file<
     R: Print + Eprint + AllocGlobal + Net + Clock + Files<File = File> + RandomSource,
     B: Run,
 >(rt: &R, store: &ProcStore<Ours, B>, file: &str) -> u8 {
-    let settings = match settings_of(rt, file) {
+    let mut settings = match settings_of(rt, file) {
         Ok(settings) => settings,
         Err(status) => return status,
     };
     let mut watcher = NoWatcher::new();
-    match run(rt, store, &settings, &mut watcher) {
+    match run(rt, store, &mut settings, file, &mut watcher) {
         Ok(()) => 0,
         Err(error) => told(rt, file, &settings, error),
     }
@@ -74,7 +74,7 @@ fn settings_of<R: Eprint + AllocGlobal + Files<File = File>>(
     rt: &R,
     file: &str,
 ) -> Result<Settings, u8> {
-    let bytes = match bytes_of(rt, file) {
+    let bytes = match file_bytes(rt, file) {
         Ok(bytes) => bytes,
         Err(ReadError::NoMemory) => return Err(out_of_memory(rt)),
         Err(ReadError::Fault) => {
@@ -92,15 +92,6 @@ fn settings_of<R: Eprint + AllocGlobal + Files<File = File>>(
         }
         Err(Failure::NoMemory) => Err(out_of_memory(rt)),
     }
-}
-
-// The bytes of a file, at most one more than a configuration may have.
-fn bytes_of<R: AllocGlobal + Files<File = File>>(rt: &R, file: &str) -> Result<Vec<u8>, ReadError> {
-    let Ok(opened) = File::open(rt, file) else {
-        return Err(ReadError::Fault);
-    };
-    let mut stream = Duplex::new(opened, Vec::new(rt.alloc()));
-    read_up_to(rt.alloc(), &mut stream, MAX_FILE + 1)
 }
 
 // Reports why a bot does not run, or no longer runs.

@@ -6,4 +6,5 @@ pub mod Dials
 pub mod Lookups
 pub mod Addresses
 pub mod Turns
+pub mod LogForms
 pub mod Logs

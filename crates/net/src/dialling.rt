@@ -158,6 +158,18 @@ impl Dialling {
         }
     }
 
+    /// Takes another list, of `servers` servers. The server that is connected, or is tried next, stands at `place` there.
+    /// The wait stays. A lookup ends.
+    pub fn relist(&mut self, servers: usize, place: usize)
+        requires within { place < servers }
+        ensures { self.new ≡ record self.old { servers = servers; place = place; round = 0 } }
+    {
+        self.servers = servers;
+        self.place = place;
+        self.round = 0;
+        self.lookup = None;
+    }
+
     /// Begins to connect to `host` and `port`, which are to be those of the server at [`Dialling::place`]. Returns at
     /// once, before the connection exists. `registry` watches what is opened under `tokens`.
     ///

@@ -9,7 +9,7 @@
 //! - A [`Redial`] decides when a lost connection is tried again.
 //! - A [`Dialling`] decides which server of a list is tried next, at which of its addresses, and when.
 //! - A [`Timeline`] reads the clocks, and its readings never go back.
-//! - A [`Log`] queues lines, and writes them while standard output takes them.
+//! - A [`Log`] queues lines, and writes them while standard output takes them, or to a file.
 //!
 //! ```text
 //! let mut watch = Watch::new(&rt, 256)?;
@@ -84,10 +84,15 @@
 //!
 //! ```text
 //! 1700000000 up at version 7
-//! 1700000060 log: standard output was full, so lines were dropped: 12
+//! 1700000060 log: too much waited to be written, so lines were dropped: 12
 //! 1700000060 log: memory ran out, so lines were dropped: 1
 //! 1700000060 ended
 //! ```
+//!
+//! A log can go to a file instead ([`Log::open_file`]). A write to it that fails, as on a full disk, leaves what waits, and
+//! the next [`flush`](Log::flush) tries it again. After the file was renamed, [`Log::reopen`] opens a new one at its path.
+//! A line is text, or a JSON object ([`LogForm`]). In both, control characters are escaped
+//! ([`law_of_shown_lines`]).
 #![tactic(auto)]
 
 mod address;
@@ -95,7 +100,10 @@ mod answer;
 mod connection;
 mod dialling;
 mod door;
+mod log_file;
+mod log_form;
 mod log_lines;
+mod log_piece;
 mod logging;
 mod lookup;
 mod redial;
@@ -110,6 +118,7 @@ pub use crate::address::{DialFault, literal};
 pub use crate::connection::{Bounds, Connection};
 pub use crate::dialling::{DialTokens, Dialled, Dialling, law_of_turns};
 pub use crate::door::DoorFault;
+pub use crate::log_form::{LogForm, law_of_shown_lines};
 pub use crate::log_lines::MAX_LOG_LINE;
 pub use crate::logging::{Log, MAX_LOG_WAITING};
 pub use crate::redial::{FIRST_WAIT, Redial};

@@ -15,3 +15,4 @@ pub mod HearingLemmas
 mod JoiningLemmas
 mod DoubtLemmas
 mod Walks
+mod DiceLemmas

@@ -1,4 +1,4 @@
--- A step that the walks of `src/account.rt` share: a value of a struct without fields owns nothing.
+-- A step that the walks of `src/account.rt` and `src/dice.rt` share: a value of a struct without fields owns nothing.
 use Rattle.std.proofs.Common.{List, [], ◌∷◌, refl}
 use seplogic.Ra.Ura.{Ura}
 use mir.Val.{Val, vstruct, vnil}

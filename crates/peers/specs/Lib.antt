@@ -29,3 +29,4 @@ pub mod Shown
 pub mod Crowds
 pub mod Entering
 pub mod Asking
+pub mod Drawn

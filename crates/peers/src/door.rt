@@ -1,6 +1,8 @@
 // Who comes in at the hub's door.
 ghost use Rattle.std.specs.Prelude.{◌≡◌};
+ghost use Rattle.peers.specs.Drawn.{AreAmong, Draws, nonces_of};
 
+use crate::dice::Dice;
 use crate::entry::Entry;
 use crate::gone::Gone;
 use crate::guest::{Guest, Heeded};
@@ -12,7 +14,6 @@ use crate::home::{Home, home_of};
 use crate::hub_links::{HubLinks, ListenFault, MAX_GUESTS};
 use crate::hub_net::HubNet;
 use crate::links::FIRST_TOKEN;
-use crate::nonce::Nonce;
 use crate::places::empty_places;
 use crate::turn_time::TurnTime;
 use bytetext::NoMemory;
@@ -58,19 +59,25 @@ impl Drop for Door {
 impl HubLinks {
     /// Accepts the connections that wait at second `now`, and greets them. If 16 guests are of the address of a new one,
     /// or 1,024 are there in all, one of them is heard once more, and disconnected if it has not shown a code: the oldest
-    /// of that address, or of the address that has most. `registry` watches the connections.
+    /// of that address, or of the address that has most. `dice` roll the nonce of each greeting, and `registry` watches
+    /// the connections.
     ///
     /// # Errors
     /// `NoMemory` if an allocation fails.
     pub fn let_in<R: AllocGlobal + Net + RandomSource>(
         &mut self,
         rt: &R,
+        dice: &mut Dice,
         log: &mut Log,
         registry: &Registry,
         now: u64,
-    ) -> Result<(), NoMemory> {
+    ) -> Result<(), NoMemory>
+        // Each new guest is greeted with a nonce that the dice rolled for it.
+        ensures nonces { Draws (nonces_of self.old.door.guests.list.items) (nonces_of self.new.door.guests.list.items)
+            dice.old.rolled dice.new.rolled }
+    {
         let time = self.time(now);
-        self.door.let_in(rt, log, registry, &self.net, time)
+        self.door.let_in(rt, dice, log, registry, &self.net, time)
     }
 }
 
@@ -98,11 +105,15 @@ impl Door {
     fn let_in<R: AllocGlobal + Net + RandomSource>(
         &mut self,
         rt: &R,
+        dice: &mut Dice,
         log: &mut Log,
         registry: &Registry,
         net: &HubNet,
         time: TurnTime,
-    ) -> Result<(), NoMemory> {
+    ) -> Result<(), NoMemory>
+        ensures nonces { Draws (nonces_of self.old.guests.list.items) (nonces_of self.new.guests.list.items)
+            dice.old.rolled dice.new.rolled }
+    {
         for _guest in 0..MAX_GUESTS {
             let Some(slot) = free_slot(self.slots.as_slice()) else {
                 return Ok(());
@@ -112,7 +123,7 @@ impl Door {
                 return Ok(());
             };
             self.make_way(log, home_of(&arrival.address), time)?;
-            self.greet(rt, net, arrival, slot, time.steady)?;
+            self.greet(rt, dice, net, arrival, slot, time.steady)?;
         }
         Ok(())
     }
@@ -121,12 +132,16 @@ impl Door {
     fn greet<R: AllocGlobal + RandomSource>(
         &mut self,
         rt: &R,
+        dice: &mut Dice,
         net: &HubNet,
         arrival: Arrival,
         slot: usize,
         steady: u64,
-    ) -> Result<(), NoMemory> {
-        let Ok(nonce) = Nonce::draw(rt) else {
+    ) -> Result<(), NoMemory>
+        ensures nonces { Draws (nonces_of self.old.guests.list.items) (nonces_of self.new.guests.list.items)
+            dice.old.rolled dice.new.rolled }
+    {
+        let Ok(nonce) = dice.roll(rt) else {
             return Ok(());
         };
         let guest = Guest::greet(rt.alloc(), arrival, net.side(nonce), slot, steady)?;
@@ -137,7 +152,9 @@ impl Door {
 
     // If there are too many guests for another of this home, hears one of them once more, and disconnects it unless it has
     // shown its code.
-    fn make_way(&mut self, log: &mut Log, home: Home, time: TurnTime) -> Result<(), NoMemory> {
+    fn make_way(&mut self, log: &mut Log, home: Home, time: TurnTime) -> Result<(), NoMemory>
+        ensures nonces { AreAmong (nonces_of self.new.guests.list.items) (nonces_of self.old.guests.list.items) }
+    {
         let Some(place) = crowded(&self.guests, home) else {
             return Ok(());
         };
@@ -216,7 +233,9 @@ impl Door {
 
     // Disconnects the guest at `place`. At most one a second is logged, so that nobody can fill the log; but each guest
     // that knows the secret is logged.
-    pub(crate) fn drop_guest(&mut self, log: &mut Log, place: usize, gone: Gone, now: u64) {
+    pub(crate) fn drop_guest(&mut self, log: &mut Log, place: usize, gone: Gone, now: u64)
+        ensures nonces { AreAmong (nonces_of self.new.guests.list.items) (nonces_of self.old.guests.list.items) }
+    {
         if place >= self.guests.len() {
             return;
         }
@@ -250,7 +269,9 @@ fn crowded(guests: &Guests, home: Home) -> Option<usize> {
 }
 
 // Hears a guest once more. Returns why it is to be disconnected, unless it has shown its code.
-fn hear_last(guest: &mut Guest, steady: u64) -> Result<Option<Gone>, NoMemory> {
+fn hear_last(guest: &mut Guest, steady: u64) -> Result<Option<Gone>, NoMemory>
+    ensures side { guest.new.side ≡ guest.old.side }
+{
     let heeded = guest.heed(steady)?;
     if guest.asked().is_some() {
         return Ok(None);

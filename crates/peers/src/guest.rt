@@ -81,7 +81,9 @@ impl Guest {
         side: HubSide,
         slot: usize,
         steady: u64,
-    ) -> Result<Guest, NoMemory> {
+    ) -> Result<Guest, NoMemory>
+        ensures { IfOk result (λ guest. guest.side ≡ side) }
+    {
         let Arrival { socket, address } = arrival;
         let mut connection = Connection::new(alloc, socket, BOUNDS);
         let _fits = connection.tell(side.greeting().as_bytes(), b"")?;

@@ -1,7 +1,8 @@
 // The connections to the hub that have not been welcomed.
-ghost use Rattle.std.specs.Prelude.{◌≡◌, ◌<◌, ◌++◌, ◌∷◌, [], Some, length, slice_get, OnErr, IfSome};
+ghost use Rattle.std.specs.Prelude.{◌≡◌, ◌<◌, ◌++◌, ◌∷◌, [], Some, length, slice_get, OnOk, OnErr, IfSome};
 ghost use Rattle.std.specs.List.{count_by};
 ghost use Rattle.peers.specs.Crowds.{crowd_of, is_of, oldest_of};
+ghost use Rattle.peers.specs.Drawn.{AreAmong, nonces_of};
 
 use crate::guest::Guest;
 use crate::home::Home;
@@ -38,7 +39,10 @@ impl Guests {
     }
 
     // Appends a guest.
-    pub(crate) fn arrive(&mut self, guest: Guest) -> Result<(), NoMemory> {
+    pub(crate) fn arrive(&mut self, guest: Guest) -> Result<(), NoMemory>
+        ensures comes { OnOk result (nonces_of self.new.list.items ≡ nonces_of self.old.list.items ++ guest.side.nonce ∷ []) }
+        ensures stays { OnErr result (nonces_of self.new.list.items ≡ nonces_of self.old.list.items) }
+    {
         let home = guest.home;
         self.list.push(guest)?;
         recount(self.list.as_mut_slice(), home);
@@ -48,7 +52,8 @@ impl Guests {
     // Removes the guest at `place`. Once no guest is left, gives back their room: all leaves may have come at once.
     pub(crate) fn remove(&mut self, place: usize) -> Guest
         requires { place < length self.old.list.items }
-        ensures { slice_get self.old.list.items place ≡ Some result }
+        ensures guest { slice_get self.old.list.items place ≡ Some result }
+        ensures others { AreAmong (nonces_of self.new.list.items) (nonces_of self.old.list.items) }
     {
         let guest = self.list.remove(place);
         recount(self.list.as_mut_slice(), guest.home);
@@ -104,11 +109,20 @@ fn count(guests: &[Guest], home: Home) -> usize
 }
 
 // Counts the guests of this home again.
-fn recount(guests: &mut [Guest], home: Home) {
+fn recount(guests: &mut [Guest], home: Home)
+    ensures { nonces_of guests.new ≡ nonces_of guests.old }
+{
     let crowd = count(guests, home);
     for guest in guests.iter_mut() {
-        if guest.home.bits == home.bits {
-            guest.crowd = crowd;
-        }
+        set_crowd(guest, home, crowd);
+    }
+}
+
+// Notes how many guests are of this home, if the guest is of it.
+fn set_crowd(guest: &mut Guest, home: Home, crowd: usize)
+    ensures { guest.new.side ≡ guest.old.side }
+{
+    if guest.home.bits == home.bits {
+        guest.crowd = crowd;
     }
 }

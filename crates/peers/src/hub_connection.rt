@@ -4,10 +4,12 @@ ghost use Rattle.bytetext.specs.declared.moment.TheConstants.{MOMENTS_END};
 ghost use Rattle.sharelink.specs.Shapes.{HasGoodRecords};
 ghost use Rattle.sharewire.specs.Frames.{CanBeWritten};
 ghost use Rattle.peers.specs.Asking.{is_new, may_leaf_ask};
+ghost use Rattle.peers.specs.Drawn.{Draws, nonces_at};
 ghost use Rattle.peers.specs.Linked.{IsHeard, IsLinked, IsName, LooksUp};
 ghost use Rattle.peers.specs.Tells.{TellsHub};
 
 use crate::beat::Beat;
+use crate::dice::Dice;
 use crate::drawn_number::DrawnNumber;
 use crate::entry::Entry;
 use crate::gone::Gone;
@@ -15,7 +17,6 @@ use crate::handshake_progress::LeafRights;
 use crate::hub_link::HubLink;
 use crate::inbox::Inbox;
 use crate::meeting::Meeting;
-use crate::nonce::Nonce;
 use crate::own::Own;
 use crate::pumps::Pumps;
 use crate::stations::LeafStation;
@@ -136,7 +137,8 @@ impl HubConnection {
     ///
     /// While the hub's name is looked up, no connection begins, and the attempt stays due: call this in each turn. `log`
     /// shows an attempt that begins or cannot begin; after the latter the next one is due after a wait. `registry`
-    /// watches the connection under the token 5 and the lookup under the token 7, which nothing else may use.
+    /// watches the connection under the token 5 and the lookup under the token 7, which nothing else may use. `dice` roll
+    /// the leaf's nonce for the connection.
     ///
     /// # Errors
     /// `NoMemory` if an allocation fails: never if there is a connection, if no attempt is due, or if the host is an
@@ -144,6 +146,7 @@ impl HubConnection {
     pub fn connect<R: AllocGlobal + Net + Files<File = File> + RandomSource>(
         &mut self,
         rt: &R,
+        dice: &mut Dice,
         log: &mut Log,
         registry: &Registry,
         address: &Address,
@@ -152,17 +155,20 @@ impl HubConnection {
         requires moment { now < MOMENTS_END }
         ensures memory { IfErr result (λ _. LooksUp self.old (Some address.now) now) }
         ensures stays { OnErr result (self.new.dialling ≡ self.old.dialling) }
+        // The leaf says a nonce that the dice rolled for this connection.
+        ensures nonces { Draws (nonces_at self.old.hub) (nonces_at self.new.hub) dice.old.rolled dice.new.rolled }
     {
         if self.hub.is_some() || !self.dialling.is_due(now) {
             return Ok(false);
         }
-        self.dial(rt, log, registry, address, now)
+        self.dial(rt, dice, log, registry, address, now)
     }
 
     // Connects to the hub, which is due.
     fn dial<R: AllocGlobal + Net + Files<File = File> + RandomSource>(
         &mut self,
         rt: &R,
+        dice: &mut Dice,
         log: &mut Log,
         registry: &Registry,
         address: &Address,
@@ -171,22 +177,30 @@ impl HubConnection {
         requires moment { now < MOMENTS_END }
         ensures name { IfErr result (λ _. IsName address.now.host) }
         ensures stays { OnErr result (self.new.dialling ≡ self.old.dialling) }
+        ensures nonces { Draws (nonces_at self.old.hub) (nonces_at self.new.hub) dice.old.rolled dice.new.rolled }
     {
         let time = TurnTime {
             now,
             steady: self.steady,
         };
         match dialled(&mut self.dialling, rt, log, registry, address, time)? {
-            Some(dialled) => Ok(self.begin(rt, dialled, now)),
+            Some(dialled) => Ok(self.begin(rt, dice, dialled, now)),
             None => Ok(false),
         }
     }
 
     // Begins a connection, unless the system gives no random bytes. Returns whether it began. Allocates nothing.
-    fn begin<R: AllocGlobal + RandomSource>(&mut self, rt: &R, dialled: Dialled, now: u64) -> bool
+    fn begin<R: AllocGlobal + RandomSource>(
+        &mut self,
+        rt: &R,
+        dice: &mut Dice,
+        dialled: Dialled,
+        now: u64,
+    ) -> bool
         requires moment { now < MOMENTS_END }
+        ensures nonces { Draws (nonces_at self.old.hub) (nonces_at self.new.hub) dice.old.rolled dice.new.rolled }
     {
-        let Ok(nonce) = Nonce::draw(rt) else {
+        let Ok(nonce) = dice.roll(rt) else {
             self.dialling.lost(now);
             return false;
         };

@@ -1,4 +1,6 @@
 // The net of a hub.
+ghost use Rattle.std.specs.Prelude.{◌≡◌};
+
 use crate::drawn_number::DrawnNumber;
 use crate::hub_side::HubSide;
 use crate::nonce::Nonce;
@@ -17,7 +19,9 @@ pub(crate) struct HubNet {
 
 impl HubNet {
     // The hub's side of a new connection.
-    pub(crate) fn side(&self, nonce: Nonce) -> HubSide {
+    pub(crate) fn side(&self, nonce: Nonce) -> HubSide
+        ensures { result.nonce ≡ nonce }
+    {
         HubSide {
             key: self.key,
             net: self.number,

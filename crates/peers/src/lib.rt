@@ -11,6 +11,8 @@
 //! - [`Links`] is either of them, or neither if a bot is alone, and [`Mail`] has them with an account of what they were
 //!   told.
 //! - [`HubSide`] and [`LeafSide`] are the two sides of the handshake, and [`LinkKeys`] the keys that it gives them.
+//! - [`Dice`] roll the nonces of the handshakes. Contracts see which nonces they rolled: each handshake that begins in
+//!   [`Links::connect`] says one that was rolled for it, and no two say the same one.
 //! - A [`Book`] is what a hub knows of its leaves: which folder is which leaf.
 //! - A [`FrameReader`] reads the frames of a connection from its first byte on, in pieces of any size, and [`frame_of`]
 //!   returns the frame of a packet. Each packet that the reader returns was read from a frame, so its records are of
@@ -20,7 +22,7 @@
 //!
 //! ```text
 //! links.wake(watch.tokens(), steady);            // each turn, at the monotonic clock's second steady
-//! links.connect(rt, log, registry, settings, now)?;
+//! links.connect(rt, &mut Dice::new(), log, registry, settings, now)?;
 //! if links.wants_own() {
 //!     links.tell_own(own);                       // the version and the sum of the bot's records, and what it holds
 //! }
@@ -103,7 +105,7 @@
 //! The handshake encrypts nothing. Who knows a leaf's key can speak as that leaf, and as the hub to that leaf.
 //!
 //! ```text
-//! let hub = HubSide { key: Key::new(secret), net, leaves: 40, nonce: Nonce::draw(rt)? };
+//! let hub = HubSide { key: Key::new(secret), net, leaves: 40, nonce: dice.roll(rt)? };
 //! say(hub.greeting());
 //! match hub.hear(&heard) {
 //!     HubHears::More => {}
@@ -123,6 +125,7 @@ mod beat;
 mod book;
 mod book_laws;
 mod book_line;
+mod dice;
 mod digits;
 mod door;
 mod doubt;
@@ -173,6 +176,7 @@ mod secret;
 mod speaker;
 mod stations;
 mod status;
+mod status_json;
 mod turn_time;
 mod verdict;
 mod welcome;
@@ -181,6 +185,7 @@ pub use crate::account::MailAccount;
 pub use crate::book::{Book, BookFault, Place};
 pub use crate::book_laws::laws_of_the_book;
 pub use crate::book_line::{bar_line, entry_line, free_line};
+pub use crate::dice::Dice;
 pub use crate::door::MAX_OF_ADDRESS;
 pub use crate::doubt::{Doubt, Doubted, doubt_in, doubt_line};
 pub use crate::drawn_number::DrawnNumber;
@@ -213,6 +218,7 @@ pub use crate::secret::{Secret, SecretFault, key_of, leaf_file_line, secret_in};
 pub use crate::speaker::is_said_by;
 pub use crate::stations::{HubStation, LeafStation};
 pub use crate::status::put_status;
+pub use crate::status_json::put_status_json;
 
 /// The most bytes of a line, with its line feed.
 pub const MAX_LINE: usize = 200;

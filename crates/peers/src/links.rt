@@ -5,6 +5,7 @@ ghost use Rattle.bytetext.specs.declared.moment.TheConstants.{MOMENTS_END};
 ghost use Rattle.sharewire.specs.Frames.{CanBeWritten};
 ghost use Rattle.peers.specs.Asking.{is_new_leaf, may_ask};
 ghost use Rattle.peers.specs.Doubts.{RenewsLeaf, TrustsThis, is_in_doubt};
+ghost use Rattle.peers.specs.Drawn.{Draws, nonces_in};
 ghost use Rattle.peers.specs.Entering.{lines_of};
 ghost use Rattle.peers.specs.Hellos.{asked, noted, pumps_of};
 ghost use Rattle.peers.specs.Linked.{Hears, MayConnect, Reaches};
@@ -12,6 +13,7 @@ ghost use Rattle.peers.specs.Tells.{TakesPackets, TellsOne};
 ghost use Rattle.peers.specs.declared.links.Links.TheVariants.{Alone};
 ghost use Rattle.sharelink.specs.Shapes.{HasGoodRecords};
 
+use crate::dice::Dice;
 use crate::doubt::Doubt;
 use crate::drawn_number::DrawnNumber;
 use crate::handshake_line::HandshakeLine;
@@ -66,13 +68,15 @@ impl Links {
 
     /// At a hub, accepts the connections that wait. At a leaf, begins to connect to the hub that `settings` name, if
     /// the connection is lost and an attempt is due at second `now`; while the hub's name is looked up, the attempt
-    /// stays due. `registry` watches the connections. Returns whether a connection to the hub began.
+    /// stays due. `dice` roll the nonces of this bot's handshakes, and `registry` watches the connections. Returns whether
+    /// a connection to the hub began.
     ///
     /// # Errors
     /// `NoMemory` if an allocation fails: only at a hub, and at a leaf that looks its hub's name up.
     pub fn connect<R: AllocGlobal + Net + Files<File = File> + RandomSource>(
         &mut self,
         rt: &R,
+        dice: &mut Dice,
         log: &mut Log,
         registry: &Registry,
         settings: &Settings,
@@ -80,15 +84,17 @@ impl Links {
     ) -> Result<bool, NoMemory>
         requires moment { now < MOMENTS_END }
         ensures memory { IfErr result (λ _. MayConnect self.old settings.now.hub now) }
+        // Each handshake that begins says a nonce that the dice rolled for it.
+        ensures nonces { Draws (nonces_in self.old) (nonces_in self.new) dice.old.rolled dice.new.rolled }
     {
         match self {
             Links::Alone => Ok(false),
             Links::Hub(hub) => {
-                hub.let_in(rt, log, registry, now)?;
+                hub.let_in(rt, dice, log, registry, now)?;
                 Ok(false)
             }
             Links::Leaf(leaf) => match &settings.hub {
-                Some(address) => leaf.connect(rt, log, registry, address, now),
+                Some(address) => leaf.connect(rt, dice, log, registry, address, now),
                 None => Ok(false),
             },
         }

@@ -22,7 +22,7 @@ use std::net::SocketAddr;
 // A connection to the hub before the first record.
 pub(crate) struct Meeting {
     pub(crate) connection: Connection<TcpSocket>,
-    side: LeafSide,
+    pub(crate) side: LeafSide,
     // What the process has told about the leaf, if it has.
     pub(crate) said: Option<Said>,
     // The hub's answer, once the hub has shown its code.
@@ -68,7 +68,9 @@ pub(crate) struct Joined {
 impl Meeting {
     // A connection that begins when the monotonic clock shows second `steady`. `side` is to be told how far the leaf has
     // come. Allocates nothing.
-    pub(crate) fn begin(alloc: Global, dialled: Dialled, side: LeafSide, steady: u64) -> Meeting {
+    pub(crate) fn begin(alloc: Global, dialled: Dialled, side: LeafSide, steady: u64) -> Meeting
+        ensures { result.side ≡ side }
+    {
         let Dialled { socket, address } = dialled;
         Meeting {
             connection: Connection::new(alloc, socket, BOUNDS),

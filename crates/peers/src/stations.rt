@@ -1,4 +1,6 @@
 // What a bot is in its net.
+ghost use Rattle.std.specs.Prelude.{◌≡◌};
+
 use crate::book::Book;
 use crate::doubt::Doubted;
 use crate::drawn_number::DrawnNumber;
@@ -41,7 +43,9 @@ pub struct LeafStation {
 
 impl LeafStation {
     // The leaf's side of a new connection. The process has still to tell how far the leaf has come.
-    pub(crate) fn side(&self, nonce: Nonce) -> LeafSide {
+    pub(crate) fn side(&self, nonce: Nonce) -> LeafSide
+        ensures { result.nonce ≡ nonce }
+    {
         LeafSide {
             key: self.key,
             leaf: self.leaf,

@@ -3,7 +3,8 @@ ghost use Rattle.std.specs.Prelude.{◌≡◌};
 ghost use Rattle.registration.specs.Accounts.{are_printable, has_room};
 
 use crate::limits::MAX_CREDENTIAL;
-use bytetext::Text;
+use bytetext::{NoMemory, Text, TryCopy};
+use std::alloc::Global;
 use thiserror::Error;
 
 /// The name and the password of an account at a network's services. The type has no `Debug`, so that no log shows the password.
@@ -57,6 +58,15 @@ impl Credentials {
             return Err(CredentialsFault::PasswordBytes);
         }
         Ok(Credentials { name, password })
+    }
+}
+
+impl TryCopy for Credentials {
+    fn copy(&self, alloc: Global) -> Result<Credentials, NoMemory> {
+        Ok(Credentials {
+            name: self.name.copy(alloc)?,
+            password: self.password.copy(alloc)?,
+        })
     }
 }
 

@@ -6,3 +6,4 @@ pub mod Cues
 pub mod Seats
 pub mod Talks
 pub mod Told
+pub mod Logins

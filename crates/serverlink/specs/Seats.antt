@@ -1,22 +1,26 @@
--- A channel of the bot's configuration, and when the process asks to join it.
+-- A channel on which the bot is to be, and when the process asks to join it.
 use Rattle.std.specs.Prelude.{ℕ, ◌+◌, ◌-◌, ◌^◌, ◌&&◌, not, min, nat_le, Bool, true, false, List, Option, None, Some, if◌then◌else◌}
+use Rattle.std.specs.List.{list_any}
+use Rattle.rfccase.specs.Casemapping.{is_same}
 use Rattle.net.specs.declared.redial.TheConstants.{FIRST_WAIT}
 use Rattle.net.specs.Waits.{Waits, lost as lost_wait}
 use Rattle.serverlink.specs.declared.seat.TheConstants.{ASK_AGAIN, LONGEST_WAIT}
 use Rattle.serverlink.specs.declared.vigil.TheConstants.{GOOD}
 
--- its name; whether the bot is on it, and when it last joined; when the process asks to join, if a server has welcomed
+-- its name and its key; whether the bot is on it, and when it last joined; when the process asks to join, if a server has welcomed
 -- the bot; the wait after a KICK, or after the server did not let the bot in
 pub record Seated : Type 0 where
   pub channel : List ℕ
+  pub key : Option (List ℕ)
   pub on : Bool
   pub since : ℕ
   pub asks : Option ℕ
   pub waits : Waits
 
-abbrev pub begun : List ℕ → ℕ → Seated
-begun channel number = record {
+abbrev pub begun : List ℕ → Option (List ℕ) → ℕ → Seated
+begun channel key number = record {
   channel = channel;
+  key = key;
   on = false;
   since = 0;
   asks = None;
@@ -27,9 +31,9 @@ begun channel number = record {
 abbrev pub later : ℕ → Option ℕ
 later now = Some (min (now + ASK_AGAIN) (2 ^ 64 - 1))
 
--- the bot itself asks when it is welcomed; the process asks a minute later
+-- the process asks at once when a server has welcomed the bot
 abbrev pub welcomed : Seated → ℕ → Seated
-welcomed seat now = record seat { asks = later now }
+welcomed seat now = record seat { asks = Some now }
 
 abbrev pub joined : Seated → ℕ → Seated
 joined seat now = record seat { on = true; since = now }
@@ -63,3 +67,7 @@ is_due seat now = not seat.on && is_past seat.asks now
 -- the process has asked; if the server does not answer, it asks again a minute later
 abbrev pub retried : Seated → ℕ → Seated
 retried seat now = record seat { asks = later now }
+
+-- whether a channel is among these names
+abbrev pub is_named : List (List ℕ) → List ℕ → Bool
+is_named names channel = list_any (λ name. is_same name channel) names

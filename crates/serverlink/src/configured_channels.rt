@@ -1,6 +1,7 @@
-// The channels of a bot's configuration.
-ghost use Rattle.std.specs.Prelude.{◌<◌, length, IfErr};
+// The channels on which a bot is to be.
+ghost use Rattle.std.specs.Prelude.{◌≡◌, ◌<◌, length, IfErr};
 ghost use Rattle.bytetext.specs.declared.moment.TheConstants.{MOMENTS_END};
+ghost use Rattle.serverlink.specs.Seats.{is_named};
 
 use crate::seat::Seat;
 use bytetext::{NoMemory, Text, TryCopy};
@@ -8,7 +9,8 @@ use rfccase::same;
 use std::alloc::Global;
 use std::marker::Model;
 
-/// The channels of a bot's configuration, in order, and whether the bot is on each of them. Contracts see the channels.
+/// The channels on which a bot is to be, in order, and whether it is on each of them: those of its configuration, and
+/// those that an operator has added. Contracts see the channels.
 #[derive(Drop)]
 pub struct ConfiguredChannels {
     seats: Vec<Seat>,
@@ -24,7 +26,9 @@ impl Model for ConfiguredChannels {
 }
 
 impl ConfiguredChannels {
-    ghost use Rattle.std.specs.Prelude.{◌≡◌, ◌<◌, None, Some, length, slice_get, IfOk, MatchOption};
+    ghost use Rattle.std.specs.Prelude.{◌≡◌, ◌<◌, ◌++◌, ◌∷◌, [], None, Some, true, false, length, slice_get, IfOk, IfSome, IfErr, MatchOption, OnOk};
+    ghost use Rattle.std.specs.List.{list_all};
+    ghost use Rattle.serverlink.specs.Seats.{is_named};
 
     // The bot numbered `number` is on none of these yet.
     pub(crate) fn new(
@@ -36,7 +40,7 @@ impl ConfiguredChannels {
     {
         let mut seats = Vec::new(alloc);
         for name in names {
-            seats.push(Seat::new(name.copy(alloc)?, number))?;
+            seats.push(Seat::new(name.copy(alloc)?, None, number))?;
         }
         Ok(ConfiguredChannels { seats })
     }
@@ -60,6 +64,39 @@ impl ConfiguredChannels {
         self.seats
             .iter()
             .any(|seat| seat.is_on() && same(seat.channel(), name))
+    }
+
+    // Whether a channel of this name is among them.
+    pub(crate) fn has(&self, name: &[u8]) -> bool {
+        self.seats.iter().any(|seat| same(seat.channel(), name))
+    }
+
+    // Adds a channel after the others.
+    pub(crate) fn add(&mut self, seat: Seat) -> Result<(), NoMemory>
+        ensures { OnOk result (self.new ≡ self.old ++ seat ∷ []) }
+    {
+        self.seats.push(seat)?;
+        Ok(())
+    }
+
+    // Removes the channel of this name, and returns it, if it is among them.
+    pub(crate) fn remove(&mut self, name: &[u8]) -> Option<Seat> {
+        let place = self
+            .seats
+            .iter()
+            .position(|seat| same(seat.channel(), name))?;
+        Some(self.seats.remove(place))
+    }
+
+    // Removes the first channel that is not among `names`, and returns it. So a channel that is still named stays.
+    pub(crate) fn remove_unnamed(&mut self, names: &[Text]) -> Option<Seat>
+        ensures unnamed { IfSome result (λ seat. is_named names.now seat.channel ≡ false) }
+    {
+        let place = self
+            .seats
+            .iter()
+            .position(|seat| !is_named(names, seat.channel()))?;
+        Some(self.seats.remove(place))
     }
 
     // Notes that a server welcomed the bot at second `now`.
@@ -110,11 +147,11 @@ impl ConfiguredChannels {
 
     // Returns the channel that the process is to ask to join at second `now`, if one is due, and notes that it asks.
     // Of several it is the one that has been due the longest, so that each has its turn.
-    pub(crate) fn retry_next(&mut self, now: u64) -> Option<&[u8]> {
+    pub(crate) fn retry_next(&mut self, now: u64) -> Option<&Seat> {
         let place = self.longest_due(now)?;
         let seat = self.seats.get_mut(place)?;
         seat.retry(now);
-        Some(seat.channel())
+        Some(seat)
     }
 
     // Returns the place of the channel that has been due the longest.
@@ -137,4 +174,11 @@ impl ConfiguredChannels {
             .iter_mut()
             .find(|seat| same(seat.channel(), name))
     }
+}
+
+// Whether a channel is among these names.
+fn is_named(names: &[Text], channel: &[u8]) -> bool
+    ensures { result ≡ is_named names.now channel.now }
+{
+    names.iter().any(|name| same(name.as_bytes(), channel))
 }

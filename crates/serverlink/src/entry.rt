@@ -1,6 +1,6 @@
 // What the log says about the server.
 use crate::shown::{Shown, put};
-use crate::why::{Why, why_text};
+use crate::why::Why;
 use net::DialFault;
 use std::fmt;
 use std::fmt::Display;
@@ -28,6 +28,12 @@ pub(crate) enum Entry<'a> {
     // A line of the configuration or of an operator, or an answer to a person, is queued for the server. It may hold a
     // password.
     ToldOwn,
+    // A line of a login is queued for the server.
+    ToldLogin,
+    // The server has accepted the login.
+    LoggedIn,
+    // The system gives no random bytes for a login to this server; the second at which the next attempt is due.
+    NoNonce(&'a [u8], u64),
 }
 
 // A fact about one nick, channel or line.
@@ -78,7 +84,7 @@ impl Display for Entry<'_> {
                 put(f, "; next try at ", &due)
             }
             Entry::Lost(why, due) => {
-                put(f, "server lost: ", &why_text(why))?;
+                put(f, "server lost: ", &why)?;
                 put(f, "; next try at ", &due)
             }
             Entry::Refused(command, text) => {
@@ -98,6 +104,12 @@ impl Display for Entry<'_> {
             Entry::NoNick => f.write_str("nick refused: no other is left to ask for"),
             Entry::ToldOwn => {
                 f.write_str("> a line of the configuration or of an operator, or an answer")
+            }
+            Entry::ToldLogin => f.write_str("> a line of the login"),
+            Entry::LoggedIn => f.write_str("the server accepts the login"),
+            Entry::NoNonce(host, due) => {
+                put(f, "not connecting to ", &Shown(host))?;
+                put(f, ": the system gives no random bytes; next try at ", &due)
             }
         }
     }

@@ -14,8 +14,8 @@ use settings::Settings;
 use std::alloc::Global;
 
 impl IrcConnection {
-    /// Processes `line`, which the server sent by second `now` and whose step the bot has made, for the registration
-    /// and the channels. `own` is the bot's nick before the line; returns its nick after the line, if the line gives it
+    /// Processes `line`, which the server sent by second `now` and whose step the bot has made, for the registration,
+    /// a login and the channels. `own` is the bot's nick before the line; returns its nick after the line, if the line gives it
     /// one. Asks for another nick if the server rejects it. Puts the lines `perform` of `settings` once after a welcome,
     /// and queues those that may go. Call this for each line once, in order, before the bot's lines for it are queued.
     ///
@@ -45,6 +45,7 @@ impl IrcConnection {
         if settings.log_lines && logged {
             log_message(log, message, now);
         }
+        self.hear_for_login(rt.alloc(), log, settings, line, now)?;
         let cue = cue_of(message, own);
         if cue != Cue::Nothing && self.session.is_some() {
             self.note(rt.alloc(), log, settings, cue, message, now)?;
@@ -129,6 +130,7 @@ impl IrcConnection {
         for line in settings.performs.as_slice() {
             self.own.put(line.copy(alloc)?)?;
         }
+        self.rename(alloc, nick)?;
         self.tell_own(log, settings, now)
     }
 
@@ -180,11 +182,14 @@ fn log_refusal(log: &mut Log, message: &Message, now: u64) {
     );
 }
 
-// Logs a whole message.
+// Logs a whole message, but of a login only the command: who knows its lines can guess passwords at leisure.
 fn log_message(log: &mut Log, message: &Message, now: u64) {
     let source = message.prefix.as_bytes();
-    log.note(
-        now,
-        &Entry::Heard(source, message.command.as_bytes(), message.rest.as_bytes()),
-    );
+    let command = message.command.as_bytes();
+    let rest = if command == b"AUTHENTICATE".as_slice() {
+        b""
+    } else {
+        message.rest.as_bytes()
+    };
+    log.note(now, &Entry::Heard(source, command, rest));
 }

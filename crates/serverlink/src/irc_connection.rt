@@ -6,10 +6,12 @@ ghost use Rattle.streams.specs.Accounts.{nothing_yet};
 use crate::configured_channels::ConfiguredChannels;
 use crate::entry::{Entry, Fact};
 use crate::own_lines::OwnLines;
+use crate::registering::begin_login;
 use crate::session::Session;
 use crate::why::Why;
-use bytetext::{Failure, NoMemory, TryCopy};
+use bytetext::{Failure, NoMemory, Text};
 use net::{DialTokens, Dialled, Dialling, Log, Registry};
+use registration::Credentials;
 use settings::{Server, Settings};
 use std::alloc::Global;
 use std::fs::File;
@@ -35,10 +37,14 @@ pub struct IrcConnection {
     pub(crate) dialling: Dialling,
     // The second of this turn by the monotonic clock.
     pub(crate) steady: u64,
-    /// The channels of the configuration.
+    // The nick that the configuration has now, if it was read again with another one than the bot's own.
+    pub(crate) renames: Option<Text>,
+    /// The channels on which the bot is to be.
     pub channels: ConfiguredChannels,
     /// The queued lines of the process's own. They are dropped when the server is lost.
     pub own: OwnLines,
+    /// The account to which each connection that begins logs in, if any.
+    pub account: Option<Credentials>,
 }
 
 // Written by hand, so that the drop is proved once, and not in each function that drops one.
@@ -48,8 +54,10 @@ impl Drop for IrcConnection {
             session: _,
             dialling: _,
             steady: _,
+            renames: _,
             channels: _,
             own: _,
+            account: _,
         } = self;
     }
 }
@@ -59,14 +67,21 @@ impl IrcConnection {
     ghost use Rattle.std.specs.List.{list_any};
     ghost use Rattle.net.specs.Dials.{lost};
     ghost use Rattle.net.specs.Connections.{handed};
+    ghost use Rattle.serverlink.specs.Logins.{BeginsIn};
     ghost use Rattle.serverlink.specs.Talks.{EndsSilence, MayReadAll, MaySend, ReadsSome, heard_in, may_give_in, held, told, woken, talk_in};
 
-    /// Creates an uplink from `settings` without a connection; an attempt to connect is due at once.
+    /// Creates an uplink from `settings` without a connection; an attempt to connect is due at once. Each connection logs
+    /// in to `account`, if there is one.
     ///
     /// # Errors
     /// `NoMemory` if an allocation fails: never if no channel is configured.
-    pub fn new(alloc: Global, settings: &Settings) -> Result<IrcConnection, NoMemory>
+    pub fn new(
+        alloc: Global,
+        settings: &Settings,
+        account: Option<Credentials>,
+    ) -> Result<IrcConnection, NoMemory>
         requires some { 0 < length settings.now.servers }
+        ensures account { IfOk result (λ irc. irc.account ≡ account) }
         ensures memory { IfErr result (λ _. 0 < length settings.now.channels) }
     {
         let number = settings.station.number;
@@ -74,8 +89,10 @@ impl IrcConnection {
             session: None,
             dialling: Dialling::new(number, LONGEST_WAIT, settings.servers.len()),
             steady: 0,
+            renames: None,
             channels: ConfiguredChannels::new(alloc, settings.channels.as_slice(), number)?,
             own: OwnLines::new(alloc),
+            account,
         })
     }
 
@@ -101,7 +118,8 @@ impl IrcConnection {
     }
 
     /// Begins to connect to the next server of `settings` if there is no connection and an attempt is due at second
-    /// `now`. Returns whether a connection began; if it did, the server's PASS is queued, if it has one.
+    /// `now`. Returns whether a connection began; if it did, the first line of a login is queued, if the bot has an
+    /// account, and the server's PASS, if it has one.
     ///
     /// While the server's name is looked up, no connection begins, and the attempt stays due: call this in each turn,
     /// after [`wake`](IrcConnection::wake). `log` shows an attempt that begins or cannot begin; if it cannot, the next
@@ -122,6 +140,8 @@ impl IrcConnection {
         requires moment { now < MOMENTS_END }
         ensures memory { IfErr result (λ _. self.old.session ≡ None) }
         ensures due { OnErr result (self.new.dialling ≡ self.old.dialling) }
+        // A connection that begins logs in to the account; without an account, none does.
+        ensures login { IfOk result (λ began. BeginsIn began self.old.account self.new.session) }
     {
         if self.session.is_some() || !self.dialling.is_due(now) {
             return Ok(false);
@@ -141,7 +161,8 @@ impl IrcConnection {
         now: u64,
     ) -> Result<bool, NoMemory>
         requires moment { now < MOMENTS_END }
-        ensures { OnErr result (self.new.dialling ≡ self.old.dialling) }
+        ensures due { OnErr result (self.new.dialling ≡ self.old.dialling) }
+        ensures login { IfOk result (λ began. BeginsIn began self.old.account self.new.session) }
     {
         let host = server.address.host.as_bytes();
         let port = server.address.port;
@@ -155,8 +176,7 @@ impl IrcConnection {
         {
             Ok(Some(dialled)) => {
                 log.note(now, &Entry::Dialled(host, dialled.address));
-                self.begin(rt.alloc(), server, dialled, now)?;
-                Ok(true)
+                self.begin(rt, log, server, dialled, now)
             }
             Ok(None) => Ok(false),
             Err(Failure::NoMemory) => Err(NoMemory),
@@ -168,24 +188,34 @@ impl IrcConnection {
         }
     }
 
-    // Begins a connection, and queues its server's PASS, if it has one.
-    fn begin(
+    // Begins a connection, and queues the first line of a login, if the bot has an account, and its server's PASS, if it
+    // has one. Returns whether it began: not if the system gives no random bytes for the login.
+    fn begin<R: AllocGlobal + RandomSource>(
         &mut self,
-        alloc: Global,
+        rt: &R,
+        log: &mut Log,
         server: &Server,
         dialled: Dialled,
         now: u64,
-    ) -> Result<(), NoMemory>
+    ) -> Result<bool, NoMemory>
+        requires moment { now < MOMENTS_END }
         requires fresh { dialled.socket.account.past ≡ nothing_yet }
-        ensures { self.new.dialling ≡ self.old.dialling }
+        ensures due { OnErr result (self.new.dialling ≡ self.old.dialling) }
+        ensures login { IfOk result (λ began. BeginsIn began self.old.account self.new.session) }
     {
-        let mut session = Session::new(alloc, dialled.socket, now, self.steady);
+        let mut session = Session::new(rt.alloc(), dialled.socket, now, self.steady);
+        if !begin_login(rt, &self.account, &mut session, now)? {
+            self.dialling.lost(now);
+            let host = server.address.host.as_bytes();
+            log.note(now, &Entry::NoNonce(host, self.dialling.due()));
+            return Ok(false);
+        }
         if let Some(pass) = &server.pass {
-            let line = joined(alloc, b"PASS :", pass.as_bytes())?;
+            let line = joined(rt.alloc(), b"PASS :", pass.as_bytes())?;
             session.wire.tell(line.as_slice(), now)?;
         }
         self.session = Some(session);
-        Ok(())
+        Ok(true)
     }
 
     /// Begins a turn at second `steady` of the monotonic clock, by which silence is measured. Notes that the connection

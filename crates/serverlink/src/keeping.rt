@@ -90,11 +90,16 @@ impl IrcConnection {
     ) -> Result<bool, NoMemory>
         ensures { is_some self.new.session ≡ is_some self.old.session }
     {
-        let line = match self.channels.retry_next(now) {
-            Some(channel) => joined(alloc, b"JOIN ", channel)?,
-            None => return Ok(false),
+        let Some(seat) = self.channels.retry_next(now) else {
+            return Ok(false);
         };
-        self.tell(log, settings, line.as_slice(), now)?;
+        let line = joined(alloc, b"JOIN ", seat.channel())?;
+        let Some(key) = seat.key() else {
+            self.tell(log, settings, line.as_slice(), now)?;
+            return Ok(true);
+        };
+        let line = with_key(line, key)?;
+        self.tell_unseen(log, settings, line.as_slice(), now)?;
         Ok(true)
     }
 
@@ -120,10 +125,26 @@ impl IrcConnection {
     fn tell_next(&mut self, log: &mut Log, settings: &Settings, now: u64) -> Result<(), NoMemory>
         ensures { is_some self.new.session ≡ is_some self.old.session }
     {
-        let (Some(Session { wire, .. }), Some(line)) = (&mut self.session, self.own.next()) else {
+        match self.own.next() {
+            Some(line) => self.tell_unseen(log, settings, line.as_bytes(), now),
+            None => Ok(()),
+        }
+    }
+
+    // Queues a line for the server that may hold a password. The log shows that there was one.
+    fn tell_unseen(
+        &mut self,
+        log: &mut Log,
+        settings: &Settings,
+        line: &[u8],
+        now: u64,
+    ) -> Result<(), NoMemory>
+        ensures { is_some self.new.session ≡ is_some self.old.session }
+    {
+        let Some(Session { wire, .. }) = &mut self.session else {
             return Ok(());
         };
-        wire.tell(line.as_bytes(), now)?;
+        wire.tell(line, now)?;
         if settings.log_lines {
             log.note(now, &Entry::ToldOwn);
         }
@@ -137,4 +158,12 @@ impl IrcConnection {
             None => false,
         }
     }
+}
+
+// The JOIN in `line`, with the channel's key.
+fn with_key(line: Vec<u8>, key: &[u8]) -> Result<Vec<u8>, NoMemory> {
+    let mut line = line;
+    line.push(b' ')?;
+    line.extend_from_slice(key)?;
+    Ok(line)
 }

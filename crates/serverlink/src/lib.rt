@@ -6,7 +6,7 @@
 //! makes of the server's messages; the bot's lines come in by [`IrcConnection::tell`].
 //!
 //! ```text
-//! let mut irc = IrcConnection::new(alloc, settings)?;
+//! let mut irc = IrcConnection::new(alloc, settings, account)?;
 //! // each turn, at the second now of the bot's clock and the second steady of the monotonic clock
 //! irc.wake(watch.tokens(), steady);
 //! let connected = irc.connect(rt, log, watch.registry(), settings, now)?;
@@ -15,6 +15,7 @@
 //! irc.look(rt, log, settings, &line, logged, nick, now)?;   // each line of them, after the bot's step; a new nick or None
 //! irc.tell(log, settings, b"PRIVMSG #chan :hi", now)?;      // each line of the bot's
 //! irc.keep(rt, log, settings, now)?;
+//! let derives = irc.derive(rt, log, settings, now)?;        // the next turn is to come at once
 //! irc.send();
 //! irc.let_go(log, now);
 //! ```
@@ -22,11 +23,13 @@
 //! Besides the bot's lines, a connection sends:
 //!
 //! - the PASS of a registration;
+//! - the lines of a login, if the bot has an account ([`registration`]), at once: the server waits for each of them;
 //! - a PING after 90 seconds of silence;
 //! - another nick, if the server rejects the bot's;
 //! - the lines `perform`, once after each welcome;
-//! - a JOIN each minute for each channel that the bot is not on; after a KICK, or if the server does not let the bot in,
-//!   the JOIN comes after a growing wait instead ([`Seat`]);
+//! - a JOIN for each channel, at once after each welcome, and then each minute while the bot is not on it; after a KICK,
+//!   or if the server does not let the bot in, the JOIN comes after a growing wait instead ([`Seat`]);
+//! - a PART for each channel on which the bot is no longer to be, and a NICK if the configuration has another one by now;
 //! - lines that an operator has it send, and answers to a person ([`OwnLines`]).
 //!
 //! All that a server gets are lines of 1 to 510 bytes: a [`ServerWire`] sends nothing else.
@@ -37,7 +40,7 @@
 //! - [`Pace`]: how many lines the process may add to the bot's. It counts all lines sent to a server as the server
 //!   does.
 //! - [`cue_of`]: what a message means for the bot's registration and its channels.
-//! - [`Seat`]: a channel of the bot's configuration, and when the process asks to join it.
+//! - [`Seat`]: a channel on which the bot is to be, and when the process asks to join it.
 //! - [`other_nick`]: the nick to try next when a server rejects the bot's own.
 //! - [`is_base_due`]: when to rewrite a journal.
 //!
@@ -59,9 +62,12 @@ mod hearing;
 mod irc_connection;
 mod keeping;
 mod line;
+mod login;
 mod nicks;
 mod own_lines;
 mod pace;
+mod registering;
+mod reloading;
 mod seat;
 mod server_wire;
 mod session;

@@ -1,4 +1,4 @@
-// A channel of the bot's configuration.
+// A channel on which the bot is to be.
 ghost use Rattle.std.specs.Prelude.{◌≡◌};
 ghost use Rattle.net.specs.Waits.{lost as lost_wait};
 ghost use Rattle.serverlink.specs.Seats.{begun, is_due, joined, kicked, later, lost, not_let_in, parted, retried, waiting, welcomed};
@@ -11,19 +11,20 @@ use std::marker::Model;
 /// The longest wait after a KICK, or after the server did not let the bot in, in seconds.
 pub const LONGEST_WAIT: u16 = 300;
 
-/// How many seconds after the server's welcome, after the bot left a channel, and after the process last asked, the
-/// process asks to join the channel.
+/// How many seconds after the bot left a channel, and after the process last asked, the process asks to join the
+/// channel.
 pub const ASK_AGAIN: u64 = 60;
 
-/// A channel of the bot's configuration: whether the bot is on it, and when the process asks to join it.
+/// A channel on which the bot is to be: its key, whether the bot is on it, and when the process asks to join it.
 ///
-/// While the bot is not on the channel, the process asks each minute, the first time a minute after the server has
-/// welcomed the bot or the bot has left. After a KICK, and each time that the server does not let the bot in, it asks
+/// The process asks as soon as the server has welcomed the bot, and then each minute while the bot is not on the
+/// channel; also a minute after the bot has left. After a KICK, and each time that the server does not let the bot in, it asks
 /// after a wait instead. That wait grows from 2 to 300 seconds, until the bot has stayed for two minutes. The process
 /// asks nothing before the server has welcomed the bot.
 #[derive(Drop)]
 pub struct Seat {
     channel: Text,
+    key: Option<Text>,
     is_on: bool,
     // The second at which the bot last joined.
     since: u64,
@@ -40,6 +41,7 @@ impl Model for Seat {
 
     ghost view = { λ s. record {
       channel = s.channel;
+      key = s.key;
       on = s.is_on;
       since = s.since;
       asks = s.asks;
@@ -48,15 +50,17 @@ impl Model for Seat {
 }
 
 impl Seat {
-    ghost use Rattle.std.specs.Prelude.{◌≡◌, ◌<◌};
+    ghost use Rattle.std.specs.Prelude.{◌≡◌, ◌<◌, None, Some, MatchOption};
     ghost use Rattle.bytetext.specs.declared.moment.TheConstants.{MOMENTS_END};
 
-    /// Creates the seat of `channel` for the bot numbered `number`, which is not on it and not welcomed yet.
-    pub fn new(channel: Text, number: u16) -> Seat
-        ensures { result ≡ begun channel number }
+    /// Creates the seat of `channel` for the bot numbered `number`, which is not on it and not welcomed yet. The bot
+    /// joins the channel with this `key`, if it has one.
+    pub fn new(channel: Text, key: Option<Text>, number: u16) -> Seat
+        ensures { result ≡ begun channel key number }
     {
         Seat {
             channel,
+            key,
             is_on: false,
             since: 0,
             asks: None,
@@ -69,6 +73,16 @@ impl Seat {
         ensures { result.now ≡ self.now.channel }
     {
         self.channel.as_bytes()
+    }
+
+    /// Returns the channel's key, if it has one.
+    pub fn key(&self) -> Option<&[u8]>
+        ensures { MatchOption result (self.now.key ≡ None) (λ key. self.now.key ≡ Some key.now) }
+    {
+        match &self.key {
+            Some(key) => Some(key.as_bytes()),
+            None => None,
+        }
     }
 
     /// Whether the bot is on the channel.
@@ -86,11 +100,11 @@ impl Seat {
         self.asks
     }
 
-    /// Notes that a server welcomed the bot at second `now`. The bot itself then asks to join the channel.
+    /// Notes that a server has welcomed the bot, and that the process is due to ask at second `now`.
     pub fn welcome(&mut self, now: u64)
         ensures { self.new ≡ welcomed self.old now }
     {
-        self.asks = later(now);
+        self.asks = Some(now);
     }
 
     /// Notes that the bot joined the channel at second `now`.

@@ -1,11 +1,12 @@
 // One connection to a server.
-ghost use Rattle.std.specs.Prelude.{◌≡◌, length};
+ghost use Rattle.std.specs.Prelude.{◌≡◌, None, length};
 ghost use Rattle.streams.specs.Accounts.{nothing_yet};
 ghost use Rattle.serverlink.specs.Vigils.{begun, care_of};
 
 use crate::server_wire::ServerWire;
 use crate::vigil::{Care, Vigil};
 use net::TcpSocket;
+use registration::Registration;
 use std::alloc::Global;
 
 /// A connection to a server, and what is known about it.
@@ -19,6 +20,8 @@ pub struct Session {
     pub is_welcomed: bool,
     // How many other nicks the bot has asked for.
     pub(crate) tried: usize,
+    // The login to the bot's account, until it is over.
+    pub(crate) login: Option<Registration>,
 }
 
 // Written by hand, so that the drop is proved once, and not in each function that drops one.
@@ -30,6 +33,7 @@ impl Drop for Session {
             began: _,
             is_welcomed: _,
             tried: _,
+            login: _,
         } = self;
     }
 }
@@ -41,6 +45,7 @@ impl Session {
         requires fresh { socket.account.past ≡ nothing_yet }
         ensures began { result.began ≡ now }
         ensures vigil { result.vigil ≡ begun steady }
+        ensures login { result.login ≡ None }
     {
         Session {
             wire: ServerWire::new(alloc, socket),
@@ -48,6 +53,7 @@ impl Session {
             began: now,
             is_welcomed: false,
             tried: 0,
+            login: None,
         }
     }
 

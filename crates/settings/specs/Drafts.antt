@@ -4,12 +4,12 @@ use Rattle.std.specs.List.{list_any}
 use Rattle.settings.specs.declared.setting_word.SettingWord.{SettingWord}
 use Rattle.settings.specs.declared.setting_word.SettingWord.TheVariants.{Account as account_word, Bot as bot_word, Data as data_word}
 use Rattle.settings.specs.declared.setting_word.SettingWord.TheVariants.{Exclusive as exclusive_word, Hub as hub_word, Listen as listen_word}
-use Rattle.settings.specs.declared.setting_word.SettingWord.TheVariants.{Log as log_word, Nick as nick_word, Secret as secret_word, Zone as zone_word}
+use Rattle.settings.specs.declared.setting_word.SettingWord.TheVariants.{Nick as nick_word, Page as page_word, Secret as secret_word, Zone as zone_word}
 use Rattle.settings.specs.declared.advice.SettingAdvice.{SettingAdvice}
-use Rattle.settings.specs.declared.advice.SettingAdvice.TheVariants.{Again, Once}
+use Rattle.settings.specs.declared.advice.SettingAdvice.TheVariants.{Again, LogFile as file_again, Once}
 use Rattle.settings.specs.declared.saying.SettingSaying.{SettingSaying}
 use Rattle.settings.specs.declared.saying.SettingSaying.TheVariants.{Nothing, Wrong, Account, Bind, Bot, Channel, Data, Exclusive, Hub, Leaf, Listen}
-use Rattle.settings.specs.declared.saying.SettingSaying.TheVariants.{LogLines, Nick, Perform, Secret, Server, Zone}
+use Rattle.settings.specs.declared.saying.SettingSaying.TheVariants.{LogFile, LogJson, LogLines, Nick, Page, Perform, Secret, Server, Zone}
 use Rattle.settings.specs.declared.settings.LeafLine.{LeafLine}
 use Rattle.settings.specs.declared.draft.Draft.{Draft}
 
@@ -29,6 +29,9 @@ no_line = record {
   zone = None;
   exclusive = false;
   log_lines = false;
+  log_json = false;
+  log_file = None;
+  page = None;
   performs = [];
   binds = [];
 }
@@ -37,6 +40,11 @@ no_line = record {
 abbrev pub once : SettingWord → Bool → Option SettingAdvice
 once word false = None
 once word true = Some (Once word)
+
+-- a second file for the log is refused by its own words, since the word log may stand more often
+abbrev pub once_file : Bool → Option SettingAdvice
+once_file false = None
+once_file true = Some file_again
 
 -- so is a line of a leaf that another one is of
 abbrev pub is_said_of : ℕ → List LeafLine → Bool
@@ -59,8 +67,11 @@ refusal_of draft Exclusive = once exclusive_word draft.exclusive
 refusal_of draft (Hub address) = once hub_word (is_some draft.hub)
 refusal_of draft (Leaf leaf) = again (is_said_of leaf draft.reads)
 refusal_of draft (Listen address) = once listen_word (is_some draft.listen)
-refusal_of draft LogLines = once log_word draft.log_lines
+refusal_of draft (LogFile path) = once_file (is_some draft.log_file)
+refusal_of draft LogJson = again draft.log_json
+refusal_of draft LogLines = again draft.log_lines
 refusal_of draft (Nick nick) = once nick_word (is_some draft.nick)
+refusal_of draft (Page page) = once page_word (is_some draft.page)
 refusal_of draft (Perform line) = None
 refusal_of draft (Secret file) = once secret_word (is_some draft.secret)
 refusal_of draft (Server server) = None
@@ -79,8 +90,11 @@ added line draft Exclusive = record draft { exclusive = true }
 added line draft (Hub address) = record draft { hub = Some address }
 added line draft (Leaf leaf) = record draft { reads = draft.reads ++ record { line = line; leaf = leaf } ∷ [] }
 added line draft (Listen address) = record draft { listen = Some address }
+added line draft (LogFile path) = record draft { log_file = Some path }
+added line draft LogJson = record draft { log_json = true }
 added line draft LogLines = record draft { log_lines = true }
 added line draft (Nick nick) = record draft { nick = Some nick }
+added line draft (Page page) = record draft { page = Some page }
 added line draft (Perform text) = record draft { performs = draft.performs ++ text ∷ [] }
 added line draft (Secret file) = record draft { secret = Some file }
 added line draft (Server server) = record draft { servers = draft.servers ++ server ∷ [] }

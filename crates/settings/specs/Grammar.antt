@@ -8,14 +8,14 @@ use Rattle.settings.specs.declared.TheConstants.{MAX_LEAVES, MAX_LINE}
 use Rattle.settings.specs.declared.setting_word.SettingWord.{SettingWord}
 use Rattle.settings.specs.declared.setting_word.SettingWord.TheVariants.{Account as account_word, Bind as bind_word, Bot as bot_word, Channel as channel_word}
 use Rattle.settings.specs.declared.setting_word.SettingWord.TheVariants.{Data as data_word, Exclusive as exclusive_word, Hub as hub_word, Leaf as leaf_word}
-use Rattle.settings.specs.declared.setting_word.SettingWord.TheVariants.{Listen as listen_word, Log as log_word, Nick as nick_word, Perform as perform_word}
+use Rattle.settings.specs.declared.setting_word.SettingWord.TheVariants.{Listen as listen_word, Log as log_word, Nick as nick_word, Page as page_word, Perform as perform_word}
 use Rattle.settings.specs.declared.setting_word.SettingWord.TheVariants.{Secret as secret_word, Server as server_word, Zone as zone_word}
-use Rattle.settings.specs.declared.advice.SettingAdvice.TheVariants.{Form, Leaves, Address, Port, Unknown, CarriageReturn, Control, ByteOrderMark}
+use Rattle.settings.specs.declared.advice.SettingAdvice.TheVariants.{Form, Leaves, Address, PageAddress, PagePassword, Port, Unknown, CarriageReturn, Control, ByteOrderMark}
 use Rattle.settings.specs.declared.saying.SettingSaying.{SettingSaying}
 use Rattle.settings.specs.declared.saying.SettingSaying.TheVariants.{Nothing, Wrong, Account, Bind, Bot, Channel, Data, Exclusive, Hub, Leaf, Listen}
-use Rattle.settings.specs.declared.saying.SettingSaying.TheVariants.{LogLines, Nick, Perform, Secret, Server, Zone}
+use Rattle.settings.specs.declared.saying.SettingSaying.TheVariants.{LogFile, LogJson, LogLines, Nick, Page, Perform, Secret, Server, Zone}
 use Rattle.settings.specs.Names.{is_nick}
-use Rattle.settings.specs.Addresses.{is_address}
+use Rattle.settings.specs.Addresses.{is_address, is_loopback}
 use Rattle.settings.specs.Words.{word_of, rest_of, after_spaces, number_of, port_of}
 use Rattle.settings.specs.Vocabulary.{word_named}
 
@@ -49,9 +49,18 @@ channel_said rest =
 abbrev pub exclusive_said : List ℕ → SettingSaying
 exclusive_said rest = if is_empty rest then Exclusive else Wrong (Form exclusive_word)
 
--- log lines
+-- log json and log lines
+abbrev pub log_form_said : List ℕ → List ℕ → SettingSaying
+log_form_said word rest =
+    if bytes_eq word (codes "json") && is_empty rest then LogJson
+    else if bytes_eq word (codes "lines") && is_empty rest then LogLines
+    else Wrong (Form log_word)
+
+-- log file PATH, or one of these
 abbrev pub log_said : List ℕ → SettingSaying
-log_said rest = if bytes_eq (word_of rest) (codes "lines") && is_empty (rest_of rest) then LogLines else Wrong (Form log_word)
+log_said rest =
+    if bytes_eq (word_of rest) (codes "file") && not (is_empty (rest_of rest)) then LogFile (rest_of rest)
+    else log_form_said (word_of rest) (rest_of rest)
 
 -- account NAME FILE
 abbrev pub account_said : List ℕ → SettingSaying
@@ -116,6 +125,22 @@ server_said rest =
     if is_empty (rest_of rest) then Wrong (Form server_word)
     else server_found (word_of rest) (port_of (word_of (rest_of rest))) (rest_of (rest_of rest))
 
+-- page ADDRESS PORT FILE; the FILE may be left out if no other machine reaches the address
+abbrev pub page_placed : List ℕ → ℕ → List ℕ → SettingSaying
+page_placed host port file =
+    if not (is_address host) then Wrong PageAddress
+    else if is_empty file && not (is_loopback host) then Wrong PagePassword
+    else Page (record { address = record { host = host; port = port }; password = pass_of file })
+
+abbrev pub page_found : List ℕ → Option ℕ → List ℕ → SettingSaying
+page_found host None file = Wrong Port
+page_found host (Some port) file = page_placed host port file
+
+abbrev pub page_said : List ℕ → SettingSaying
+page_said rest =
+    if is_empty (rest_of rest) then Wrong (Form page_word)
+    else page_found (word_of rest) (port_of (word_of (rest_of rest))) (rest_of (rest_of rest))
+
 -- zone RULE
 abbrev pub zone_found : Option TzText → SettingSaying
 zone_found None = Wrong (Form zone_word)
@@ -150,6 +175,7 @@ said_of (Some leaf_word) rest = leaf_said rest
 said_of (Some listen_word) rest = listen_said rest
 said_of (Some log_word) rest = log_said rest
 said_of (Some nick_word) rest = nick_said rest
+said_of (Some page_word) rest = page_said rest
 said_of (Some perform_word) rest = perform_said rest
 said_of (Some secret_word) rest = secret_said rest
 said_of (Some server_word) rest = server_said rest

@@ -110,6 +110,9 @@ settings_of draft = record {
   zone = unwrap_or draft.zone utc;
   exclusive = draft.exclusive;
   log_lines = draft.log_lines;
+  log_json = draft.log_json;
+  log_file = draft.log_file;
+  page = draft.page;
   performs = draft.performs;
   binds = draft.binds;
 }

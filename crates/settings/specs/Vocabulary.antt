@@ -3,7 +3,7 @@ use Rattle.std.specs.Prelude.{ℕ, List, [], ◌∷◌, Option, find, codes}
 use Rattle.std.specs.Str.{bytes_eq}
 use Rattle.settings.specs.declared.setting_word.SettingWord.{SettingWord}
 use Rattle.settings.specs.declared.setting_word.SettingWord.TheVariants.{Account, Bind, Bot, Channel, Data, Exclusive, Hub, Leaf, Listen, Log, Nick}
-use Rattle.settings.specs.declared.setting_word.SettingWord.TheVariants.{Perform, Secret, Server, Zone}
+use Rattle.settings.specs.declared.setting_word.SettingWord.TheVariants.{Page, Perform, Secret, Server, Zone}
 
 abbrev pub spelling_of : SettingWord → List ℕ
 spelling_of Account = codes "account"
@@ -17,6 +17,7 @@ spelling_of Leaf = codes "leaf"
 spelling_of Listen = codes "listen"
 spelling_of Log = codes "log"
 spelling_of Nick = codes "nick"
+spelling_of Page = codes "page"
 spelling_of Perform = codes "perform"
 spelling_of Secret = codes "secret"
 spelling_of Server = codes "server"
@@ -24,7 +25,7 @@ spelling_of Zone = codes "zone"
 
 abbrev pub all_words : List SettingWord
 all_words =
-    Account ∷ Bind ∷ Bot ∷ Channel ∷ Data ∷ Exclusive ∷ Hub ∷ Leaf ∷ Listen ∷ Log ∷ Nick ∷ Perform ∷ Secret ∷ Server ∷ Zone ∷ []
+    Account ∷ Bind ∷ Bot ∷ Channel ∷ Data ∷ Exclusive ∷ Hub ∷ Leaf ∷ Listen ∷ Log ∷ Nick ∷ Page ∷ Perform ∷ Secret ∷ Server ∷ Zone ∷ []
 
 -- the word with this spelling: no two are spelled alike
 abbrev pub word_named : List ℕ → Option SettingWord

@@ -18,8 +18,14 @@ pub enum SettingAdvice {
     HubAlone,
     /// An earlier line says the same of this leaf.
     Again,
+    /// A second line names a file for the log.
+    LogFile,
     /// The host to listen at is no IP address.
     Address,
+    /// The host to serve the page at is no IP address.
+    PageAddress,
+    /// The page has no password, and could be read from other machines.
+    PagePassword,
     /// The port is not a number from 1 to 65,535.
     Port,
     /// The first word is unknown.
@@ -52,9 +58,13 @@ fn words_of(advice: SettingAdvice) -> &'static str {
         SettingAdvice::HubAlone => "a leaf has no line leaf: take it out",
         SettingAdvice::Again => "take this line out: a line above says the same",
         SettingAdvice::Address => "say an address of this machine, as in listen 0.0.0.0 7100",
+        SettingAdvice::LogFile => "say log file once: a line above has it",
+        SettingAdvice::PageAddress => "say an address of this machine, as in page 127.0.0.1 7180",
+        SettingAdvice::PagePassword =>
+            "name a FILE with a password, as in page 0.0.0.0 7180 /etc/eggnet/page: without one, say 127.0.0.1 or ::1",
         SettingAdvice::Port => "say a port of 1 to 65535",
         SettingAdvice::Unknown =>
-            "begin with account, bind, bot, channel, data, exclusive, hub, leaf, listen, log, nick, perform, secret, server, zone or #",
+            "begin with account, bind, bot, channel, data, exclusive, hub, leaf, listen, log, nick, page, perform, secret, server, zone or #",
         SettingAdvice::CarriageReturn => "end lines with a line feed alone",
         SettingAdvice::Control => "write spaces for tabs, and no other control bytes",
         SettingAdvice::ByteOrderMark => "save the file without a byte order mark",
@@ -73,8 +83,11 @@ fn form_of(word: SettingWord) -> &'static str {
         SettingWord::Hub => "say hub HOST PORT, as in hub hub.example.net 7100",
         SettingWord::Leaf => "say leaf N reads, as in leaf 3 reads",
         SettingWord::Listen => "say listen ADDRESS PORT, as in listen 0.0.0.0 7100",
-        SettingWord::Log => "say log lines",
+        SettingWord::Log =>
+            "say log lines, log json or log file PATH, as in log file /var/log/eggnet/egg1",
         SettingWord::Nick => "say nick NICK, of 1 to 30 bytes without ! @ , * ?, as in nick egg1",
+        SettingWord::Page =>
+            "say page ADDRESS PORT, as in page 127.0.0.1 7180, and the file of its password after that",
         SettingWord::Perform =>
             "say perform LINE, of at most 510 bytes, as in perform MODE egg1 +i",
         SettingWord::Secret => "say secret FILE, as in secret /etc/eggnet/secret",

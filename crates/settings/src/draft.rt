@@ -1,13 +1,15 @@
 // What the lines so far say.
 ghost use Rattle.std.specs.Prelude.{◌≡◌, None};
-ghost use Rattle.settings.specs.Drafts.{again, is_said_of, no_line, once, refusal_of};
+ghost use Rattle.settings.specs.Drafts.{again, is_said_of, no_line, once, once_file, refusal_of};
 ghost use Rattle.settings.specs.Reading.{lack_of, settings_of};
 
 use crate::advice::SettingAdvice;
 use crate::reading::{ALONE, utc};
 use crate::saying::SettingSaying;
 use crate::setting_word::SettingWord;
-use crate::settings::{Address, BindLines, LeafLine, LeafLines, Login, Servers, Settings, Station};
+use crate::settings::{
+    Address, BindLines, LeafLine, LeafLines, Login, PageSetting, Servers, Settings, Station,
+};
 use bottimers::Zone;
 use bytetext::{Text, Texts};
 use std::alloc::Global;
@@ -40,6 +42,12 @@ pub struct Draft {
     pub exclusive: bool,
     /// Whether lines are logged.
     pub log_lines: bool,
+    /// Whether each line of the log is a JSON object.
+    pub log_json: bool,
+    /// The file of the log.
+    pub log_file: Option<Text>,
+    /// The page that shows the bot.
+    pub page: Option<PageSetting>,
     /// Lines for the server, in order.
     pub performs: Texts,
     /// The binds, in order.
@@ -63,6 +71,9 @@ impl Drop for Draft {
             zone: _,
             exclusive: _,
             log_lines: _,
+            log_json: _,
+            log_file: _,
+            page: _,
             performs: _,
             binds: _,
         } = self;
@@ -88,6 +99,9 @@ impl Draft {
             zone: None,
             exclusive: false,
             log_lines: false,
+            log_json: false,
+            log_file: None,
+            page: None,
             performs: Texts::empty(alloc),
             binds: BindLines::empty(alloc),
         }
@@ -111,8 +125,11 @@ impl Draft {
             SettingSaying::Hub(_) => once(SettingWord::Hub, self.hub.is_some()),
             SettingSaying::Leaf(leaf) => again(is_said_of(*leaf, self.reads.as_slice())),
             SettingSaying::Listen(_) => once(SettingWord::Listen, self.listen.is_some()),
-            SettingSaying::LogLines => once(SettingWord::Log, self.log_lines),
+            SettingSaying::LogFile(_) => once_file(self.log_file.is_some()),
+            SettingSaying::LogJson => again(self.log_json),
+            SettingSaying::LogLines => again(self.log_lines),
             SettingSaying::Nick(_) => once(SettingWord::Nick, self.nick.is_some()),
+            SettingSaying::Page(_) => once(SettingWord::Page, self.page.is_some()),
             SettingSaying::Secret(_) => once(SettingWord::Secret, self.secret.is_some()),
             SettingSaying::Zone(_) => once(SettingWord::Zone, self.zone.is_some()),
         }
@@ -137,6 +154,9 @@ impl Draft {
             zone,
             exclusive,
             log_lines,
+            log_json,
+            log_file,
+            page,
             performs,
             binds,
         } = self;
@@ -154,6 +174,9 @@ impl Draft {
             zone: zone.unwrap_or(utc()),
             exclusive,
             log_lines,
+            log_json,
+            log_file,
+            page,
             performs,
             binds,
         }
@@ -166,6 +189,17 @@ fn once(word: SettingWord, is_there: bool) -> Option<SettingAdvice>
 {
     if is_there {
         Some(SettingAdvice::Once(word))
+    } else {
+        None
+    }
+}
+
+// What to say of a line that names a file for the log, if there is one already.
+fn once_file(is_there: bool) -> Option<SettingAdvice>
+    ensures { result ≡ once_file is_there }
+{
+    if is_there {
+        Some(SettingAdvice::LogFile)
     } else {
         None
     }

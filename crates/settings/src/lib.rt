@@ -21,6 +21,11 @@
 //! | `zone` rule | once or not at all | its clock, by a rule of POSIX; UTC without such a line |
 //! | `exclusive` | once or not at all | `msg` and `pub` binds ignore a text that a `msgm` or `pubm` proc got |
 //! | `log lines` | once or not at all | each line from and to the server is logged |
+//! | `log json` | once or not at all | each line of the log is a JSON object |
+//! | `log file PATH` | once or not at all | the log is appended to this file, instead of standard output |
+//! | `page` address port FILE | once or not at all | where a page that shows the bot is served, and the file of its password |
+//!
+//! A `page` may lack its FILE if other machines can't reach the address ([`is_loopback`]).
 //!
 //! [`Settings::read`] returns what a file says, or its first faulty line with what to say instead, or what it lacks. It
 //! opens nothing. The table of binds checks a bind's type, flags and mask. A [`BindLine`] has its line's number, so
@@ -46,14 +51,14 @@ mod saying;
 mod setting_word;
 mod settings;
 
-pub use crate::address::is_address;
+pub use crate::address::{is_address, is_loopback};
 pub use crate::advice::SettingAdvice;
 pub use crate::fault::{Lack, SettingsError, SettingsFault};
 pub use crate::numeral::value_of_digits;
 pub use crate::setting_word::SettingWord;
 pub use crate::settings::{
-    Address, BindLine, BindLines, BindWords, LeafLine, LeafLines, Login, Server, Servers, Settings,
-    Station,
+    Address, BindLine, BindLines, BindWords, LeafLine, LeafLines, Login, PageSetting, Server,
+    Servers, Settings, Station,
 };
 
 /// The most bytes that a file has.

@@ -1,15 +1,15 @@
 // What the lines say that are about the net: which bot it is, where the hub listens, and which leaves only read.
 ghost use Rattle.std.specs.Prelude.{◌≡◌, IfOk};
-ghost use Rattle.settings.specs.Grammar.{bot_numbered, bot_of, bot_said, hub_said, leaf_said, listen_said};
+ghost use Rattle.settings.specs.Grammar.{bot_numbered, bot_of, bot_said, hub_said, leaf_said, listen_said, page_placed, page_said};
 
 use crate::MAX_LEAVES;
-use crate::address::is_address;
+use crate::address::{is_address, is_loopback};
 use crate::advice::SettingAdvice;
 use crate::cutting::cut_word;
 use crate::numeral::{number, port};
-use crate::saying::SettingSaying;
+use crate::saying::{SettingSaying, pass_of};
 use crate::setting_word::SettingWord;
-use crate::settings::{Address, Station};
+use crate::settings::{Address, PageSetting, Station};
 use bytetext::{NoMemory, Text};
 use std::alloc::Global;
 
@@ -89,4 +89,39 @@ pub(crate) fn listen_said(alloc: Global, rest: &[u8]) -> Result<SettingSaying, N
     }
     let host = Text::from_slice(alloc, host.word)?;
     Ok(SettingSaying::Listen(Address { host, port }))
+}
+
+pub(crate) fn page_said(alloc: Global, rest: &[u8]) -> Result<SettingSaying, NoMemory>
+    ensures { IfOk result (λ saying. saying ≡ page_said rest.now) }
+{
+    let host = cut_word(rest);
+    let numeral = cut_word(host.rest);
+    if host.rest.is_empty() {
+        return Ok(SettingSaying::Wrong(SettingAdvice::Form(SettingWord::Page)));
+    }
+    match port(numeral.word) {
+        Some(port) => page_placed(alloc, host.word, port, numeral.rest),
+        None => Ok(SettingSaying::Wrong(SettingAdvice::Port)),
+    }
+}
+
+// A page at `host` and `port`, and the file of its password, which may be left out.
+fn page_placed(
+    alloc: Global,
+    host: &[u8],
+    port: u16,
+    file: &[u8],
+) -> Result<SettingSaying, NoMemory>
+    ensures { IfOk result (λ saying. saying ≡ page_placed host.now port file.now) }
+{
+    if !is_address(host) {
+        return Ok(SettingSaying::Wrong(SettingAdvice::PageAddress));
+    }
+    if file.is_empty() && !is_loopback(host) {
+        return Ok(SettingSaying::Wrong(SettingAdvice::PagePassword));
+    }
+    let host = Text::from_slice(alloc, host)?;
+    let password = pass_of(alloc, file)?;
+    let address = Address { host, port };
+    Ok(SettingSaying::Page(PageSetting { address, password }))
 }

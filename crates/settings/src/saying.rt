@@ -2,7 +2,7 @@
 ghost use Rattle.std.specs.Prelude.{◌≡◌, IfOk};
 ghost use Rattle.std.specs.List.{list_all};
 ghost use Rattle.settings.specs.Grammar.{account_said, bind_said, channel_said, data_said, ends_in_return};
-ghost use Rattle.settings.specs.Grammar.{exclusive_said, has_mark, is_shown, log_said, nick_said};
+ghost use Rattle.settings.specs.Grammar.{exclusive_said, has_mark, is_shown, log_form_said, log_said, nick_said};
 ghost use Rattle.settings.specs.Grammar.{pass_of, perform_said, said_of, saying_by_words, saying_of, secret_said, server_said, zone_said};
 
 use crate::MAX_LINE;
@@ -10,10 +10,12 @@ use crate::advice::SettingAdvice;
 use crate::cutting::{after_spaces, cut_word};
 use crate::draft::Draft;
 use crate::names::is_nick;
-use crate::net_saying::{bot_said, hub_said, leaf_said, listen_said};
+use crate::net_saying::{bot_said, hub_said, leaf_said, listen_said, page_said};
 use crate::numeral::port;
 use crate::setting_word::SettingWord;
-use crate::settings::{Address, BindLine, BindWords, LeafLine, Login, Server, Station};
+use crate::settings::{
+    Address, BindLine, BindWords, LeafLine, Login, PageSetting, Server, Station,
+};
 use bottimers::Zone;
 use bytetext::{NoMemory, Text};
 use rfccase::is_channel_name;
@@ -43,10 +45,16 @@ pub enum SettingSaying {
     Leaf(u16),
     /// Where the bot listens.
     Listen(Address),
+    /// The file of the log.
+    LogFile(Text),
+    /// Each line of the log is a JSON object.
+    LogJson,
     /// Lines are logged.
     LogLines,
     /// The bot's nick.
     Nick(Text),
+    /// The page that shows the bot.
+    Page(PageSetting),
     /// A line for the server.
     Perform(Text),
     /// The file of the secret that both ends of the link know.
@@ -72,8 +80,11 @@ impl Drop for SettingSaying {
             | SettingSaying::Hub(_)
             | SettingSaying::Leaf(_)
             | SettingSaying::Listen(_)
+            | SettingSaying::LogFile(_)
+            | SettingSaying::LogJson
             | SettingSaying::LogLines
             | SettingSaying::Nick(_)
+            | SettingSaying::Page(_)
             | SettingSaying::Perform(_)
             | SettingSaying::Secret(_)
             | SettingSaying::Server(_)
@@ -101,8 +112,11 @@ impl SettingSaying {
             SettingSaying::Hub(address) => draft.hub = Some(address),
             SettingSaying::Leaf(leaf) => draft.reads.push(LeafLine { line, leaf })?,
             SettingSaying::Listen(address) => draft.listen = Some(address),
+            SettingSaying::LogFile(path) => draft.log_file = Some(path),
+            SettingSaying::LogJson => draft.log_json = true,
             SettingSaying::LogLines => draft.log_lines = true,
             SettingSaying::Nick(nick) => draft.nick = Some(nick),
+            SettingSaying::Page(page) => draft.page = Some(page),
             SettingSaying::Perform(text) => draft.performs.push(text)?,
             SettingSaying::Secret(file) => draft.secret = Some(file),
             SettingSaying::Server(server) => draft.servers.push(server)?,
@@ -182,8 +196,9 @@ fn said_of(alloc: Global, word: Option<SettingWord>, rest: &[u8]) -> Result<Sett
         SettingWord::Hub => hub_said(alloc, rest),
         SettingWord::Leaf => Ok(leaf_said(rest)),
         SettingWord::Listen => listen_said(alloc, rest),
-        SettingWord::Log => Ok(log_said(rest)),
+        SettingWord::Log => log_said(alloc, rest),
         SettingWord::Nick => nick_said(alloc, rest),
+        SettingWord::Page => page_said(alloc, rest),
         SettingWord::Perform => perform_said(alloc, rest),
         SettingWord::Secret => secret_said(alloc, rest),
         SettingWord::Server => server_said(alloc, rest),
@@ -248,11 +263,23 @@ fn exclusive_said(rest: &[u8]) -> SettingSaying
     }
 }
 
-fn log_said(rest: &[u8]) -> SettingSaying
-    ensures { result ≡ log_said rest.now }
+fn log_said(alloc: Global, rest: &[u8]) -> Result<SettingSaying, NoMemory>
+    ensures { IfOk result (λ saying. saying ≡ log_said rest.now) }
 {
     let cut = cut_word(rest);
-    if cut.word == b"lines".as_slice() && cut.rest.is_empty() {
+    if cut.word == b"file".as_slice() && !cut.rest.is_empty() {
+        return Ok(SettingSaying::LogFile(Text::from_slice(alloc, cut.rest)?));
+    }
+    Ok(log_form_said(cut.word, cut.rest))
+}
+
+// `lines` or `json`, alone.
+fn log_form_said(word: &[u8], rest: &[u8]) -> SettingSaying
+    ensures { result ≡ log_form_said word.now rest.now }
+{
+    if word == b"json".as_slice() && rest.is_empty() {
+        SettingSaying::LogJson
+    } else if word == b"lines".as_slice() && rest.is_empty() {
         SettingSaying::LogLines
     } else {
         SettingSaying::Wrong(SettingAdvice::Form(SettingWord::Log))
@@ -302,7 +329,7 @@ fn zone_said(rest: &[u8]) -> SettingSaying
 }
 
 // The PASS, or `None` if it is left out.
-fn pass_of(alloc: Global, rest: &[u8]) -> Result<Option<Text>, NoMemory>
+pub(crate) fn pass_of(alloc: Global, rest: &[u8]) -> Result<Option<Text>, NoMemory>
     ensures { IfOk result (λ pass. pass ≡ pass_of rest.now) }
 {
     if rest.is_empty() {

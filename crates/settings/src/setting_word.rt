@@ -23,10 +23,12 @@ pub enum SettingWord {
     Leaf,
     /// Where the bot listens.
     Listen,
-    /// What is logged.
+    /// What is logged, where, and in which form.
     Log,
     /// The bot's nick.
     Nick,
+    /// Where a page that shows the bot is served.
+    Page,
     /// A line for the server.
     Perform,
     /// The file of the secret that both ends of the link know.
@@ -38,7 +40,7 @@ pub enum SettingWord {
 }
 
 // Every word.
-const ALL: [SettingWord; 15] = [
+const ALL: [SettingWord; 16] = [
     SettingWord::Account,
     SettingWord::Bind,
     SettingWord::Bot,
@@ -50,6 +52,7 @@ const ALL: [SettingWord; 15] = [
     SettingWord::Listen,
     SettingWord::Log,
     SettingWord::Nick,
+    SettingWord::Page,
     SettingWord::Perform,
     SettingWord::Secret,
     SettingWord::Server,
@@ -73,6 +76,7 @@ impl SettingWord {
             SettingWord::Listen => "listen",
             SettingWord::Log => "log",
             SettingWord::Nick => "nick",
+            SettingWord::Page => "page",
             SettingWord::Perform => "perform",
             SettingWord::Secret => "secret",
             SettingWord::Server => "server",

@@ -33,6 +33,12 @@ pub struct Settings {
     pub exclusive: bool,
     /// Whether each line from and to the server is logged.
     pub log_lines: bool,
+    /// Whether each line of the log is a JSON object.
+    pub log_json: bool,
+    /// The file of the log, if it does not go to standard output.
+    pub log_file: Option<Text>,
+    /// The page that shows the bot, if one is served.
+    pub page: Option<PageSetting>,
     /// Lines of 1 to 510 bytes that it sends to the server once after each registration, in order.
     pub performs: Texts,
     /// The binds, in order.
@@ -56,6 +62,9 @@ impl Drop for Settings {
             zone: _,
             exclusive: _,
             log_lines: _,
+            log_json: _,
+            log_file: _,
+            page: _,
             performs: _,
             binds: _,
         } = self;
@@ -146,6 +155,26 @@ pub struct Login {
 impl Drop for Login {
     fn drop(self) {
         let Login { name: _, file: _ } = self;
+    }
+}
+
+/// Where a page that shows the bot is served, and who may read it.
+#[derive(Debug)]
+pub struct PageSetting {
+    /// Where it is served. The host spells an IP address ([`is_address`](crate::is_address)), which is a loopback
+    /// address ([`is_loopback`](crate::is_loopback)) if there is no password.
+    pub address: Address,
+    /// The file of the password, if a reader must send one.
+    pub password: Option<Text>,
+}
+
+// By hand, so that this is proved once, and not in each function in which one ends.
+impl Drop for PageSetting {
+    fn drop(self) {
+        let PageSetting {
+            address: _,
+            password: _,
+        } = self;
     }
 }
 

@@ -2,7 +2,7 @@
 use bottimers::{Zone, civil, time_args};
 use bytetext::{Failure, NoMemory, Text};
 use caselines::{BAD_NUMBER, BAD_WORDS, CaseError, Sink, number};
-use settings::{Address, BindLine, LeafLine, Server, Settings};
+use settings::{Address, BindLine, LeafLine, PageSetting, Server, Settings};
 use std::alloc::Global;
 
 // The most bytes of a file of `#`.
@@ -99,6 +99,16 @@ fn put_rest(alloc: Global, settings: &Settings, out: &mut Sink) -> Result<(), No
     if settings.log_lines {
         out.put(b" ; log lines");
     }
+    if settings.log_json {
+        out.put(b" ; log json");
+    }
+    if let Some(file) = &settings.log_file {
+        out.put(b" ; log file");
+        put_word(file.as_bytes(), out);
+    }
+    if let Some(page) = &settings.page {
+        put_page(page, out);
+    }
     put_texts(b" ; perform", settings.performs.as_slice(), out);
     for bind in settings.binds.as_slice() {
         put_bind(bind, out);
@@ -158,6 +168,13 @@ fn put_reader(line: &LeafLine, out: &mut Sink) {
     out.put(b" ; leaf ");
     out.number(u64::from(line.leaf));
     out.put(b" reads");
+}
+
+fn put_page(page: &PageSetting, out: &mut Sink) {
+    put_address(b" ; page", Some(&page.address), out);
+    if let Some(file) = &page.password {
+        put_word(file.as_bytes(), out);
+    }
 }
 
 fn put_server(server: &Server, out: &mut Sink) {

@@ -1,28 +1,38 @@
-use Rattle.std.proofs.Common.{refl}
+use Rattle.std.proofs.Common.{refl, subst, sym, ◌∙◌}
 use Rattle.watching.proofs.FollowingLemmas.{numbers_first, lawful_first, allows_begin, at_begun, at_watched, may_forget, forgets_lawful, numbers_again}
 use Rattle.watching.proofs.SendingLemmas.{up_begun, up_quiet, up_reported}
+use Rattle.watching.specs.Acts.{Station}
+use Rattle.watching.specs.Following.{Allows}
+use Rattle.botrun.specs.Stations.{IsKnownWhereWanted}
 use Rattle.botrun.specs.Watched.{station_of}
+use Rattle.botrun.proofs.StationLemmas.{at_station}
 use Rattle.botrun.proofs.bot_process.run_logged.Goals as goal
 
 pub loop-life-init : goal.loop-life-init
 loop-life-init g c = record {
-  lawful = lawful_first g.P.Promise.promised c.args.store.now (station_of c.args.settings.now) _ c.requires.unwatched;
+  lawful = lawful_first g.P.Promise.promised c.args.store.now _ _ c.requires.unwatched;
   numbers = numbers_first _ 0 c.requires.unwatched refl;
+  station = refl;
+  some = c.requires.some;
 }
+
+pub begin-requires-clause-known : goal.begin-requires-clause-known
+begin-requires-clause-known g c =
+    subst (λ station. IsKnownWhereWanted station c.args.secret) (sym c.loop-life.invariant.station) c.requires.known
 
 pub begin-requires-clause-lets : goal.begin-requires-clause-lets
 begin-requires-clause-lets g c =
-    allows_begin g.P.Promise.promised c.args.store.now (station_of c.args.settings.now) g.W.Watcher.may _ c.requires.allows c.loop-life.invariant.lawful
+    allows_begin g.P.Promise.promised c.args.store.now _ g.W.Watcher.may _ (at_station (λ (station : Station). Allows g.P.Promise.promised c.args.store.now station g.W.Watcher.may) _ _ c.loop-life.invariant.station c.requires.allows) c.loop-life.invariant.lawful
 
 pub bind_all-requires : goal.bind_all-requires
 bind_all-requires g c = record {
-  watched = at_watched _ _ _ _ _ _ (at_begun g.P.Promise.promised c.args.store.now (station_of c.args.settings.now) g.W.Watcher.may _ _ _
-      c.requires.allows c.loop-life.invariant.lawful c.in_ok-process.ensures.begun);
+  watched = at_watched _ _ _ _ _ _ (at_begun g.P.Promise.promised c.args.store.now _ g.W.Watcher.may _ _ _
+      (at_station (λ (station : Station). Allows g.P.Promise.promised c.args.store.now station g.W.Watcher.may) _ _ c.loop-life.invariant.station c.requires.allows) c.loop-life.invariant.lawful c.in_ok-process.ensures.begun);
 }
 
 pub look_back-requires : goal.look_back-requires
 look_back-requires g c =
-    let begun = up_begun g.P.Promise.promised c.args.store.now (station_of c.args.settings.now) g.W.Watcher.may _ _ _ _ c.requires.allows
+    let begun = up_begun g.P.Promise.promised c.args.store.now _ g.W.Watcher.may _ _ _ _ (at_station (λ (station : Station). Allows g.P.Promise.promised c.args.store.now station g.W.Watcher.may) _ _ c.loop-life.invariant.station c.requires.allows)
     c.loop-life.invariant.lawful c.in_ok-process.ensures.begun c.in_ok-process.ensures.told in
     record {
       watched = c.bind_all.ensures.watched;
@@ -31,7 +41,7 @@ look_back-requires g c =
 
 pub make_turns-requires : goal.make_turns-requires
 make_turns-requires g c =
-    let begun = up_begun g.P.Promise.promised c.args.store.now (station_of c.args.settings.now) g.W.Watcher.may _ _ _ _ c.requires.allows
+    let begun = up_begun g.P.Promise.promised c.args.store.now _ g.W.Watcher.may _ _ _ _ (at_station (λ (station : Station). Allows g.P.Promise.promised c.args.store.now station g.W.Watcher.may) _ _ c.loop-life.invariant.station c.requires.allows)
     c.loop-life.invariant.lawful c.in_ok-process.ensures.begun c.in_ok-process.ensures.told in
     record {
       up = up_reported _ _ _ _ _ _ _ _ _ _ (up_quiet _ _ _ _ _ _ _ _ _ _ begun c.bind_all.ensures refl) c.in_ok-look_back.ensures;
@@ -45,4 +55,6 @@ pub loop-life-preserved : goal.loop-life-preserved
 loop-life-preserved g c = record {
   lawful = forgets_lawful _ _ _ _ _ _ _ c.in_ok-above.ensures.at (rw c.in-Some.is at c.in_ok-above.ensures.again) c.give_up.ensures.past;
   numbers = numbers_again _ _ _ _ c.give_up.ensures.past;
+  station = c.in_ok-above.ensures.station ∙ c.loop-life.invariant.station;
+  some = c.in_ok-above.ensures.some c.loop-life.invariant.some;
 }

@@ -41,3 +41,23 @@ returns-in-Trust g c = record { up = always c.trust.result c.requires.up }
 
 pub returns-in-Die : goal.returns-in-Die
 returns-in-Die g c = record { up = always c.die.result c.requires.up }
+
+pub reload-requires-clause-watched : goal.reload-requires-clause-watched
+reload-requires-clause-watched g c = at_watched _ _ _ _ _ _ c.requires.up.even.at
+
+pub returns-in-Reload : goal.returns-in-Reload
+returns-in-Reload g c = record {
+  up = always c.reload.result (up_quiet _ _ _ _ _ _ _ _ _ _ c.requires.up c.reload.ensures refl);
+}
+
+pub returns-in-Reopen : goal.returns-in-Reopen
+returns-in-Reopen g c = record { up = always c.reopen.result c.requires.up }
+
+pub returns-in-Backup : goal.returns-in-Backup
+returns-in-Backup g c = record { up = always c.backup.result c.requires.up }
+
+pub returns-in-Join : goal.returns-in-Join
+returns-in-Join g c = record { up = always c.join.result c.requires.up }
+
+pub returns-in-Part : goal.returns-in-Part
+returns-in-Part g c = record { up = always c.part.result c.requires.up }

@@ -1,0 +1,4 @@
+pub mod Beginnings
+pub mod Heirs
+pub mod Descents
+pub mod Examples

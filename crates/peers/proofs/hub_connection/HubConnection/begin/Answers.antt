@@ -1,0 +1,16 @@
+use Rattle.std.proofs.Common.{◌∙◌, ap}
+use Rattle.peers.specs.declared.leaf_side.LeafSide.{LeafSide}
+use Rattle.peers.specs.Drawn.{nonces_at}
+use Rattle.peers.proofs.DiceLemmas.{among_last, among_self, draws_none, draws_one}
+use Rattle.peers.proofs.hub_connection.HubConnection.begin.Goals as goal
+
+-- no nonce is drawn
+pub returns-in_default : goal.returns-in_default
+returns-in_default g c = record { nonces = draws_none c.in_default.ensures.none (among_self _) }
+
+-- the leaf says the one that is drawn
+pub returns : goal.returns
+returns g c = record {
+  nonces = draws_one c.in-Ok.nonce c.in-Ok.ensures.rolled
+      (among_last (nonces_at c.args.self.now.hub) (ap (λ (side : LeafSide). side.nonce) c.begin.ensures ∙ c.side-side.ensures));
+}
