@@ -137,7 +137,8 @@ fn looked(alloc: Global, call: &Call, view: &View<'_>) -> Result<Actions, NoMemo
         return Ok(Actions::empty(alloc));
     };
     let who = person(alloc, nick, at)?;
-    let mut text = Vec::from_slice(alloc, view.userfile().handle_of(who.as_slice()))?;
+    let mapping = view.channels().casemapping();
+    let mut text = Vec::from_slice(alloc, view.userfile().handle_of(mapping, who.as_slice()))?;
     text.extend_from_slice(op_word(view.channels().is_op(channel.as_bytes(), nick.as_bytes())))?;
     let mut digits = Buffer::new();
     text.extend_from_slice(digits.format(view.second().unwrap_or(0)).as_bytes())?;

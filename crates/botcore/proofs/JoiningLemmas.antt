@@ -4,20 +4,23 @@ use Rattle.std.specs.Prelude.{find, if◌then◌else◌}
 use Rattle.std.specs.List.{filter_map}
 use Rattle.std.specs.Option.{option_map}
 use Rattle.std.proofs.lemmas.Bool.{cond-true, cond-false}
-use Rattle.rfccase.specs.Casemapping.{is_same}
+use Rattle.rfccase.specs.declared.casemappings.Casemapping.{Casemapping}
+use Rattle.rfccase.specs.Casemapping.{is_same_by}
 use Rattle.ircline.specs.Sources.{Source, Nobody, Server, Person}
 use Rattle.chanstate.specs.declared.channel.Channel.{Channel}
 use Rattle.chanstate.specs.declared.member.Member.{Member}
 use Rattle.chanstate.specs.declared.state.ChanState.{ChanState}
+use Rattle.chanstate.specs.declared.support.Support.{Support}
 use Rattle.chanstate.specs.Channels.{is_named, with_members, on_channel}
 use Rattle.chanstate.specs.Firsts.{first_changed}
-use Rattle.chanstate.specs.Items.{Joined, channels_in, if_given, join_items}
+use Rattle.chanstate.specs.Items.{Joined, any_named, channels_in, if_given, join_items}
+use Rattle.chanstate.specs.Plans.{joined_if}
 use Rattle.chanstate.specs.Members.{is_called, has_member, arrived, unmarked, with_address}
 use Rattle.chanstate.specs.Steps.{steps}
 use Rattle.chanstate.specs.Takes.{came_each}
-use Rattle.chanstate.specs.Views.{is_op, members_of}
+use Rattle.chanstate.specs.Views.{is_op, mapping_of, members_of}
 use Rattle.chanstate.proofs.ComeLemmas.{steps-own, steps-came}
-use Rattle.rfccase.proofs.SameLemmas.{is_same-sym}
+use Rattle.rfccase.proofs.SameLemmas.{is_same_by-sym}
 use Rattle.chanstate.proofs.FindLemmas.{find-end, or_else}
 use Rattle.chanstate.proofs.LookLemmas.{or_else-right}
 use Rattle.botcore.specs.Automatic.{guarded_as, guarded, guarded_if, watched}
@@ -55,28 +58,30 @@ either true read x y z first second = first
 either false read x y z first second = second
 
 -- whether a member is op stays where somebody else comes
-op-arrived : (one : Member) (nick : List ℕ) (members : List Member) → is_same one.nick nick ≡ false
-    → is_op (find (is_called nick) (arrived one members)) ≡ is_op (find (is_called nick) members)
-op-arrived one nick members other =
-    either (has_member one.nick members) (λ (ms : List Member). is_op (find (is_called nick) ms)) _ _ _
-    (found-changed (is_called nick) (is_called one.nick) (with_address one.user one.host) is_op (λ m. refl) (λ m. refl) members)
-    (ap is_op (find-end (is_called nick) members one
-    ∙ ap (or_else (find (is_called nick) members)) (cond-false _ _ _ (is_same-sym nick one.nick ∙ other))
-    ∙ or_else-right (find (is_called nick) members)))
+op-arrived : (mapping : Casemapping) (one : Member) (nick : List ℕ) (members : List Member) → is_same_by mapping one.nick nick ≡ false
+    → is_op (find (is_called mapping nick) (arrived mapping one members)) ≡ is_op (find (is_called mapping nick) members)
+op-arrived mapping one nick members other =
+    either (has_member mapping one.nick members) (λ (ms : List Member). is_op (find (is_called mapping nick) ms)) _ _ _
+    (found-changed (is_called mapping nick) (is_called mapping one.nick) (with_address one.user one.host) is_op (λ m. refl) (λ m. refl) members)
+    (ap is_op (find-end (is_called mapping nick) members one
+    ∙ ap (or_else (find (is_called mapping nick) members)) (cond-false _ _ _ (is_same_by-sym mapping nick one.nick ∙ other))
+    ∙ or_else-right (find (is_called mapping nick) members)))
 
 -- ---- all channels
 
 -- a channel as the bot spells it, if the bot, of this nick, is op there
-abbrev judged : List ℕ → Option Channel → Option (List ℕ)
-judged me o = if is_op (find (is_called me) (members_of o)) then option_map (λ channel. channel.name) o else None
+abbrev judged : Casemapping → List ℕ → Option Channel → Option (List ℕ)
+judged mapping me o = if is_op (find (is_called mapping me) (members_of o)) then option_map (λ channel. channel.name) o else None
 
-judged-came : (one : Member) (me name : List ℕ) (names : List (List ℕ)) (channels : List Channel) → is_same one.nick me ≡ false
-    → judged me (find (is_named name) (came_each one names channels)) ≡ judged me (find (is_named name) channels)
-judged-came one me name [] channels other = refl
-judged-came one me name (n ∷ ns) channels other =
-    judged-came one me name ns (on_channel n (arrived one) channels) other
-    ∙ found-changed (is_named name) (is_named n) (with_members (arrived one)) (judged me) (λ c. refl)
-    (λ c. ap (λ b. if b then Some c.name else None) (op-arrived one me c.members other)) channels
+judged-came : (mapping : Casemapping) (one : Member) (me name : List ℕ) (names : List (List ℕ)) (channels : List Channel)
+    → is_same_by mapping one.nick me ≡ false
+    → judged mapping me (find (is_named mapping name) (came_each mapping one names channels))
+    ≡ judged mapping me (find (is_named mapping name) channels)
+judged-came mapping one me name [] channels other = refl
+judged-came mapping one me name (n ∷ ns) channels other =
+    judged-came mapping one me name ns (on_channel mapping n (arrived mapping one) channels) other
+    ∙ found-changed (is_named mapping name) (is_named mapping n) (with_members (arrived mapping one)) (judged mapping me) (λ c. refl)
+    (λ c. ap (λ b. if b then Some c.name else None) (op-arrived mapping one me c.members other)) channels
 
 agree : {X Y : Type 0} (f g : X → Option Y) (xs : List X) → ((x : X) → f x ≡ g x) → filter_map f xs ≡ filter_map g xs
 agree f g [] same = refl
@@ -87,22 +92,53 @@ agree f g (x ∷ xs) same =
 
 -- ---- a JOIN
 
+-- that a JOIN has been read does not change the casemapping
+mapping-kept : (joined : Bool) (s : Support) → (joined_if joined s).casemapping ≡ s.casemapping
+mapping-kept true s = refl
+mapping-kept false s = refl
+
 -- the channels on which the bot looks at who has joined
-watched-joined : (nick user host : List ℕ) (o : Option (List ℕ)) (s : ChanState) (b : Bool) → is_same nick s.nick ≡ b
+watched-joined : (nick user host : List ℕ) (o : Option (List ℕ)) (s : ChanState) (b : Bool)
+    → is_same_by (mapping_of s) nick s.nick ≡ b
     → let t = steps (if_given o (λ list. map (Joined nick user host) (channels_in list))) s in
-    (if is_same nick t.nick then [] else guarded_if t o) ≡ (if is_same nick s.nick then [] else guarded_if s o)
+    (if is_same_by (mapping_of t) nick t.nick then [] else guarded_if t o)
+    ≡ (if is_same_by (mapping_of s) nick s.nick then [] else guarded_if s o)
 watched-joined nick user host None s b is = refl
 watched-joined nick user host (Some list) s true own =
-    ap (λ (t : ChanState). if is_same nick t.nick then [] else guarded t list) (steps-own nick user host (channels_in list) s own)
-    ∙ cond-true _ _ _ own ∙ sym (cond-true _ _ _ own)
+    ap (λ (t : ChanState). if is_same_by (mapping_of t) nick t.nick then [] else guarded t list)
+    (steps-own nick user host (channels_in list) s own)
+    ∙ cond-true _ _ _ (ap (λ (mapping : Casemapping). is_same_by mapping nick s.nick) (mapping-kept (any_named (channels_in list)) s.support) ∙ own)
+    ∙ sym (cond-true _ _ _ own)
 watched-joined nick user host (Some list) s false other =
-    ap (λ (t : ChanState). if is_same nick t.nick then [] else guarded t list) (steps-came nick user host (channels_in list) s other)
-    ∙ ap (λ names. if is_same nick s.nick then [] else names)
-    (agree _ (guarded_as s) (channels_in list)
-    (λ name. judged-came (unmarked nick user host) s.nick name (channels_in list) s.channels other))
+    let names = channels_in list in
+    let came = came_each (mapping_of s) (unmarked nick user host) names s.channels in
+    ap (λ (t : ChanState). if is_same_by (mapping_of t) nick t.nick then [] else guarded t list)
+    (steps-came nick user host names s other)
+    ∙ ap (λ (mapping : Casemapping). if is_same_by mapping nick s.nick then []
+    else filter_map (λ name. judged mapping s.nick (find (is_named mapping name) came)) names) (mapping-kept (any_named names) s.support)
+    ∙ ap (λ found. if is_same_by (mapping_of s) nick s.nick then [] else found)
+    (agree _ (guarded_as s) names (λ name. judged-came (mapping_of s) (unmarked nick user host) s.nick name names s.channels other))
 
 pub watched-after : (who : Source) (params : List (List ℕ)) (s : ChanState)
     → watched who params (steps (join_items who params) s) ≡ watched who params s
 watched-after Nobody params s = refl
 watched-after (Server name) params s = refl
-watched-after (Person nick user host) params s = watched-joined nick user host (slice_get params 0) s (is_same nick s.nick) refl
+watched-after (Person nick user host) params s =
+    watched-joined nick user host (slice_get params 0) s (is_same_by (mapping_of s) nick s.nick) refl
+
+-- the casemapping stays at a JOIN
+mapping-joined : (nick user host : List ℕ) (o : Option (List ℕ)) (s : ChanState) (b : Bool)
+    → is_same_by (mapping_of s) nick s.nick ≡ b
+    → mapping_of (steps (if_given o (λ list. map (Joined nick user host) (channels_in list))) s) ≡ mapping_of s
+mapping-joined nick user host None s b is = refl
+mapping-joined nick user host (Some list) s true own =
+    ap mapping_of (steps-own nick user host (channels_in list) s own) ∙ mapping-kept (any_named (channels_in list)) s.support
+mapping-joined nick user host (Some list) s false other =
+    ap mapping_of (steps-came nick user host (channels_in list) s other) ∙ mapping-kept (any_named (channels_in list)) s.support
+
+pub mapping-after : (who : Source) (params : List (List ℕ)) (s : ChanState)
+    → mapping_of (steps (join_items who params) s) ≡ mapping_of s
+mapping-after Nobody params s = refl
+mapping-after (Server name) params s = refl
+mapping-after (Person nick user host) params s =
+    mapping-joined nick user host (slice_get params 0) s (is_same_by (mapping_of s) nick s.nick) refl

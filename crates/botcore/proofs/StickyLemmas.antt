@@ -1,13 +1,14 @@
 -- What a MODE leaves of what the bot reads of its channels to judge whether it is op there.
 use Rattle.std.proofs.Common.{◌≡◌, ◌∙◌, ℕ, ◌+◌, ◌<◌, ◌≤◌, Bool, true, false, cond, Option, None, Some, List, [], ◌∷◌, ◌++◌}
-use Rattle.std.proofs.Common.{length, get_or, drop, refl, sym, ap, append-nil, append_assoc, arith}
+use Rattle.std.proofs.Common.{length, get_or, drop, refl, sym, ap, subst, append-nil, append_assoc, arith}
 use Rattle.std.specs.Prelude.{codes, find, if◌then◌else◌, is_some}
 use Rattle.std.specs.List.{flat_map}
 use Rattle.std.specs.Option.{option_map, option_to_list}
 use Rattle.std.proofs.lemmas.Bool.{cond-true, cond-false}
 use Rattle.std.proofs.lemmas.List.{at_drop_more}
 use Rattle.std.proofs.lemmas.List.Concat.{flat_map-append}
-use Rattle.rfccase.specs.Casemapping.{is_same}
+use Rattle.rfccase.specs.declared.casemappings.Casemapping.{Casemapping}
+use Rattle.rfccase.specs.Casemapping.{is_same_by}
 use Rattle.ircline.specs.declared.message.Message.{Message}
 use Rattle.ircline.specs.declared.numeric.Numeric.{Numeric}
 use Rattle.ircline.specs.declared.numeric.Numeric.TheVariants.{Welcome, ErroneousNickname, NicknameInUse, NickCollision, UnavailableResource, Other}
@@ -30,8 +31,8 @@ use Rattle.chanstate.specs.Items.{Single, Marked, items_by, verb_of, marking, ma
 use Rattle.chanstate.specs.Items.{singles, single_at, sign_after, arguments_after}
 use Rattle.chanstate.specs.Members.{is_called, with_mark}
 use Rattle.chanstate.specs.Steps.{after, step, each_step, steps}
-use Rattle.chanstate.specs.Views.{channel_in, is_op, member_in, members_of}
-use Rattle.rfccase.proofs.SameLemmas.{is_same-refl}
+use Rattle.chanstate.specs.Views.{channel_in, is_op, mapping_of, member_in, members_of}
+use Rattle.rfccase.proofs.SameLemmas.{is_same_by-refl}
 use Rattle.chanstate.proofs.FindLemmas.{pointwise-same, none-is}
 use Rattle.chanstate.proofs.LookLemmas.{find-changed}
 use Rattle.botcore.specs.declared.watched_command.WatchedCommand.TheVariants as cue
@@ -45,11 +46,11 @@ use Rattle.botcore.proofs.AutomaticLemmas.{nothing_left, nothing_right}
 -- a channel as its modes leave it
 channel-marked : (c nick : List ℕ) (mark : Mark) (on : Bool) (s : ChanState)
     → channel_in c (step (Marked c mark on nick) s)
-    ≡ option_map (with_members (first_changed (is_called nick) (with_mark mark on))) (channel_in c s)
+    ≡ option_map (with_members (first_changed (is_called (mapping_of s) nick) (with_mark mark on))) (channel_in c s)
 channel-marked c nick mark on s =
-    find-changed (λ (channel : Channel). channel.name) (with_members (first_changed (is_called nick) (with_mark mark on))) (λ x. refl)
-    c c s.channels
-    ∙ cond-true _ _ _ (is_same-refl c)
+    find-changed (mapping_of s) (λ (channel : Channel). channel.name)
+    (with_members (first_changed (is_called (mapping_of s) nick) (with_mark mark on))) (λ x. refl) c c s.channels
+    ∙ cond-true _ _ _ (is_same_by-refl (mapping_of s) c)
 
 name-marked : (f : List Member → List Member) (o : Option Channel)
     → option_map (λ (channel : Channel). channel.name) (option_map (with_members f) o) ≡ option_map (λ (channel : Channel). channel.name) o
@@ -60,7 +61,7 @@ spelled-marked : (c nick : List ℕ) (mark : Mark) (on : Bool) (s : ChanState)
     → spelled false (step (Marked c mark on nick) s) c ≡ spelled false s c
 spelled-marked c nick mark on s =
     ap (option_map (λ (channel : Channel). channel.name)) (channel-marked c nick mark on s)
-    ∙ name-marked (first_changed (is_called nick) (with_mark mark on)) (channel_in c s)
+    ∙ name-marked (first_changed (is_called (mapping_of s) nick) (with_mark mark on)) (channel_in c s)
 
 -- one of its members
 abbrev marked_if : Bool → Mark → Bool → Option Member → Option Member
@@ -70,18 +71,19 @@ nobody-marked : (mine : Bool) (mark : Mark) (on : Bool) → None ≡ marked_if m
 nobody-marked true mark on = refl
 nobody-marked false mark on = refl
 
-member-found : (me nick : List ℕ) (mark : Mark) (on : Bool) (o : Option Channel)
-    → find (is_called me) (members_of (option_map (with_members (first_changed (is_called nick) (with_mark mark on))) o))
-    ≡ marked_if (is_same me nick) mark on (find (is_called me) (members_of o))
-member-found me nick mark on None = nobody-marked (is_same me nick) mark on
-member-found me nick mark on (Some channel) =
-    find-changed (λ (m : Member). m.nick) (with_mark mark on) (mark_keeps mark on) me nick channel.members
+member-found : (mapping : Casemapping) (me nick : List ℕ) (mark : Mark) (on : Bool) (o : Option Channel)
+    → find (is_called mapping me) (members_of (option_map (with_members (first_changed (is_called mapping nick) (with_mark mark on))) o))
+    ≡ marked_if (is_same_by mapping me nick) mark on (find (is_called mapping me) (members_of o))
+member-found mapping me nick mark on None = nobody-marked (is_same_by mapping me nick) mark on
+member-found mapping me nick mark on (Some channel) =
+    find-changed mapping (λ (m : Member). m.nick) (with_mark mark on) (mark_keeps mark on) me nick channel.members
 
 member-marked : (c me nick : List ℕ) (mark : Mark) (on : Bool) (s : ChanState)
-    → member_in c me (step (Marked c mark on nick) s) ≡ marked_if (is_same me nick) mark on (member_in c me s)
+    → member_in c me (step (Marked c mark on nick) s)
+    ≡ marked_if (is_same_by (mapping_of s) me nick) mark on (member_in c me s)
 member-marked c me nick mark on s =
-    ap (λ o. find (is_called me) (members_of o)) (channel-marked c nick mark on s)
-    ∙ member-found me nick mark on (channel_in c s)
+    ap (λ o. find (is_called (mapping_of s) me) (members_of o)) (channel-marked c nick mark on s)
+    ∙ member-found (mapping_of s) me nick mark on (channel_in c s)
 
 there-marked : (mine : Bool) (mark : Mark) (on : Bool) (o : Option Member) → is_some (marked_if mine mark on o) ≡ is_some o
 there-marked true mark on None = refl
@@ -120,7 +122,8 @@ nobody_left : (sup : Support) (c me : List ℕ) (ones : List Single) (s : ChanSt
     → is_op (member_in c me (each_step (markings sup c ones) s)) ≡ false
 nobody_left sup c me ones s none =
     ap is_op (none-is _ (kept (λ (t : ChanState). is_some (member_in c me t)) c
-    (λ mark on nick t. ap is_some (member-marked c me nick mark on t) ∙ there-marked (is_same me nick) mark on (member_in c me t)) sup ones s
+    (λ mark on nick t. ap is_some (member-marked c me nick mark on t)
+    ∙ there-marked (is_same_by (mapping_of t) me nick) mark on (member_in c me t)) sup ones s
     ∙ ap is_some none))
 
 -- somebody is there, who is op or isn't
@@ -132,38 +135,41 @@ some-marked true mark on m = (with_mark mark on m, refl)
 some-marked false mark on m = (m, refl)
 
 there_step : (c me nick : List ℕ) (mark : Mark) (on was : Bool) (s : ChanState) → IsThere c me was s
-    → IsThere c me (op_marked (Some mark) (is_same me nick) on was) (step (Marked c mark on nick) s)
+    → IsThere c me (op_marked (Some mark) (is_same_by (mapping_of s) me nick) on was) (step (Marked c mark on nick) s)
 there_step c me nick mark on was s (m, (found, op)) =
-    let one = member-marked c me nick mark on s ∙ ap (marked_if (is_same me nick) mark on) found in
-    let new = some-marked (is_same me nick) mark on m in (
+    let mine = is_same_by (mapping_of s) me nick in
+    let one = member-marked c me nick mark on s ∙ ap (marked_if mine mark on) found in
+    let new = some-marked mine mark on m in (
       new.0,
       (
         one ∙ new.1,
-        ap is_op (sym new.1) ∙ op-marked (is_same me nick) mark on m ∙ ap (op_marked (Some mark) (is_same me nick) on) op,
+        ap is_op (sym new.1) ∙ op-marked mine mark on m ∙ ap (op_marked (Some mark) mine on) op,
       ),
     )
 
 op_one : (sup : Support) (c me : List ℕ) (one : Single) (more : List Single)
-    → ((was : Bool) (s : ChanState) → IsThere c me was s
+    → ((was : Bool) (s : ChanState) → s.support ≡ sup → IsThere c me was s
     → is_op (member_in c me (each_step (markings sup c more) s)) ≡ op_left sup me more was)
-    → (mark : Option Mark) (was : Bool) (s : ChanState) → IsThere c me was s
+    → (mark : Option Mark) (was : Bool) (s : ChanState) → s.support ≡ sup → IsThere c me was s
     → is_op (member_in c me (each_step (marking c one.on one.argument mark ++ markings sup c more) s))
-    ≡ op_left sup me more (op_marked mark (is_same me one.argument) one.on was)
-op_one sup c me one more rest None was s there = rest was s there
-op_one sup c me one more rest (Some mark) was s there =
-    rest (op_marked (Some mark) (is_same me one.argument) one.on was) (step (Marked c mark one.on one.argument) s)
-    (there_step c me one.argument mark one.on was s there)
+    ≡ op_left sup me more (op_marked mark (is_same_by sup.casemapping me one.argument) one.on was)
+op_one sup c me one more rest None was s same there = rest was s same there
+op_one sup c me one more rest (Some mark) was s same there =
+    let next = step (Marked c mark one.on one.argument) s in
+    rest (op_marked (Some mark) (is_same_by sup.casemapping me one.argument) one.on was) next same
+    (subst (λ (by : Support). IsThere c me (op_marked (Some mark) (is_same_by by.casemapping me one.argument) one.on was) next) same
+    (there_step c me one.argument mark one.on was s there))
 
-somebody_left : (sup : Support) (c me : List ℕ) (ones : List Single) (was : Bool) (s : ChanState) → IsThere c me was s
+somebody_left : (sup : Support) (c me : List ℕ) (ones : List Single) (was : Bool) (s : ChanState) → s.support ≡ sup → IsThere c me was s
     → is_op (member_in c me (each_step (markings sup c ones) s)) ≡ op_left sup me ones was
-somebody_left sup c me [] was s (m, (found, op)) = ap is_op found ∙ op
-somebody_left sup c me (one ∷ more) was s there =
-    op_one sup c me one more (somebody_left sup c me more) (rank_of sup one.letter) was s there
+somebody_left sup c me [] was s same (m, (found, op)) = ap is_op found ∙ op
+somebody_left sup c me (one ∷ more) was s same there =
+    op_one sup c me one more (somebody_left sup c me more) (rank_of sup one.letter) was s same there
 
-op_by : (sup : Support) (c me : List ℕ) (ones : List Single) (s : ChanState) (o : Option Member) → member_in c me s ≡ o
-    → is_op (member_in c me (each_step (markings sup c ones) s)) ≡ is_op_after sup me ones o
-op_by sup c me ones s None is = nobody_left sup c me ones s is
-op_by sup c me ones s (Some m) is = somebody_left sup c me ones m.op s (m, (is, refl))
+op_by : (c me : List ℕ) (ones : List Single) (s : ChanState) (o : Option Member) → member_in c me s ≡ o
+    → is_op (member_in c me (each_step (markings s.support c ones) s)) ≡ is_op_after s.support me ones o
+op_by c me ones s None is = nobody_left s.support c me ones s is
+op_by c me ones s (Some m) is = somebody_left s.support c me ones m.op s refl (m, (is, refl))
 
 -- ---- a MODE
 
@@ -192,21 +198,22 @@ module _ (c letters : List ℕ) (arguments : List (List ℕ)) (s : ChanState) wh
       ap (λ nick. if is_op (member_in c nick (after_modes c letters arguments s)) then spelled false (after_modes c letters arguments s) c else None)
       same_nick
       ∙ ap (λ b. if b then spelled false (after_modes c letters arguments s) c else None)
-      (op_by s.support c s.nick ones s (member_in c s.nick s) refl)
+      (op_by c s.nick ones s (member_in c s.nick s) refl)
       ∙ ap (λ name. if is_op_after s.support s.nick ones (member_in c s.nick s) then name else None) same_name
 
 -- what a mode string puts on each of some channels
-abbrev wishes_on : List Ban → ℕ → List Single → Option (List ℕ) → List PutWish
-wishes_on bans now ones channel = flat_map (λ channel. flat_map (set_again bans now channel) ones) (option_to_list channel)
+abbrev wishes_on : Casemapping → List Ban → ℕ → List Single → Option (List ℕ) → List PutWish
+wishes_on mapping bans now ones channel = flat_map (λ channel. flat_map (set_again mapping bans now channel) ones) (option_to_list channel)
 
-none_on : (bans : List Ban) (now : ℕ) (channel : Option (List ℕ)) → wishes_on bans now [] channel ≡ []
-none_on bans now None = refl
-none_on bans now (Some channel) = refl
+none_on : (mapping : Casemapping) (bans : List Ban) (now : ℕ) (channel : Option (List ℕ)) → wishes_on mapping bans now [] channel ≡ []
+none_on mapping bans now None = refl
+none_on mapping bans now (Some channel) = refl
 
-own_then : (who : Source) (s t : ChanState) → t.nick ≡ s.nick → is_own who t ≡ is_own who s
-own_then Nobody s t same = refl
-own_then (Server name) s t same = refl
-own_then (Person nick user host) s t same = ap (is_same nick) same
+own_then : (who : Source) (s t : ChanState) → t.nick ≡ s.nick → t.support ≡ s.support → is_own who t ≡ is_own who s
+own_then Nobody s t same announced = refl
+own_then (Server name) s t same announced = refl
+own_then (Person nick user host) s t same announced =
+    ap (is_same_by (mapping_of t) nick) same ∙ ap (λ (by : Support). is_same_by by.casemapping nick s.nick) announced
 
 -- the channel on which a MODE leaves the bot op
 abbrev pub left_to : List (List ℕ) → ChanState → Option (List ℕ)
@@ -220,21 +227,25 @@ if_none b x y one other = ap (λ z. if b then [] else z) (one ∙ sym other)
 -- the lines of a MODE, told by the channels before it
 pub wishes_before : (bans : List Ban) (now : ℕ) (who : Source) (params : List (List ℕ)) (s : ChanState)
     → mode_wishes bans now who params (steps (mode_items params) s)
-    ≡ (if is_own who s then [] else flat_map (λ channel. flat_map (set_again bans now channel) (modes_in params s)) (option_to_list (left_to params s)))
-wishes_before bans now who [] s = if_none (is_own who s) _ _ (none_on bans now _) (none_on bans now _)
-wishes_before bans now who (c ∷ []) s = if_none (is_own who s) _ _ (none_on bans now _) (none_on bans now _)
+    ≡ (if is_own who s then []
+    else flat_map (λ channel. flat_map (set_again (mapping_of s) bans now channel) (modes_in params s)) (option_to_list (left_to params s)))
+wishes_before bans now who [] s = if_none (is_own who s) _ _ (none_on (mapping_of s) bans now _) (none_on (mapping_of s) bans now _)
+wishes_before bans now who (c ∷ []) s = if_none (is_own who s) _ _ (none_on (mapping_of s) bans now _) (none_on (mapping_of s) bans now _)
 wishes_before bans now who (c ∷ letters ∷ arguments) s =
     let t = after_modes c letters arguments s in
-    ap (λ b. if b then [] else wishes_on bans now (modes_in (c ∷ letters ∷ arguments) t) (guarded_as t c)) (own_then who s t (same_nick c letters arguments s))
-    ∙ ap (λ sup. if is_own who s then [] else wishes_on bans now (singles sup true letters arguments) (guarded_as t c)) (same_support c letters arguments s)
-    ∙ ap (λ channel. if is_own who s then [] else wishes_on bans now (singles s.support true letters arguments) channel) (guarded_then c letters arguments s)
+    let same = same_support c letters arguments s in
+    ap (λ b. if b then [] else wishes_on (mapping_of t) bans now (modes_in (c ∷ letters ∷ arguments) t) (guarded_as t c))
+    (own_then who s t (same_nick c letters arguments s) same)
+    ∙ ap (λ (sup : Support). if is_own who s then [] else wishes_on sup.casemapping bans now (singles sup true letters arguments) (guarded_as t c)) same
+    ∙ ap (λ channel. if is_own who s then [] else wishes_on (mapping_of s) bans now (singles s.support true letters arguments) channel)
+    (guarded_then c letters arguments s)
 
 -- the same, by the parameters' parts
 module _ (bans : List Ban) (now : ℕ) (who : Source) (s : ChanState) (name letters : List ℕ) where
   abbrev wishes_by : List ℕ → List ℕ → List (List ℕ) → List PutWish
   wishes_by c string arguments =
       if is_own who s then []
-      else wishes_on bans now (singles s.support true string arguments)
+      else wishes_on (mapping_of s) bans now (singles s.support true string arguments)
       (if is_op_after s.support s.nick (singles s.support true string arguments) (member_in c s.nick s) then spelled false s c else None)
 
   by_parts : (params : List (List ℕ)) → 2 ≤ length params → name ≡ get_or params 0 name → letters ≡ get_or params 1 letters
@@ -255,17 +266,17 @@ module _ (bans : List Ban) (now : ℕ) (who : Source) (s : ChanState) (name lett
       → mode_wishes bans now who params (steps (mode_items params) s) ≡ []
   no_op_wishes params two is_name is_letters other no_op =
       by_parts params two is_name is_letters ∙ cond-false _ _ _ other
-      ∙ ap (wishes_on bans now (singles s.support true letters (drop 2 params))) (cond-false _ _ _ no_op)
+      ∙ ap (wishes_on (mapping_of s) bans now (singles s.support true letters (drop 2 params))) (cond-false _ _ _ no_op)
 
   pub op_wishes : (params : List (List ℕ)) (channel : List ℕ) → 2 ≤ length params → name ≡ get_or params 0 name
       → letters ≡ get_or params 1 letters → is_own who s ≡ false
       → is_op_after s.support s.nick (singles s.support true letters (drop 2 params)) (member_in name s.nick s) ≡ true
       → Some channel ≡ spelled false s name
       → mode_wishes bans now who params (steps (mode_items params) s)
-      ≡ flat_map (set_again bans now channel) (singles s.support true letters (drop 2 params))
+      ≡ flat_map (set_again (mapping_of s) bans now channel) (singles s.support true letters (drop 2 params))
   op_wishes params channel two is_name is_letters other op held =
       by_parts params two is_name is_letters ∙ cond-false _ _ _ other
-      ∙ ap (wishes_on bans now (singles s.support true letters (drop 2 params))) (cond-true _ _ _ op ∙ sym held)
+      ∙ ap (wishes_on (mapping_of s) bans now (singles s.support true letters (drop 2 params))) (cond-true _ _ _ op ∙ sym held)
       ∙ append-nil _
 
 -- the same by equal parts
@@ -285,7 +296,7 @@ op_left-append : (sup : Support) (nick : List ℕ) (xs ys : List Single) (was : 
     → op_left sup nick (xs ++ ys) was ≡ op_left sup nick ys (op_left sup nick xs was)
 op_left-append sup nick [] ys was = refl
 op_left-append sup nick (x ∷ xs) ys was =
-    op_left-append sup nick xs ys (op_marked (rank_of sup x.letter) (is_same nick x.argument) x.on was)
+    op_left-append sup nick xs ys (op_marked (rank_of sup x.letter) (is_same_by sup.casemapping nick x.argument) x.on was)
 
 pub op_more : (sup : Support) (nick : List ℕ) (on : Bool) (string : List ℕ) (i d : ℕ) (arguments : List (List ℕ)) (was new : Bool)
     → i < length string → let b = get_or string i d in

@@ -3,12 +3,15 @@
 -- The rule gives them by the channels after the message. Here they are given by the channels before it; for a MODE,
 -- the channels after it are computed from these. The other lines read nothing that their message changes. The JOIN of
 -- another person changes neither which channels the bot is on, nor how it spells them, nor where it is op, nor its
--- nick. The lines of other messages read nothing of the channels.
+-- nick, nor the casemapping. The lines of other messages read nothing of the channels.
+--
+-- Nicks, channels, and the masks of bans are compared by the casemapping that the server has announced.
 use Rattle.std.specs.Prelude.{ℕ, ◌==◌, nat_lt, Bool, true, false, not, ◌&&◌, List, [], ◌∷◌, length, map, slice_get}
 use Rattle.std.specs.Prelude.{if◌then◌else◌, codes, drop, Option, Some, None, unwrap_or}
 use Rattle.std.specs.List.{concat, filter_map, flat_map}
 use Rattle.std.specs.Option.{option_to_list}
-use Rattle.rfccase.specs.Casemapping.{is_same}
+use Rattle.rfccase.specs.declared.casemappings.Casemapping.{Casemapping}
+use Rattle.rfccase.specs.Casemapping.{is_same_by}
 use Rattle.ircline.specs.declared.message.Message.{Message}
 use Rattle.ircline.specs.declared.numeric.Numeric.{Numeric}
 use Rattle.ircline.specs.declared.numeric.Numeric.TheVariants.{Welcome, ErroneousNickname, NicknameInUse, NickCollision, UnavailableResource, Other}
@@ -24,7 +27,7 @@ use Rattle.chanstate.specs.Comings.{hostmask, spelled}
 use Rattle.chanstate.specs.Given.{address_of, text_at}
 use Rattle.chanstate.specs.Items.{Single, channels_in, singles}
 use Rattle.chanstate.specs.Steps.{after}
-use Rattle.chanstate.specs.Views.{member_in, is_op}
+use Rattle.chanstate.specs.Views.{mapping_of, member_in, is_op}
 use Rattle.procs.specs.declared.action.PutWish.{PutWish}
 use Rattle.botcore.specs.declared.config.Config.{Config}
 use Rattle.botcore.specs.declared.watched_command.WatchedCommand.{WatchedCommand}
@@ -89,7 +92,7 @@ guarded_if s (Some list) = guarded s list
 abbrev pub watched : Source → List (List ℕ) → ChanState → List (List ℕ)
 watched Nobody params s = []
 watched (a_server name) params s = []
-watched (Person nick user host) params s = if is_same nick s.nick then [] else guarded_if s (slice_get params 0)
+watched (Person nick user host) params s = if is_same_by (mapping_of s) nick s.nick then [] else guarded_if s (slice_get params 0)
 
 -- the reason that a kick gives
 abbrev pub reason_of : Ban → List ℕ
@@ -107,14 +110,16 @@ ban_wishes nick channel (Some ban) =
     wish Mode (codes "KICK " ∷ channel ∷ codes " " ∷ nick ∷ codes " :" ∷ reason_of ban ∷ []) ∷
     []
 
--- what is done about a person on a channel: the first ban that has not ended at this second decides
-abbrev pub kept_off : List Ban → ℕ → List ℕ → List ℕ → List ℕ → List PutWish
-kept_off bans now nick who channel = ban_wishes nick channel (ban_for bans channel who now)
+-- what is done about a person on a channel, by the server's casemapping: the first ban that has not ended at this
+-- second decides
+abbrev pub kept_off : Casemapping → List Ban → ℕ → List ℕ → List ℕ → List ℕ → List PutWish
+kept_off mapping bans now nick who channel = ban_wishes nick channel (ban_for mapping bans channel who now)
 
-abbrev pub barred : List Ban → ℕ → Source → List ℕ → List PutWish
-barred bans now Nobody channel = []
-barred bans now (a_server name) channel = []
-barred bans now (Person nick user host) channel = kept_off bans now nick (hostmask nick (address_of user host)) channel
+abbrev pub barred : Casemapping → List Ban → ℕ → Source → List ℕ → List PutWish
+barred mapping bans now Nobody channel = []
+barred mapping bans now (a_server name) channel = []
+barred mapping bans now (Person nick user host) channel =
+    kept_off mapping bans now nick (hostmask nick (address_of user host)) channel
 
 -- ---- a ban is removed from a channel
 
@@ -122,7 +127,7 @@ barred bans now (Person nick user host) channel = kept_off bans now nick (hostma
 abbrev pub is_own : Source → ChanState → Bool
 is_own Nobody s = false
 is_own (a_server name) s = false
-is_own (Person nick user host) s = is_same nick s.nick
+is_own (Person nick user host) s = is_same_by (mapping_of s) nick s.nick
 
 -- whether a single mode removes a ban: -b
 abbrev pub is_unban : Single → Bool
@@ -132,9 +137,11 @@ abbrev pub set_if : List ℕ → Option Ban → List PutWish
 set_if channel None = []
 set_if channel (Some ban) = ban_wish channel ban ∷ []
 
--- the line for a single mode on a channel: the first sticky ban of a mask that is removed is set again
-abbrev pub set_again : List Ban → ℕ → List ℕ → Single → List PutWish
-set_again bans now channel one = if is_unban one then set_if channel (sticky_ban bans channel one.argument now) else []
+-- the line for a single mode on a channel: the first sticky ban of a mask that is removed is set again, both by the
+-- server's casemapping
+abbrev pub set_again : Casemapping → List Ban → ℕ → List ℕ → Single → List PutWish
+set_again mapping bans now channel one =
+    if is_unban one then set_if channel (sticky_ban mapping bans channel one.argument now) else []
 
 -- the single modes of a MODE
 abbrev pub modes_in : List (List ℕ) → ChanState → List Single
@@ -144,7 +151,7 @@ modes_in params s = singles s.support true (text_at params 1) (drop 2 params)
 abbrev pub mode_wishes : List Ban → ℕ → Source → List (List ℕ) → ChanState → List PutWish
 mode_wishes bans now who params s =
     if is_own who s then []
-    else flat_map (λ channel. flat_map (set_again bans now channel) (modes_in params s))
+    else flat_map (λ channel. flat_map (set_again (mapping_of s) bans now channel) (modes_in params s))
     (option_to_list (guarded_as s (text_at params 0)))
 
 -- ---- any message
@@ -195,7 +202,7 @@ abbrev pub lines_by : WatchedCommand → Config → ChanState → List Ban → O
 lines_by cue.Ping config s bans last welcomed message =
     if_there (slice_get message.params 0) (λ text. pong_wish text ∷ [])
 lines_by cue.Join config s bans last welcomed message =
-    flat_map (barred bans (unwrap_or last 0) (source_of message.prefix))
+    flat_map (barred (mapping_of s) bans (unwrap_or last 0) (source_of message.prefix))
     (watched (source_of message.prefix) message.params s)
 lines_by cue.Mode config s bans last welcomed message =
     mode_wishes bans (unwrap_or last 0) (source_of message.prefix) message.params (after message s)

@@ -6,12 +6,12 @@ use Rattle.sharelink.specs.BotLinks.{BotEnd, new_bot_end, bot_end_after}
 use Rattle.chanstate.specs.declared.state.ChanState.{ChanState}
 use Rattle.chanstate.specs.Views.{connected}
 use Rattle.outqueue.specs.Sending.{Sending, idle}
-use Rattle.procs.specs.Promises.{Promised, code_at}
+use Rattle.procs.specs.Promises.{Promised}
 use Rattle.procs.specs.Seen.{Sight, Seen}
 use Rattle.procs.specs.Tables.{Table, no_binds}
 use Rattle.botcore.specs.declared.config.Config.{Config}
 use Rattle.procs.specs.Dispatching.{Setting}
-use Rattle.procs.specs.Dispatched.{setting_of}
+use Rattle.procs.specs.Dispatched.{setting_for}
 use Rattle.botcore.specs.Links.{link_records}
 
 -- who it is, its end of the link, its binds, oldest first, the channels that it is on, the last second of its clock,
@@ -75,4 +75,4 @@ bot_seen bot = seen_at bot bot.clock
 -- what the calls of a bot depend on, with a store of these names
 abbrev pub bot_setting : Promised → List (List ℕ) → Bot → Setting
 bot_setting promised names bot =
-    setting_of (code_at promised (bot_sight bot)) names (link_records bot.link).users bot.binds.binds bot.config.exclusive
+    setting_for promised names (bot_sight bot) bot.binds.binds bot.config.exclusive

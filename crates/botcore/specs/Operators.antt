@@ -1,6 +1,6 @@
 -- Whether a member of a channel is op after the modes of a MODE, given what the member was before them.
 use Rattle.std.specs.Prelude.{ℕ, Bool, false, List, [], ◌∷◌, Option, None, Some, if◌then◌else◌}
-use Rattle.rfccase.specs.Casemapping.{is_same}
+use Rattle.rfccase.specs.Casemapping.{is_same_by}
 use Rattle.chanstate.specs.declared.member.Mark.{Mark}
 use Rattle.chanstate.specs.declared.member.Mark.TheVariants.{Op, Voice, HalfOp}
 use Rattle.chanstate.specs.declared.member.Member.{Member}
@@ -14,10 +14,10 @@ op_marked (Some Op) mine on was = if mine then on else was
 op_marked (Some Voice) mine on was = was
 op_marked (Some HalfOp) mine on was = was
 
--- after single modes, in their order
+-- after single modes, in their order; nicks are compared by the server's casemapping
 abbrev pub op_left : Support → List ℕ → List Single → Bool → Bool
 op_left s nick [] was = was
-op_left s nick (one ∷ more) was = op_left s nick more (op_marked (rank_of s one.letter) (is_same nick one.argument) one.on was)
+op_left s nick (one ∷ more) was = op_left s nick more (op_marked (rank_of s one.letter) (is_same_by s.casemapping nick one.argument) one.on was)
 
 -- the same for a person, on the channel or not
 abbrev pub is_op_after : Support → List ℕ → List Single → Option Member → Bool

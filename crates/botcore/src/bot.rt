@@ -6,6 +6,7 @@ use bottimers::{Clock, Timers};
 use bytejournal::Disks;
 use disks::Disk;
 use procs::BindTable;
+use rfccase::Casemapping;
 use sharelink::{BotLink, HeldSnapshot};
 use std::marker::Model;
 use userfile::Userfile;
@@ -78,6 +79,7 @@ impl<D: Disk> Bot<D> {
     ghost use Rattle.sharelink.specs.BotLinks.{MayLeave};
     ghost use Rattle.sharelink.specs.Telling.{end_last_request, end_last_reply, end_held};
     ghost use Rattle.botcore.specs.Links.{ask_count, link_records, link_version};
+    ghost use Rattle.chanstate.specs.Views.{is_op, mapping_of, member_in};
 
     /// Returns the configuration with which the bot was made.
     pub fn config(&self) -> &Config
@@ -150,6 +152,21 @@ impl<D: Disk> Bot<D> {
         ensures { result.now ≡ self.now.channels.nick }
     {
         self.channels.current().own_nick()
+    }
+
+    /// Returns how its server compares names: by RFC 1459 if it has announced nothing.
+    pub fn casemapping(&self) -> Casemapping
+        ensures { result ≡ mapping_of self.now.channels }
+    {
+        self.channels.current().casemapping()
+    }
+
+    /// Returns whether it is an operator of `channel`, as far as its server has said.
+    pub fn is_op_on(&self, channel: &[u8]) -> bool
+        ensures { result ≡ is_op (member_in channel.now self.now.channels.nick self.now.channels) }
+    {
+        let state = self.channels.current();
+        state.is_op(channel, state.own_nick())
     }
 
     /// States what a crash leaves at this moment, between two steps. It does nothing.

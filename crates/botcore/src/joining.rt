@@ -3,11 +3,12 @@ ghost use Rattle.std.specs.Prelude.{◌≡◌, ◌≢◌, ◌∷◌, ◌++◌, [
 ghost use Rattle.std.specs.Prelude.{IfOk, OnOk, IsOk};
 ghost use Rattle.std.specs.List.{filter_map, flat_map};
 ghost use Rattle.std.specs.Option.{option_copied, option_to_list};
-ghost use Rattle.rfccase.specs.Casemapping.{is_same};
+ghost use Rattle.rfccase.specs.Casemapping.{is_same_by};
 ghost use Rattle.rfccase.specs.Channels.{is_channel_name};
 ghost use Rattle.ircline.specs.View.{seen};
 ghost use Rattle.chanstate.specs.Comings.{hostmask};
 ghost use Rattle.chanstate.specs.Given.{address_of};
+ghost use Rattle.chanstate.specs.Views.{mapping_of};
 ghost use Rattle.botcore.specs.Automatic.{guarded_as, guarded, watched, reason_of, ban_wishes, kept_off, barred};
 
 use crate::wish::{ban_wish, wish};
@@ -16,7 +17,7 @@ use chanstate::ChanState;
 use ircline::{Person, Source};
 use outqueue::Queue;
 use procs::PutWish;
-use rfccase::{is_channel_name, same};
+use rfccase::{Casemapping, is_channel_name, same_by};
 use std::alloc::Global;
 use userfile::{Ban, Userfile};
 
@@ -26,6 +27,8 @@ struct Newcomer<'a> {
     nick: &'a [u8],
     // nick!user@host
     who: &'a [u8],
+    // How the server compares names.
+    mapping: Casemapping,
     userfile: &'a Userfile,
     second: u64,
 }
@@ -41,7 +44,7 @@ pub(crate) fn on_join(
     second: u64,
 ) -> Result<Vec<PutWish>, NoMemory>
     ensures lines { IfOk result (λ wishes. wishes.items
-        ≡ flat_map (barred userfile.now.bans second (seen from.entry))
+        ≡ flat_map (barred (mapping_of state.now) userfile.now.bans second (seen from.entry))
         (watched (seen from.entry) params.now state.now)) }
     ensures needs_none { watched (seen from.entry) params.now state.now ≡ [] → IsOk result }
 {
@@ -58,6 +61,7 @@ pub(crate) fn on_join(
     let newcomer = Newcomer {
         nick: person.nick,
         who: who.as_bytes(),
+        mapping: state.casemapping(),
         userfile,
         second,
     };
@@ -66,9 +70,9 @@ pub(crate) fn on_join(
 
 // Whether a nick is the bot's own.
 fn is_own(state: &ChanState, nick: &[u8]) -> bool
-    ensures { result ≡ is_same nick.now state.now.nick }
+    ensures { result ≡ is_same_by (mapping_of state.now) nick.now state.now.nick }
 {
-    same(nick, state.own_nick())
+    same_by(state.casemapping(), nick, state.own_nick())
 }
 
 // Returns a piece of a list as the bot spells it, if it names a channel on which the bot is op.
@@ -122,7 +126,7 @@ impl Newcomer<'_> {
         list: &[u8],
     ) -> Result<Vec<PutWish>, NoMemory>
         ensures { IfOk result (λ wishes. wishes.items ≡ flat_map
-            (kept_off self.now.userfile.now.bans self.now.second self.now.nick.now self.now.who.now)
+            (kept_off self.now.mapping self.now.userfile.now.bans self.now.second self.now.nick.now self.now.who.now)
             (guarded state.now list.now)) }
     {
         let mut wishes = Vec::new(alloc);
@@ -140,13 +144,16 @@ impl Newcomer<'_> {
         channel: Option<&[u8]>,
     ) -> Result<(), NoMemory>
         ensures { OnOk result (wishes.new.items ≡ wishes.old.items ++ flat_map
-            (kept_off self.now.userfile.now.bans self.now.second self.now.nick.now self.now.who.now)
+            (kept_off self.now.mapping self.now.userfile.now.bans self.now.second self.now.nick.now self.now.who.now)
             (option_to_list (option_copied channel.entry))) }
     {
         let Some(channel) = channel else {
             return Ok(());
         };
-        match self.userfile.ban_for(channel, self.who, self.second) {
+        match self
+            .userfile
+            .ban_for(self.mapping, channel, self.who, self.second)
+        {
             Some(ban) => push_ban(wishes, alloc, self.nick, channel, ban),
             None => Ok(()),
         }

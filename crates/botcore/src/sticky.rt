@@ -15,7 +15,7 @@ use chanstate::modes::{argument, is_mode, mark_in, next_arguments, next_sign};
 use chanstate::{ChanState, Mark, Support};
 use ircline::Source;
 use procs::PutWish;
-use rfccase::same;
+use rfccase::{Casemapping, same_by};
 use std::alloc::Global;
 use userfile::Userfile;
 
@@ -31,6 +31,8 @@ struct Modes<'a> {
 #[derive(Clone, Copy)]
 struct Place<'a> {
     channel: &'a [u8],
+    // How the server compares names.
+    mapping: Casemapping,
     userfile: &'a Userfile,
     second: u64,
 }
@@ -69,6 +71,7 @@ pub(crate) fn on_mode(
     };
     let place = Place {
         channel,
+        mapping: state.casemapping(),
         userfile,
         second,
     };
@@ -82,7 +85,7 @@ fn is_own(state: &ChanState, from: Source<'_>) -> bool
     match from {
         Source::None => false,
         Source::Server(_) => false,
-        Source::Person(person) => same(person.nick, state.own_nick()),
+        Source::Person(person) => same_by(state.casemapping(), person.nick, state.own_nick()),
     }
 }
 
@@ -118,10 +121,10 @@ impl Modes<'_> {
     // Returns the lines that set the sticky bans again that these modes remove from a channel.
     fn bring_back(&self, alloc: Global, place: Place<'_>) -> Result<Vec<PutWish>, NoMemory>
         ensures lines { IfOk result (λ wishes. wishes.items ≡ flat_map
-            (set_again place.entry.userfile.now.bans place.entry.second place.entry.channel.now)
+            (set_again place.entry.mapping place.entry.userfile.now.bans place.entry.second place.entry.channel.now)
             (singles self.now.support.now true self.now.letters.now self.now.arguments.now)) }
         ensures needs_none { flat_map
-            (set_again place.entry.userfile.now.bans place.entry.second place.entry.channel.now)
+            (set_again place.entry.mapping place.entry.userfile.now.bans place.entry.second place.entry.channel.now)
             (singles self.now.support.now true self.now.letters.now self.now.arguments.now) ≡ [] → IsOk result }
     {
         let mut wishes = Vec::new(alloc);
@@ -141,7 +144,8 @@ fn op_at(support: &Support, nick: &[u8], was: bool, on: bool, byte: u8, argument
     ensures { result ≡ op_left support.now nick.now (option_to_list (single_at support.now on byte arguments.now)) was }
 {
     let marks_op = matches!(mark_in(support, byte), Some(Mark::Op));
-    if is_mode(byte) && marks_op && same(nick, argument(support, on, byte, arguments)) {
+    let argument = argument(support, on, byte, arguments);
+    if is_mode(byte) && marks_op && same_by(support.casemapping(), nick, argument) {
         on
     } else {
         was
@@ -160,17 +164,20 @@ impl Place<'_> {
         arguments: &[Text],
     ) -> Result<(), NoMemory>
         ensures more { OnOk result (wishes.new.items ≡ wishes.old.items ++ flat_map
-            (set_again self.now.userfile.now.bans self.now.second self.now.channel.now)
+            (set_again self.now.mapping self.now.userfile.now.bans self.now.second self.now.channel.now)
             (option_to_list (single_at support.now on byte arguments.now))) }
         ensures needs_none { flat_map
-            (set_again self.now.userfile.now.bans self.now.second self.now.channel.now)
+            (set_again self.now.mapping self.now.userfile.now.bans self.now.second self.now.channel.now)
             (option_to_list (single_at support.now on byte arguments.now)) ≡ [] → IsOk result }
     {
         if on || byte != b'b' {
             return Ok(());
         }
         let mask = argument(support, on, byte, arguments);
-        match self.userfile.sticky_ban(self.channel, mask, self.second) {
+        match self
+            .userfile
+            .sticky_ban(self.mapping, self.channel, mask, self.second)
+        {
             Some(ban) => {
                 wishes.push(ban_wish(alloc, self.channel, ban)?)?;
                 Ok(())

@@ -1,4 +1,3 @@
-mod Adding
 pub mod TakingLemmas
 mod OwnLemmas
 mod QuietLemmas

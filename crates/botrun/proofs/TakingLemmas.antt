@@ -9,10 +9,11 @@ use Rattle.turns.specs.declared.turn.Heard.{Heard}
 use Rattle.turns.specs.declared.turn.Told.{Told}
 use Rattle.turns.specs.Turns.{Turns}
 use Rattle.net.specs.Connections.{Talk}
-use Rattle.botrun.specs.declared.outcome.Outcome.{Outcome}
+use Rattle.administrators.specs.declared.change_outcome.ChangeOutcome.{ChangeOutcome}
+use Rattle.upkeep.specs.Spaces.{admitted}
 use Rattle.botrun.specs.Outcomes.{outcome_of}
 use Rattle.botrun.specs.Passing.{told_of}
-use Rattle.botrun.specs.Taking.{admitted, GoesOn, HearsNothing, TakesChanges, TakesQuietTurn, TakesQuietTurns}
+use Rattle.botrun.specs.Taking.{GoesOn, HearsNothing, TakesChanges, TakesQuietTurn, TakesQuietTurns}
 
 -- ---- turns in which nothing is heard
 
@@ -58,7 +59,7 @@ goes_on_from promised names old start mid new held line between after same kept 
 
 -- a turn whose reports are passed on
 pub takes_changes : (promised : Promised) (names : List (List ℕ)) (old : Bot) (held : List ℕ) (changes : List Change) (compacts : Bool)
-    (new : Bot) (after : List ℕ) (outcome : Outcome) (talk new_talk : Option Talk) (heard : Heard) (told : Told) (mid : Bot) (between : List ℕ)
+    (new : Bot) (after : List ℕ) (outcome : ChangeOutcome) (talk new_talk : Option Talk) (heard : Heard) (told : Told) (mid : Bot) (between : List ℕ)
     → Turns promised names old held heard told mid between → new ≡ mid → after ≡ between
     → HearsNothing heard → heard.changes.items ≡ changes → heard.compact ≡ compacts → heard.pump ≡ not compacts
     → outcome ≡ outcome_of told.reports → new_talk ≡ told_of told.reports talk
@@ -80,7 +81,7 @@ takes_changes promised names old held changes compacts new after outcome talk ne
     }
 
 pub quiet_turn : (promised : Promised) (names : List (List ℕ)) (old : Bot) (held : List ℕ) (changes : List Change) (compacts : Bool)
-    (new : Bot) (after : List ℕ) (outcome : Outcome) (talk new_talk : Option Talk)
+    (new : Bot) (after : List ℕ) (outcome : ChangeOutcome) (talk new_talk : Option Talk)
     → TakesChanges promised names old held changes compacts new after outcome talk new_talk → TakesQuietTurn promised names old held new after
 quiet_turn promised names old held changes compacts new after outcome talk new_talk taken =
     record { heard = taken.heard; told = taken.takes.told; quiet = taken.quiet; turn = taken.takes.turn }

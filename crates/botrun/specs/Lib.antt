@@ -1,17 +1,7 @@
-pub mod RecordSums
 pub mod Askers
-pub mod Bases
-pub mod Ending
-pub mod KeptSums
 pub mod Outcomes
 pub mod Owns
 pub mod Passing
-pub mod Refusing
-pub mod Reloading
 pub mod Renewals
-pub mod Spaces
-pub mod Stations
-pub mod Sums
 pub mod Taking
-pub mod Warnings
 pub mod Watched

@@ -7,17 +7,18 @@ use Rattle.botcore.specs.Bots.{Bot}
 use Rattle.turns.specs.declared.turn.Heard.{Heard}
 use Rattle.turns.specs.declared.turn.Told.{Told}
 use Rattle.turns.specs.Turns.{Turns}
-use Rattle.botrun.specs.declared.outcome.Outcome.{Outcome}
+use Rattle.administrators.specs.declared.change_outcome.ChangeOutcome.{ChangeOutcome}
 use Rattle.peers.specs.declared.links.Links.{Links}
 use Rattle.peers.specs.Tells.{TakesPackets}
 use Rattle.net.specs.Connections.{Talk}
+use Rattle.upkeep.specs.Spaces.{admitted}
 use Rattle.botrun.specs.Outcomes.{outcome_of}
 use Rattle.botrun.specs.Passing.{told_of}
 
 -- A turn's steps lead from one bot to the other, and say this about changes; only their lines are queued for the
 -- server.
 pub record TakesTurn (promised : Promised)
-    (names : List (List ℕ)) (old : Bot) (held : List ℕ) (heard : Heard) (new : Bot) (after : List ℕ) (outcome : Outcome)
+    (names : List (List ℕ)) (old : Bot) (held : List ℕ) (heard : Heard) (new : Bot) (after : List ℕ) (outcome : ChangeOutcome)
     (talk new_talk : Option Talk) : Type 0 where
   pub told : Told
   pub turn : Turns promised names old held heard told new after
@@ -31,7 +32,7 @@ HearsNothing heard = (heard.connected ≡ false) × (heard.bytes.items ≡ []) �
 -- The same for a turn in which nothing is heard and these changes are asked for. It compacts, or else it pumps.
 pub record TakesChanges (promised : Promised)
     (names : List (List ℕ)) (old : Bot) (held : List ℕ) (changes : List Change) (compacts : Bool) (new : Bot) (after : List ℕ)
-    (outcome : Outcome) (talk new_talk : Option Talk) : Type 0 where
+    (outcome : ChangeOutcome) (talk new_talk : Option Talk) : Type 0 where
   pub heard : Heard
   pub quiet : HearsNothing heard
   pub asked : heard.changes.items ≡ changes
@@ -61,11 +62,6 @@ pub record GoesOn (promised : Promised)
     (names : List (List ℕ)) (old : Bot) (held : List ℕ) (new : Bot) (after : List ℕ) : Type 0 where
   pub count : ℕ
   pub turns : TakesQuietTurns count promised names old held new after
-
--- with room for changes a turn takes all of these packets, and without none: they are dropped
-abbrev pub admitted : Bool → List Packet → List Packet
-admitted true packets = packets
-admitted false packets = []
 
 -- A turn takes exactly these bytes from the server, and the packets that are taken from these connections: none of them
 -- if there is no room. The bot goes on from that turn by turns in which nothing is heard.

@@ -1,22 +1,16 @@
-// What a turn's reports mean for the other bots, and for those who asked for changes.
+// What a turn's reports mean for the other bots, and for those who ask for changes.
 ghost use Rattle.std.specs.Prelude.{◌≡◌, ◌++◌, OnOk};
 ghost use Rattle.sharelink.specs.Shapes.{AreGood};
 ghost use Rattle.watching.specs.Acts.{sent_by};
 ghost use Rattle.watching.specs.Following.{LetsSend, after_sends};
-ghost use Rattle.botrun.specs.Askers.{admin_if, noted, proc_askers, settled};
+ghost use Rattle.botrun.specs.Askers.{noted, proc_askers};
 
-use crate::admins::Admins;
-use crate::answers::of_change;
-use crate::asks::Asker;
-use crate::entry::Entry;
-use crate::netting::requests_in;
-use crate::noticing::notice;
 use crate::others::Others;
-use crate::outcome::Outcome;
+use crate::proc_asks::put_procs;
+use administrators::{LogEntry, requests_in};
 use botcore::{End, Note, Refusal, Report};
 use bytetext::NoMemory;
 use net::Log;
-use serverlink::IrcConnection;
 use sharelink::{LinkFault, Outgoing};
 use std::alloc::Global;
 use watching::Watcher;
@@ -66,7 +60,7 @@ impl Others {
     {
         self.send_all(rt.alloc(), report.packets.as_slice(), now, watcher)?;
         let count = self.asks.len();
-        self.asks.put_procs(rt.alloc(), report)?;
+        put_procs(&mut self.asks, rt.alloc(), report)?;
         if self.asks.len() > count {
             self.mail.links.ask();
         }
@@ -77,83 +71,17 @@ impl Others {
         // Whether more changes wait than are out.
         let more = self.asks.len() > requests_in(report.packets.as_slice());
         self.mail.links.note(note, more);
-        if let sharelink::LinkNote::Queued = note {
-            let asker = admin_if(self.asks.asker);
-            self.asks.put(asker)?;
-        }
-        Ok(())
-    }
-
-    // Logs the `outcome` of a step: at a leaf, of one that `settles` changes. If it settles changes, and one was accepted
-    // or refused, answers whoever asked for the oldest.
-    pub(crate) fn answer<R: AllocGlobal>(
-        &mut self,
-        rt: &R,
-        log: &mut Log,
-        admins: &mut Admins,
-        uplink: &mut IrcConnection,
-        outcome: Outcome,
-        settles: bool,
-        now: u64,
-    ) -> Result<(), NoMemory>
-        ensures asks { OnOk result (self.new.asks.askers.items
-            ≡ settled settles outcome self.old.asks.askers.items) }
-        ensures asker { OnOk result (self.new.asks.asker ≡ self.old.asks.asker) }
-        ensures mail { self.new.mail ≡ self.old.mail }
-        ensures server { uplink.new.session ≡ uplink.old.session }
-    {
-        let is_obeying = self.asks.asker.is_some();
-        if settles || !self.mail.links.is_leaf() {
-            log_outcome(log, outcome, is_obeying, now);
-        }
-        if !settles {
-            return Ok(());
-        }
-        match outcome {
-            Outcome::Nothing | Outcome::Barred(_) => return Ok(()),
-            Outcome::Accepted(_) | Outcome::Refused(_) => {}
-        }
-        match self.asks.settle() {
-            Asker::Nobody => Ok(()),
-            Asker::Admin(number) => {
-                let answer = of_change(rt.alloc(), outcome)?;
-                admins.tell(number, answer.as_slice())
-            }
-            Asker::Person(nick) => notice(rt.alloc(), uplink, nick.as_bytes(), outcome),
-        }
-    }
-}
-
-// Logs that a change was accepted or refused. `is_obeying` says whether a leaf executes an admin's command: then it does
-// not log what its link refuses at once, since the answer to the command says so. A hub logs that too, and so does a bot
-// that is alone.
-fn log_outcome(log: &mut Log, outcome: Outcome, is_obeying: bool, now: u64) {
-    match outcome {
-        Outcome::Nothing => {}
-        Outcome::Barred(fault) => {
-            if !is_obeying {
-                log.note(now, &Entry::NotDone(fault.code()));
-            }
-        }
-        Outcome::Accepted(number) => log.note(now, &Entry::Accepted(number)),
-        Outcome::Refused(fault) => log.note(now, &Entry::NotDone(fault.code())),
+        self.asks.note(note)
     }
 }
 
 // Logs that a leaf's hello is refused since its journal has another layout.
 fn log_layout(log: &mut Log, end: End, now: u64) {
     match end {
-        End::Refused(Refusal::Link(LinkFault::OtherLayout)) => log.note(now, &Entry::OtherLayout),
+        End::Refused(Refusal::Link(LinkFault::OtherLayout)) => log.note(
+            now,
+            &LogEntry::OtherLayout,
+        ),
         End::Refused(_) | End::Done | End::NoMemory => {}
-    }
-}
-
-// The admin whose command is being executed, if there is one.
-fn admin_if(asker: Option<u64>) -> Asker
-    ensures { result ≡ admin_if asker }
-{
-    match asker {
-        Some(number) => Asker::Admin(number),
-        None => Asker::Nobody,
     }
 }

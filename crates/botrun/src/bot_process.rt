@@ -4,31 +4,22 @@ ghost use Rattle.bytetext.specs.declared.moment.TheConstants.{MOMENTS_END};
 ghost use Rattle.watching.specs.Acts.{Forgets, MayBegin, NumbersAbove};
 ghost use Rattle.watching.specs.Following.{Allows, HasBegun, IsAt, IsReported, IsSettled, IsUp, IsWatched, Lets};
 ghost use Rattle.botrun.specs.Renewals.{HasNoRecords};
-ghost use Rattle.botrun.specs.Stations.{IsKnownWhereWanted, IsLinkedAs};
+ghost use Rattle.upkeep.specs.Stations.{IsKnownWhereWanted, IsLinkedAs};
 ghost use Rattle.botrun.specs.Watched.{station_of};
 
-use crate::account::{account_of, uplink_of};
-use crate::admins::Admins;
-use crate::bases::Bases;
-use crate::checking::check;
-use crate::ending::{RunError, of_folder};
-use crate::entry::Entry;
-use crate::kept_sum::KeptSum;
-use crate::log_opening::log_of;
-use crate::netting::{is_nets, links_of, requests_in, secret_of};
 use crate::others::Others;
+use crate::page_view::serve;
 use crate::process::{Process, Turned};
-use crate::reloading::Reloading;
-use crate::seconds::Seconds;
-use crate::space::Space;
-use crate::starting::{bind_all, bot_of, folder_of, forget_journal};
-use crate::sums::Sums;
+use crate::starting::{bind_all, bot_of};
+use administrators::{LogEntry, requests_in};
 use botcore::{BotEvent, End};
 use botfolder::BotFolder;
 use ircline::LineReader;
 use net::{Log, Timeline, Watch};
+use pageserver::PageServer;
 use peers::Secret;
 use procs::{ProcStore, Promise, Run};
+use recordsums::{KeptSum, Sums};
 use settings::Settings;
 use std::alloc::Global;
 use std::fs::File;
@@ -37,6 +28,10 @@ use std::random::RandomSource;
 use std::rt::Files;
 use std::time::Clock;
 use turns::watched_step;
+use upkeep::{
+    Bases, Reloading, RunError, account_of, check, door_of, folder_of, forget_journal, links_of,
+    log_of, page_of, secret_of, space_of, uplink_of, wait, warn,
+};
 use watching::Watcher;
 
 // The most events that one wait reports.
@@ -47,8 +42,8 @@ const EVENTS: usize = 64;
 ///
 /// # Errors
 /// - Before anything is opened: the errors of [`check`], then `Secret` and `Account`.
-/// - Before anybody is connected or let in: `Folder`, `System`, `Config`, `OtherJournal`, `GenerationsSpent`, `NoNet`,
-///   `NoMade`, `BadDoubt`, `Book`, `Listen` and `Control`; once more when a leaf begins again.
+/// - Before anybody is connected or let in: `Folder`, `System`, `Page`, `Config`, `OtherJournal`, `GenerationsSpent`,
+///   `NoNet`, `NoMade`, `BadDoubt`, `Book`, `Listen` and `Control`; once more when a leaf begins again.
 /// - Later: `DiskFailed` and `System`, and `Folder` if a leaf cannot save the number of its net or forget its journal, or
 ///   a hub cannot write its book.
 /// - At any time: `NoMemory` if an allocation fails.
@@ -107,6 +102,7 @@ where
 {
     let mut folder = folder_of(rt, settings)?;
     let mut watch = Watch::new(rt, EVENTS)?;
+    let mut page = page_of(rt, &watch, settings)?;
     let mut timeline = Timeline::begin(rt.monotonic()?.as_secs());
     warn(log, settings, secret, timeline.read_clocks(rt)?);
     let mut last = 0;
@@ -115,13 +111,14 @@ where
         bind_all(rt.alloc(), &mut process.bot, store, settings, watcher)?;
         let up = timeline.read_clocks(rt)?;
         look_back(rt.alloc(), &mut process, store, up, watcher)?;
-        log.note(up, &Entry::Up(process.bot.version()));
+        log.note(up, &LogEntry::Up(process.bot.version()));
         process.space.tell_start(log, up);
         match make_turns(
             rt,
             log,
             &mut watch,
             &mut timeline,
+            &mut page,
             &mut process,
             store,
             settings,
@@ -156,21 +153,14 @@ fn give_up<R: AllocGlobal + Files<File = File>, W: Watcher>(
     Ok(folder)
 }
 
-// Warns in the log if a leaf knows the secret of its whole net.
-fn warn(log: &mut Log, settings: &Settings, secret: Option<Secret>, now: u64) {
-    let number = settings.station.number;
-    if number > 0 && is_nets(secret) {
-        log.note(now, &Entry::KnowsNet(number));
-    }
-}
-
-// Makes turns until an admin ends the bot. Writes the log at the end of each turn. If a leaf has to begin again, returns
-// the number above which its requests are to be numbered.
+// Makes turns until an admin ends the bot. Serves the page and writes the log at the end of each turn. If a leaf has to
+// begin again, returns the number above which its requests are to be numbered.
 fn make_turns<R, P: Promise, B: Run, W: Watcher>(
     rt: &R,
     log: &mut Log,
     watch: &mut Watch,
     timeline: &mut Timeline,
+    page: &mut Option<PageServer>,
     process: &mut Process,
     store: &ProcStore<P, B>,
     settings: &mut Settings,
@@ -189,22 +179,24 @@ where
         IsAt P.promised store.now (station_of settings.new) W.may (W.past watcher.new) process.new.bot) }
 {
     let mut turned = Turned::Busy;
+    let mut is_serving = false;
     for _turn in 0..u64::MAX {
         process.reloading.settle(settings);
         log.flush(rt);
         watcher.waits();
-        let seconds = wait(rt, watch, timeline, turned)?;
+        let seconds = wait(rt, watch, timeline, turned == Turned::Rests && !is_serving)?;
         let is_awake = turned == Turned::Busy || !watch.tokens().is_empty();
         process.space.look_if_due(log, is_awake, seconds);
         turned = process.turn(rt, log, watch, store, settings, seconds, watcher)?;
+        is_serving = serve(rt.alloc(), page, watch, log, process, settings, seconds);
         match turned {
             Turned::Busy | Turned::Rests => {}
             Turned::BeginsAbove(last) => {
-                log.note(seconds.wall, &Entry::BeginsAbove(last));
+                log.note(seconds.wall, &LogEntry::BeginsAbove(last));
                 return Ok(Some(last));
             }
             Turned::Ended => {
-                log.note(seconds.wall, &Entry::Ended);
+                log.note(seconds.wall, &LogEntry::Ended);
                 break;
             }
         }
@@ -264,31 +256,6 @@ where
     })
 }
 
-// Opens the door for admins.
-fn door_of<R>(rt: &R, watch: &Watch, folder: &BotFolder) -> Result<Admins, RunError>
-where
-    R: AllocGlobal + Net + Files<File = File>,
-{
-    if let Err(error) = folder.clear_control(rt) {
-        return Err(of_folder(error));
-    }
-    match Admins::open(rt, watch.registry(), folder.control()) {
-        Ok(admins) => Ok(admins),
-        Err(fault) => Err(RunError::Control(fault)),
-    }
-}
-
-// Sets space aside on the disk of the folder.
-fn space_of<R: AllocGlobal + Files<File = File>>(
-    rt: &R,
-    folder: &BotFolder,
-) -> Result<Space, RunError> {
-    match folder.room(rt) {
-        Ok(room) => Ok(Space::new(room)),
-        Err(error) => Err(of_folder(error)),
-    }
-}
-
 // At a leaf, notes the changes of an earlier run that are out: they are answered before all that are asked for in this
 // one. A pump sends each of them again, and nothing else waits yet.
 fn look_back<P: Promise, B: Run, W: Watcher>(
@@ -313,30 +280,4 @@ fn look_back<P: Promise, B: Run, W: Watcher>(
         End::NoMemory => Err(RunError::NoMemory),
         End::Done | End::Refused(_) => Ok(process.others.asks.put_many(requests_in(packets))?),
     }
-}
-
-// Waits until there may be something to do: not at all if there may be more at once, and at most until the next second.
-// Returns what the clocks show after the wait.
-fn wait<R: Clock>(
-    rt: &R,
-    watch: &mut Watch,
-    timeline: &mut Timeline,
-    turned: Turned,
-) -> Result<Seconds, RunError>
-    ensures moment { IfOk result (λ seconds. seconds.wall < MOMENTS_END) }
-{
-    let most = match turned {
-        Turned::Busy | Turned::BeginsAbove(_) | Turned::Ended => 0,
-        Turned::Rests => rest_of_second(rt)?,
-    };
-    watch.wait(most)?;
-    let wall = timeline.read_clocks(rt)?;
-    let steady = rt.monotonic()?.as_secs();
-    Ok(Seconds { wall, steady })
-}
-
-// The milliseconds that are left of this second, at least 1.
-fn rest_of_second<R: Clock>(rt: &R) -> Result<u64, RunError> {
-    let passed = u64::from(rt.since_1970()?.subsec_millis());
-    Ok(1_000u64.saturating_sub(passed).max(1))
 }

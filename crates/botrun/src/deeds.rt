@@ -1,30 +1,26 @@
-// What a bot does for an admin, and how it answers.
-ghost use Rattle.std.specs.Prelude.{◌≡◌, ◌<◌, OnOk};
-ghost use Rattle.bytetext.specs.declared.moment.TheConstants.{MOMENTS_END};
+// What a bot does for an admin by its steps, what it shows, and how it answers.
+ghost use Rattle.std.specs.Prelude.{IfOk, OnOk};
+ghost use Rattle.recordjson.specs.Words.{IsPlainLine};
 ghost use Rattle.watching.specs.Following.{IsUp, IsWatched, StepsQuietly};
 ghost use Rattle.botrun.specs.Watched.{IsOfBinds, station_of};
 
-use crate::answers::{looseness_in, of_asked, of_bind, of_change, of_no_bind};
-use crate::checking::{new_bind, old_bind};
-use crate::ending::RunError;
-use crate::outcome::Outcome;
+use crate::binding::{bind_answer, new_bind, old_bind};
 use crate::process::Process;
+use administrators::{ChangeOutcome, asked_answer, change_answer, looseness_in};
 use botcore::{Bot, BotEvent};
-use bytetext::{NoMemory, Text};
+use bytetext::NoMemory;
 use control::UnbindWords;
 use disks::FileDisk;
 use net::Log;
 use procs::{ProcStore, Promise, Run};
+use recordjson::json_of;
 use recordtext::put_records;
-use serverlink::{IrcConnection, MAX_LINE, Why};
 use settings::{BindWords, Settings};
 use std::alloc::Global;
 use turns::watched_step;
+use upkeep::{RunError, no_bind_answer};
 use userfile::Change;
 use watching::Watcher;
-
-// At the end, the process waits at most this many seconds for what is still unsent.
-const LAST_SECONDS: u64 = 2;
 
 impl Process {
     // Asks for a change. At a leaf the hub answers it later.
@@ -47,7 +43,7 @@ impl Process {
         let looseness = looseness_in(&change);
         let changes = vec![in rt.alloc(); change]?;
         let outcome = self.take(rt, log, store, settings, changes, false, now, watcher)?;
-        Ok(of_asked(rt.alloc(), outcome, looseness)?)
+        Ok(asked_answer(rt.alloc(), outcome, looseness)?)
     }
 
     pub(crate) fn compact_now<R: AllocGlobal, P: Promise, B: Run, W: Watcher>(
@@ -66,8 +62,8 @@ impl Process {
             self.new.others.mail.account.told) }
     {
         match self.compact(rt, log, store, settings, now, watcher)? {
-            Outcome::Nothing => Ok(Vec::from_slice(rt.alloc(), b"compacted\n")?),
-            outcome => Ok(of_change(rt.alloc(), outcome)?),
+            ChangeOutcome::Nothing => Ok(Vec::from_slice(rt.alloc(), b"compacted\n")?),
+            outcome => Ok(change_answer(rt.alloc(), outcome)?),
         }
     }
 }
@@ -90,6 +86,22 @@ pub(crate) fn show(
     Ok(text)
 }
 
+// The version and the records of `bot`, as a line of JSON.
+pub(crate) fn show_json(
+    alloc: Global,
+    bot: &Bot<FileDisk>,
+    settings: &Settings,
+) -> Result<Vec<u8>, NoMemory>
+    ensures plain { IfOk result (λ text. IsPlainLine text.items) }
+{
+    json_of(
+        alloc,
+        settings.station.number,
+        bot.version(),
+        bot.userfile(),
+    )
+}
+
 // Makes a bind of `bot`, which lasts until the bot ends.
 pub(crate) fn bind<P: Promise, B: Run, W: Watcher>(
     alloc: Global,
@@ -103,7 +115,7 @@ pub(crate) fn bind<P: Promise, B: Run, W: Watcher>(
 {
     match new_bind(alloc, store, words) {
         Ok(asked) => step_bind(alloc, bot, store, BotEvent::Bind(asked), watcher),
-        Err(why) => Ok(of_no_bind(alloc, why)?),
+        Err(why) => Ok(no_bind_answer(alloc, why)?),
     }
 }
 
@@ -120,7 +132,7 @@ pub(crate) fn unbind<P: Promise, B: Run, W: Watcher>(
 {
     match old_bind(words) {
         Ok(gone) => step_bind(alloc, bot, store, BotEvent::Unbind(gone), watcher),
-        Err(why) => Ok(of_no_bind(alloc, why)?),
+        Err(why) => Ok(no_bind_answer(alloc, why)?),
     }
 }
 
@@ -137,74 +149,5 @@ fn step_bind<P: Promise, B: Run, W: Watcher>(
     ensures { StepsQuietly P.promised store.now W.may (W.past watcher.old) (W.past watcher.new) bot.new }
 {
     let report = watched_step(alloc, bot, store, event, watcher);
-    Ok(of_bind(alloc, &report)?)
-}
-
-// Queues a line for the server, after the lines before it.
-pub(crate) fn say(
-    alloc: Global,
-    uplink: &mut IrcConnection,
-    line: Text,
-) -> Result<Vec<u8>, RunError> {
-    if uplink.session().is_none() {
-        return Ok(Vec::from_slice(
-            alloc,
-            b"refused no server: wait until the bot is connected\n",
-        )?);
-    }
-    if !uplink.own.has_room() {
-        return Ok(Vec::from_slice(alloc, b"refused 64 lines wait: say it later\n")?);
-    }
-    uplink.own.put(line)?;
-    Ok(Vec::from_slice(alloc, b"said\n")?)
-}
-
-// Disconnects from this server. The next one is tried after a wait.
-pub(crate) fn jump<R: AllocGlobal>(
-    rt: &R,
-    log: &mut Log,
-    uplink: &mut IrcConnection,
-    settings: &Settings,
-    now: u64,
-) -> Result<Vec<u8>, RunError>
-    requires moment { now < MOMENTS_END }
-{
-    if uplink.session().is_none() {
-        return Ok(Vec::from_slice(
-            rt.alloc(),
-            b"refused no server: the next is tried in time\n",
-        )?);
-    }
-    uplink.tell(log, settings, b"QUIT :changing servers", now)?;
-    let _sent = uplink.send();
-    uplink.lose(log, Why::Jump, now);
-    Ok(Vec::from_slice(rt.alloc(), b"jumping\n")?)
-}
-
-// Queues a QUIT for the server, and marks the process to end: `until` is the second until which it waits for what is still
-// unsent.
-pub(crate) fn die<R: AllocGlobal>(
-    rt: &R,
-    log: &mut Log,
-    uplink: &mut IrcConnection,
-    until: &mut Option<u64>,
-    settings: &Settings,
-    text: &Text,
-    now: u64,
-) -> Result<Vec<u8>, RunError> {
-    let line = quit_line(rt.alloc(), text.as_bytes())?;
-    uplink.own.clear();
-    uplink.tell(log, settings, line.as_slice(), now)?;
-    if until.is_none() {
-        *until = Some(now.saturating_add(LAST_SECONDS));
-    }
-    Ok(Vec::from_slice(rt.alloc(), b"ending\n")?)
-}
-
-// QUIT and a text, truncated to the length of a line.
-fn quit_line(alloc: Global, text: &[u8]) -> Result<Vec<u8>, NoMemory> {
-    let mut line = Vec::from_slice(alloc, b"QUIT :")?;
-    line.extend_from_slice(text)?;
-    line.truncate(MAX_LINE);
-    Ok(line)
+    Ok(bind_answer(alloc, &report)?)
 }

@@ -19,6 +19,9 @@
 //! here for the bot. [`serverlink`] keeps the connection to the server, and sends there what the process sends by
 //! itself. This crate queues there what an admin has it say, and the outcome of a change that a person asked for.
 //!
+//! What needs no bot stands in crates of its own: [`administrators`] has the admins' connections and who asked for which
+//! change, [`upkeep`] what the process opens and keeps beside the bot, and [`recordsums`] the sum of the records.
+//!
 //! A hub and its leaves are processes on any machines, connected over TCP ([`peers`]). A hub draws the number of its
 //! net when it is created, before its journal gets its name, and a leaf keeps that number at its first handshake. A
 //! change that an admin asks for at a leaf is `queued`; once the hub has answered, the leaf writes `accepted N` or
@@ -72,63 +75,28 @@
 //! before it. So at whatever moment somebody kills the process, it has opened its bot from what its disks held, or
 //! created it, and has made only steps that the bot takes, one after another. What the process does on its connections
 //! the watcher is not told. A program that nobody watches passes a [`NoWatcher`](watching::NoWatcher).
-//!
-//! # The sum
-//!
-//! [`sum_of`] computes the SHA-256 (FIPS 180-4) of the bytes of all records, first the users and then the bans, in
-//! their order, each as [`usercodec`] encodes it. The first eight bytes of the digest are the sum, as 16 hexadecimal
-//! digits, `0` to `9` and `a` to `f`: `e3b0c44298fc1c14` where there are no records. One record is encoded at a time,
-//! so the sum of many records needs no more memory than that of the largest.
-//!
-//! Equal records have equal sums. Different records have different sums, except with a chance of 1 in 2^64 if nobody
-//! searches for such records.
 #![tactic(auto)]
 
-mod account;
-mod admins;
 mod answering;
-mod answers;
-mod asks;
-mod audit;
-mod bases;
+mod binding;
 mod bot_process;
-mod change_words;
-mod checking;
-mod copying;
 mod deeds;
-mod ending;
-mod entry;
-mod fixed_words;
-mod keeping;
-mod kept_sum;
-mod log_opening;
 mod looking;
-mod netting;
-mod noticing;
 mod obeying;
 mod others;
 mod outcome;
 mod own;
+mod page_view;
 mod passing;
+mod proc_asks;
 mod process;
 mod rebinding;
-mod record_sum;
-mod refusing;
-mod rejoining;
 mod reloading;
-mod rereading;
-mod seconds;
-mod space;
 mod starting;
-mod status;
-mod status_json;
 mod steps;
-mod sums;
+mod sum_logging;
 
-pub use crate::account::AccountFault;
-pub use crate::admins::{MAX_ADMINS, MAX_UNSENT};
 pub use crate::bot_process::run;
-pub use crate::checking::check;
-pub use crate::ending::{RunError, Subject};
-pub use crate::record_sum::sum_of;
-pub use crate::rereading::file_bytes;
+pub use administrators::{MAX_ADMINS, MAX_UNSENT};
+pub use recordsums::sum_of;
+pub use upkeep::{AccountFault, RunError, Subject, check, file_bytes};

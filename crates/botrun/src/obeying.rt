@@ -4,18 +4,10 @@ ghost use Rattle.bytetext.specs.declared.moment.TheConstants.{MOMENTS_END};
 ghost use Rattle.watching.specs.Following.{IsUp};
 ghost use Rattle.botrun.specs.Watched.{station_of};
 
-use crate::answers::of_advice;
-use crate::copying::{backup, reopen};
-use crate::deeds::{bind, die, jump, say, show, unbind};
-use crate::ending::RunError;
-use crate::entry::Entry;
-use crate::keeping::{renew, trust};
+use crate::deeds::{bind, show, show_json, unbind};
 use crate::process::Process;
-use crate::refusing::refusal;
-use crate::rejoining::{join, part};
 use crate::reloading::reload;
-use crate::status::status_of;
-use crate::status_json::{show_json, status_json};
+use administrators::{LogEntry, advice_answer};
 use bytetext::Failure;
 use control::{AdminCommand, ChannelWords};
 use net::Log;
@@ -25,6 +17,10 @@ use settings::Settings;
 use std::fs::File;
 use std::net::Net;
 use std::rt::Files;
+use upkeep::{
+    RunError, backup, die, join, jump, part, refusal, renew, reopen, say, status_json, status_of,
+    trust,
+};
 use watching::Watcher;
 
 // The most commands of each admin that one turn executes. The changes of a turn go to each other bot in one write,
@@ -122,7 +118,7 @@ impl Process {
         let alloc = rt.alloc();
         let command = match AdminCommand::read(alloc, line) {
             Ok(command) => command,
-            Err(Failure::Refused(advice)) => return Ok(of_advice(alloc, advice)?),
+            Err(Failure::Refused(advice)) => return Ok(advice_answer(alloc, advice)?),
             Err(Failure::NoMemory) => return Err(RunError::NoMemory),
         };
         log_command(log, &command, line, now);
@@ -158,12 +154,40 @@ impl Process {
             AdminCommand::Show => show(alloc, &self.bot, settings),
             AdminCommand::ShowJson => Ok(show_json(alloc, &self.bot, settings)?),
             AdminCommand::Status => {
-                let (bot, uplink) = (&self.bot, &self.uplink);
-                Ok(status_of(alloc, bot, uplink, &self.others, &self.admins, settings)?)
+                let (version, nick, uplink) = (
+                    self.bot.version(),
+                    self.bot.own_nick(),
+                    &self.uplink,
+                );
+                let (links, asks) = (&self.others.mail.links, &self.others.asks);
+                Ok(status_of(
+                    alloc,
+                    version,
+                    nick,
+                    uplink,
+                    links,
+                    asks,
+                    &self.admins,
+                    settings,
+                )?)
             }
             AdminCommand::StatusJson => {
-                let (bot, uplink) = (&self.bot, &self.uplink);
-                Ok(status_json(alloc, bot, uplink, &self.others, &self.admins, settings)?)
+                let (version, nick, uplink) = (
+                    self.bot.version(),
+                    self.bot.own_nick(),
+                    &self.uplink,
+                );
+                let (links, asks) = (&self.others.mail.links, &self.others.asks);
+                Ok(status_json(
+                    alloc,
+                    version,
+                    nick,
+                    uplink,
+                    links,
+                    asks,
+                    &self.admins,
+                    settings,
+                )?)
             }
             AdminCommand::Bind(words) => bind(alloc, &mut self.bot, store, &words, watcher),
             AdminCommand::Unbind(words) => unbind(alloc, &mut self.bot, store, words, watcher),
@@ -212,7 +236,7 @@ fn log_command(log: &mut Log, command: &AdminCommand, line: &[u8], now: u64) {
             },
         ) => {
             let (word, _rest) = first_word(line);
-            log.note(now, &Entry::Asked(word));
+            log.note(now, &LogEntry::Asked(word));
         }
         AdminCommand::Change(_)
         | AdminCommand::Bind(_)
@@ -231,6 +255,6 @@ fn log_command(log: &mut Log, command: &AdminCommand, line: &[u8], now: u64) {
             },
         )
         | AdminCommand::Part(_)
-        | AdminCommand::Die(_) => log.note(now, &Entry::Asked(line)),
+        | AdminCommand::Die(_) => log.note(now, &LogEntry::Asked(line)),
     }
 }

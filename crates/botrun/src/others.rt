@@ -1,7 +1,7 @@
 // The other bots, and who asked for the changes that wait at a leaf.
 ghost use Rattle.std.specs.Prelude.{◌≡◌, []};
 
-use crate::asks::Asks;
+use administrators::Asks;
 use bytetext::NoMemory;
 use peers::{Links, Mail};
 use sharelink::Outgoing;

@@ -2,11 +2,11 @@
 ghost use Rattle.std.specs.Prelude.{◌≡◌, IfOk};
 ghost use Rattle.botrun.specs.Owns.{held_of, last_replies, lasts_of};
 
-use crate::kept_sum::KeptSum;
 use botcore::Bot;
 use bytetext::NoMemory;
 use disks::FileDisk;
 use peers::{HeldParts, Links, Own};
+use recordsums::KeptSum;
 use std::alloc::Global;
 
 // If the connections have something to tell about the bot in this turn, lets them know what. A bot's version changes

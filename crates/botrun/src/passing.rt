@@ -9,19 +9,18 @@ ghost use Rattle.turns.specs.declared.turn.TurnEnd.TheVariants.{Done};
 ghost use Rattle.botrun.specs.Askers.{turn_askers};
 ghost use Rattle.botrun.specs.Passing.{told_all, told_of};
 
-use crate::admins::Admins;
-use crate::audit::log_changes;
-use crate::ending::RunError;
-use crate::entry::Entry;
-use crate::noticing::notice_waiting;
 use crate::others::Others;
 use crate::outcome::told_by;
+use crate::proc_asks::refused_in;
+use administrators::{Admins, LogEntry, answer_oldest, log_changes, notice_callers};
 use botcore::{Faults, Report};
 use bytetext::NoMemory;
 use net::Log;
 use serverlink::IrcConnection;
 use settings::Settings;
+use std::alloc::Global;
 use turns::{Told, TurnEnd};
+use upkeep::RunError;
 use watching::Watcher;
 
 // Passes on what each step of a turn says, in order: its lines to the server, its packets to the other bots, a notice to
@@ -57,20 +56,38 @@ pub(crate) fn pass<R: AllocGlobal, W: Watcher>(
     let mut rest = told.reports.as_slice();
     while let Some((report, behind)) = rest.split_first() {
         pass_lines(log, uplink, settings, report, now)?;
-        log_changes(log, report, now);
+        log_changes(log, &report.calls, report.packets.as_slice(), now);
         others.pass(rt, log, report, now, watcher)?;
         if waits {
             notice_waiting(rt.alloc(), uplink, report)?;
         }
         let outcome = told_by(report);
         let settles = is_leaf || (pumped && behind.is_empty());
-        others.answer(rt, log, admins, uplink, outcome, settles, now)?;
+        let asks = &mut others.asks;
+        answer_oldest(
+            rt, log, asks, admins, uplink, is_leaf, outcome, settles, now,
+        )?;
         rest = behind;
     }
     match told.end {
         TurnEnd::Done => Ok(()),
         TurnEnd::NoMemory => Err(RunError::NoMemory),
     }
+}
+
+// Queues a notice to each person whose words made a proc ask for a change in this step: it waits for the hub. If the link
+// did not take all changes, it is unknown which ones wait, and nobody gets a notice.
+fn notice_waiting(
+    alloc: Global,
+    uplink: &mut IrcConnection,
+    report: &Report,
+) -> Result<(), NoMemory>
+    ensures { uplink.new.session ≡ uplink.old.session }
+{
+    if refused_in(&report.faults) > 0 {
+        return Ok(());
+    }
+    notice_callers(alloc, uplink, &report.calls)
 }
 
 // Queues the lines of a step for the server, in order, and logs what the step left out.
@@ -95,7 +112,7 @@ fn log_faults(log: &mut Log, faults: &Faults, now: u64) {
     for fault in faults.as_slice() {
         log.note(
             now,
-            &Entry::LeftOut(fault.word(), fault.proc().unwrap_or(b"")),
+            &LogEntry::LeftOut(fault.word(), fault.proc().unwrap_or(b"")),
         );
     }
 }

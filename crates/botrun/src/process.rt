@@ -5,31 +5,27 @@ ghost use Rattle.watching.specs.Following.{IsAt, IsEven, IsUp};
 ghost use Rattle.botrun.specs.Renewals.{BeginsWithout, HasNoRecords};
 ghost use Rattle.botrun.specs.Watched.{ByEnd, station_of};
 
-use crate::admins::Admins;
-use crate::bases::Bases;
-use crate::ending::RunError;
-use crate::keeping::{enter_new_leaves, keep_new_doubt, keep_new_net};
-use crate::kept_sum::KeptSum;
 use crate::others::Others;
 use crate::own::tell_own;
-use crate::reloading::Reloading;
-use crate::seconds::Seconds;
-use crate::space::Space;
-use crate::sums::{Sums, tell_sum};
+use crate::sum_logging::tell_sum;
+use administrators::{Admins, Seconds};
 use botcore::Bot;
 use botfolder::BotFolder;
-use bytetext::NoMemory;
 use disks::FileDisk;
 use ircline::LineReader;
-use net::{Log, Registry, Watch};
-use peers::{Dice, Links};
+use net::{Log, Watch};
 use procs::{ProcStore, Promise, Run};
+use recordsums::{KeptSum, Sums};
 use serverlink::IrcConnection;
 use settings::Settings;
 use std::fs::File;
 use std::net::Net;
 use std::random::RandomSource;
 use std::rt::Files;
+use upkeep::{
+    Bases, Reloading, RunError, Space, connect, enter_new_leaves, keep_new_doubt, keep_new_net,
+    send,
+};
 use watching::Watcher;
 
 // A bot, its folder, its connections, and the state of its process.
@@ -201,51 +197,6 @@ impl Process {
             None => false,
         }
     }
-}
-
-// Unless the process is to end, connects what is lost and due, and accepts other bots. Returns whether a connection to a
-// server began.
-fn connect<R: AllocGlobal + Net + Files<File = File> + RandomSource>(
-    rt: &R,
-    log: &mut Log,
-    registry: &Registry,
-    until: Option<u64>,
-    uplink: &mut IrcConnection,
-    links: &mut Links,
-    settings: &Settings,
-    now: u64,
-) -> Result<bool, NoMemory>
-    requires moment { now < MOMENTS_END }
-{
-    if until.is_some() {
-        return Ok(false);
-    }
-    let _linking = links.connect(rt, &mut Dice::new(), log, registry, settings, now)?;
-    uplink.connect(rt, log, registry, settings, now)
-}
-
-// Keeps up the connection to the server, offers each connection its unsent bytes, and closes the connections that are
-// over. Returns whether another turn is due at once: a connection may take more, is to be closed, or has more to be done
-// for it, as a login that derives its salted password.
-fn send<R: AllocGlobal>(
-    rt: &R,
-    log: &mut Log,
-    uplink: &mut IrcConnection,
-    admins: &mut Admins,
-    links: &mut Links,
-    settings: &Settings,
-    now: u64,
-) -> Result<bool, NoMemory>
-    requires moment { now < MOMENTS_END }
-{
-    uplink.keep(rt, log, settings, now)?;
-    let derives = uplink.derive(rt, log, settings, now)?;
-    let server = uplink.send();
-    let admins = admins.send();
-    let peers = links.send()?;
-    uplink.let_go(log, now);
-    links.let_go(log, now);
-    Ok(derives || server || admins || peers)
 }
 
 // A bot whose disk failed does not go on: when its journal is opened again, the journal shows what counts.

@@ -2,7 +2,6 @@
 ghost use Rattle.watching.specs.Following.{IsWatched, StepsQuietly};
 
 use crate::deeds::unbind;
-use crate::ending::RunError;
 use crate::starting::bind_all;
 use botcore::Bot;
 use bytetext::{NoMemory, TryCopy};
@@ -11,6 +10,7 @@ use disks::FileDisk;
 use procs::{ProcStore, Promise, Run};
 use settings::{BindWords, Settings};
 use std::alloc::Global;
+use upkeep::RunError;
 use watching::Watcher;
 
 // Removes the binds of `from` that `to` lacks, and makes those of `to`. A bind that an operator made stays.

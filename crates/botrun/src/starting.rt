@@ -1,16 +1,15 @@
-// Opens the bot in its folder, or creates it there.
+// Opens the bot in its folder, or creates it there, with the binds of its configuration.
 ghost use Rattle.std.specs.Prelude.{◌≡◌, IfOk};
 ghost use Rattle.botfolder.specs.Folders.{AreEmpty, AreReady};
 ghost use Rattle.watching.specs.Acts.{HasNoBot, MayBegin, NumbersAbove, station_in};
 ghost use Rattle.watching.specs.Following.{HasBegun, IsWatched, Lets, StepsQuietly};
 ghost use Rattle.botrun.specs.Watched.{station_of};
 
-use crate::checking::{new_bind, of_line};
-use crate::ending::{RunError, of_bot, of_folder};
-use crate::netting::begin_net;
-use botcore::{Bot, BotEvent, Config, End, Refusal};
+use crate::binding::new_bind;
+use botcore::{Bot, BotError, BotEvent, BotFault, Config, End, Refusal};
 use botfolder::{Begun, BotFolder, FolderFault};
-use bytetext::{NoMemory, Texts, TryCopy};
+use bytejournal::JournalFault;
+use bytetext::{Failure, NoMemory, Texts, TryCopy};
 use disks::{FileDisk, Pair};
 use procs::{ProcStore, Promise, Run};
 use settings::{BindLine, Settings};
@@ -18,24 +17,10 @@ use std::alloc::Global;
 use std::fs::File;
 use std::random::RandomSource;
 use std::rt::Files;
-use std::str;
 use std::time::Clock;
 use turns::watched_step;
+use upkeep::{RunError, begin_net, of_folder, of_line};
 use watching::Watcher;
-
-// Takes the folder of a bot for this program.
-pub(crate) fn folder_of<R: AllocGlobal + Files<File = File> + Clock>(
-    rt: &R,
-    settings: &Settings,
-) -> Result<BotFolder, RunError> {
-    let Ok(path) = str::from_utf8(settings.folder.as_bytes()) else {
-        return Err(RunError::Folder(FolderFault::Unusable));
-    };
-    match BotFolder::take(rt, path) {
-        Ok(folder) => Ok(folder),
-        Err(error) => Err(of_folder(error)),
-    }
-}
 
 // Opens the bot whose journal the folder holds, or creates it if there is none: then a leaf's requests are numbered above
 // `last`.
@@ -57,17 +42,6 @@ pub(crate) fn bot_of<R: AllocGlobal + Files<File = File> + RandomSource + Clock,
             begin_net(rt, folder, settings)?;
             made(rt, folder, config, disks, last, watcher)
         }
-        Err(error) => Err(of_folder(error)),
-    }
-}
-
-// Forgets the journal of a leaf that has to begin again. No bot is open in the folder.
-pub(crate) fn forget_journal<R: AllocGlobal + Files<File = File>>(
-    rt: &R,
-    folder: &BotFolder,
-) -> Result<(), RunError> {
-    match folder.forget_journal(rt) {
-        Ok(()) => Ok(()),
         Err(error) => Err(of_folder(error)),
     }
 }
@@ -181,5 +155,23 @@ fn bind_one<P: Promise, B: Run, W: Watcher>(
         }),
         End::NoMemory => Err(RunError::NoMemory),
         End::Done | End::Refused(Refusal::Link(_) | Refusal::Clock(_)) => Ok(()),
+    }
+}
+
+// The error for a bot that could not be created or opened.
+fn of_bot(error: BotError) -> RunError {
+    match error {
+        Failure::Refused(BotFault::BadConfig) => RunError::Config,
+        Failure::Refused(BotFault::Journal(fault)) => of_journal(fault),
+        Failure::NoMemory => RunError::NoMemory,
+    }
+}
+
+// The error for a journal's fault. If a disk failed while the journal was created or opened, what it holds is unknown.
+fn of_journal(fault: JournalFault) -> RunError {
+    match fault {
+        JournalFault::NotAJournal => RunError::OtherJournal,
+        JournalFault::GenerationsSpent => RunError::GenerationsSpent,
+        JournalFault::DiskFault | JournalFault::Spent => RunError::Folder(FolderFault::DiskFails),
     }
 }

@@ -6,12 +6,11 @@ ghost use Rattle.watching.specs.Following.{IsEven, IsUp};
 ghost use Rattle.botrun.specs.Taking.{GoesOn, Hears, TakesChanges};
 ghost use Rattle.botrun.specs.Watched.{station_of};
 
-use crate::ending::RunError;
-use crate::entry::Entry;
 use crate::looking::look_at_all;
-use crate::outcome::{Outcome, outcome_of};
+use crate::outcome::outcome_of;
 use crate::passing::pass;
 use crate::process::Process;
+use administrators::{ChangeOutcome, LogEntry};
 use botcore::Bot;
 use bytetext::{NoMemory, Text, TryCopy};
 use disks::FileDisk;
@@ -21,6 +20,7 @@ use settings::Settings;
 use sharelink::MAX_ASKS;
 use std::alloc::Global;
 use turns::{Heard, take_turn, watched_packets};
+use upkeep::RunError;
 use userfile::Change;
 use watching::Watcher;
 
@@ -94,7 +94,7 @@ impl Process {
         log: &mut Log,
         store: &ProcStore<P, B>,
         settings: &Settings,
-        first: Outcome,
+        first: ChangeOutcome,
         now: u64,
         watcher: &mut W,
     ) -> Result<(), RunError>
@@ -156,7 +156,7 @@ impl Process {
         settings: &Settings,
         now: u64,
         watcher: &mut W,
-    ) -> Result<Outcome, RunError>
+    ) -> Result<ChangeOutcome, RunError>
         requires up { IsUp P.promised store.now (station_of settings.now) W.may (W.past watcher.old) self.old.bot
             self.old.others.mail.account.told }
         ensures goes_on { IfOk result (λ _. GoesOn P.promised store.now self.old.bot self.old.lines self.new.bot self.new.lines) }
@@ -169,7 +169,7 @@ impl Process {
         let changes = Vec::new(rt.alloc());
         let outcome = self.take(rt, log, store, settings, changes, true, now, watcher)?;
         self.space.look(log, now);
-        log.note(now, &Entry::Compacted);
+        log.note(now, &LogEntry::Compacted);
         Ok(outcome)
     }
 
@@ -185,7 +185,7 @@ impl Process {
         compacts: bool,
         now: u64,
         watcher: &mut W,
-    ) -> Result<Outcome, RunError>
+    ) -> Result<ChangeOutcome, RunError>
         requires up { IsUp P.promised store.now (station_of settings.now) W.may (W.past watcher.old) self.old.bot
             self.old.others.mail.account.told }
         // The bot takes one turn in which these changes alone are asked for, and this is what the turn says about them.
@@ -229,9 +229,9 @@ fn nick_before(alloc: Global, bot: &Bot<FileDisk>, connected: bool) -> Result<Te
 }
 
 // Whether a change was accepted or refused, so that another may wait.
-fn is_settled(outcome: Outcome) -> bool {
+fn is_settled(outcome: ChangeOutcome) -> bool {
     match outcome {
-        Outcome::Nothing | Outcome::Barred(_) => false,
-        Outcome::Accepted(_) | Outcome::Refused(_) => true,
+        ChangeOutcome::Nothing | ChangeOutcome::Barred(_) => false,
+        ChangeOutcome::Accepted(_) | ChangeOutcome::Refused(_) => true,
     }
 }

@@ -66,7 +66,7 @@ told_seen-plain setting seen call =
 told_alone-plain : (setting : Setting) (occasion : Trigger)
     → proc_calls (told_alone (plain_setting setting) occasion) ≡ proc_calls (told_alone setting occasion)
 told_alone-plain setting (Heard event) =
-    let person = person_of setting.users event in told_seen-plain setting (occurrence_of event person) (call_by person.handle event)
+    let person = person_of setting.mapping setting.users event in told_seen-plain setting (occurrence_of event person) (call_by person.handle event)
 told_alone-plain setting (Due proc text) = refl
 told_alone-plain setting (Time minute) = told_seen-plain setting (time_seen minute) (time_call minute)
 told_alone-plain setting (Cron minute) = told_seen-plain setting (cron_seen minute) (cron_call minute)

@@ -12,6 +12,7 @@ use Rattle.chanstate.specs.declared.event.IrcEvent.{IrcEvent as MessageEvent}
 use Rattle.chanstate.specs.Events.{events_of}
 use Rattle.bytetext.specs.Words.{first_word}
 use Rattle.chanstate.specs.declared.state.ChanState.{ChanState}
+use Rattle.chanstate.specs.Views.{mapping_of}
 use Rattle.bottimers.specs.declared.fault.ClockFault.{ClockFault}
 use Rattle.bottimers.specs.Seconds.{reading_fault, seconds_run}
 use Rattle.sharewire.specs.declared.packet.Packet.{Packet}
@@ -46,7 +47,7 @@ use Rattle.botcore.specs.declared.report.End.TheVariants.{Done, Refused, NoMemor
 use Rattle.botcore.specs.declared.report.Report.{Report as BotReport}
 use Rattle.botcore.specs.Bots.{Bot, with_device, bot_setting}
 use Rattle.procs.specs.Tellings.{Telling}
-use Rattle.procs.specs.Dispatched.{setting_of}
+use Rattle.procs.specs.Dispatched.{setting_of, setting_for}
 use Rattle.procs.specs.Dispatching.{Setting, told_of}
 use Rattle.botcore.specs.Happenings.{Happening, Saying, saying_of, said, said_if, seconds_of, happenings_of}
 use Rattle.botcore.specs.Happenings.Happening.{Heard as heard_event, Said as said_text}
@@ -214,7 +215,7 @@ sight_at all version channels = record { records = records_of all version; chann
 -- what the calls of a bot with these records depend on
 abbrev pub setting_by : Promised → List (List ℕ) → Bot → Records → Setting
 setting_by promised names bot records =
-    setting_of (code_at promised (record { records = records; channels = bot.channels })) names records.users bot.binds.binds bot.config.exclusive
+    setting_for promised names (record { records = records; channels = bot.channels }) bot.binds.binds bot.config.exclusive
 
 -- what they depend on by its version
 abbrev pub setting_at : Promised → List (List ℕ) → List AcceptedChange → Bot → Setting
@@ -303,10 +304,12 @@ same_codes promised names all a b one other alike codes =
     one.calls
     ∙ ap (λ (os : List Trigger). proc_calls (told_of (setting_at promised names all a.bot) os)) same
     ∙ ap (λ (c : List ℕ → Call → Code). proc_calls (told_of
-    (setting_of c names (records_of all (link_version a.bot.link)).users a.bot.binds.binds a.bot.config.exclusive) other.occasions)) codes
+    (setting_of c names (mapping_of a.bot.channels) (records_of all (link_version a.bot.link)).users a.bot.binds.binds a.bot.config.exclusive) other.occasions)) codes
     ∙ ap (λ (v : ℕ). proc_calls (told_of
-    (setting_of from.code_of names (records_of all v).users a.bot.binds.binds a.bot.config.exclusive) other.occasions)) alike.version
-    ∙ ap (λ (e : Bool). proc_calls (told_of (setting_of from.code_of names from.users a.bot.binds.binds e) other.occasions)) alike.exclusive
+    (setting_of from.code_of names (mapping_of a.bot.channels) (records_of all v).users a.bot.binds.binds a.bot.config.exclusive) other.occasions)) alike.version
+    ∙ ap (λ m. proc_calls (told_of
+    (setting_of from.code_of names m from.users a.bot.binds.binds a.bot.config.exclusive) other.occasions)) alike.casemapping
+    ∙ ap (λ (e : Bool). proc_calls (told_of (setting_of from.code_of names from.mapping from.users a.bot.binds.binds e) other.occasions)) alike.exclusive
     ∙ told_of-alike from a.bot.binds.binds b.bot.binds.binds other.occasions alike.binds
     ∙ sym other.calls
 

@@ -2,6 +2,7 @@
 use Rattle.std.specs.Prelude.{◌≡◌, ℕ, List, map, slice_get, Option, None, Some, Result, Ok, Err}
 use Rattle.userfile.specs.Records.{Records}
 use Rattle.chanstate.specs.declared.state.ChanState.{ChanState}
+use Rattle.chanstate.specs.Views.{mapping_of}
 use Rattle.procs.specs.Promises.{Promised, code_at}
 use Rattle.procs.specs.declared.call.Call.{Call}
 use Rattle.procs.specs.declared.reply.Code.{Code}
@@ -60,15 +61,18 @@ calling w step outcome = calling_in w (part_of w step) outcome
 abbrev pub asked_in : Bind → Asked
 asked_in bind = record { kind = bind.kind; flags = bind.flags; mask = bind.mask; proc = bind.proc }
 
--- bots with the same events that are alike in everything that calls depend on, except for their channels
+-- bots with the same events that are alike in everything that calls depend on, except for their channels; their servers
+-- compare names alike, since who a person is depends on that
 pub record IsAlikeButChannels (a b : Calling) : Type 0 where
   pub happenings : a.happenings ≡ b.happenings
   pub binds : map asked_in a.bot.binds.binds ≡ map asked_in b.bot.binds.binds
   pub exclusive : a.bot.config.exclusive ≡ b.bot.config.exclusive
   pub version : link_version a.bot.link ≡ link_version b.bot.link
+  pub casemapping : mapping_of a.bot.channels ≡ mapping_of b.bot.channels
 
 -- bots that are alike in everything that calls depend on: a promised code can depend on the records, which are those
--- of the version, and on the channels, which are the bot's nick and what it knows of each channel that it is on
+-- of the version, and on the channels, which are the bot's nick, what the server has announced, and what the bot knows
+-- of each channel that it is on
 pub record IsAlike (a b : Calling) : Type 0 where
   pub others : IsAlikeButChannels a b
   pub channels : a.bot.channels ≡ b.bot.channels

@@ -91,7 +91,7 @@ abbrev pub SameCalls : List Moment → Type 0
 SameCalls history = (i j : ℕ) (m n : Moment) (a b : Calling) → slice_get history i ≡ Some m → slice_get history j ≡ Some n
     → calling m.before.net m.step m.outcome ≡ Some a → calling n.before.net n.step n.outcome ≡ Some b → IsAlike a b → a.calls ≡ b.calls
 
--- so did bots that were alike except for their channels
+-- so did bots that were alike except for their channels, on servers that compare names alike
 abbrev pub SameCallsIgnoringChannels : List Moment → Type 0
 SameCallsIgnoringChannels history = (i j : ℕ) (m n : Moment) (a b : Calling) → slice_get history i ≡ Some m → slice_get history j ≡ Some n
     → calling m.before.net m.step m.outcome ≡ Some a → calling n.before.net n.step n.outcome ≡ Some b → IsAlikeButChannels a b

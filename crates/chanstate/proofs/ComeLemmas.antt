@@ -11,56 +11,60 @@ use Rattle.chanstate.specs.declared.channel.Channel.{Channel}
 use Rattle.chanstate.specs.Firsts.{first_changed}
 use Rattle.chanstate.specs.Members.{is_called, has_member, with_address, arrived, unmarked}
 use Rattle.chanstate.specs.declared.state.ChanState.{ChanState}
-use Rattle.rfccase.specs.Casemapping.{is_same}
+use Rattle.rfccase.specs.Casemapping.{is_same_by}
 use Rattle.chanstate.specs.Channels.{is_held, on_channel, opened, put_last, put_each_last}
-use Rattle.chanstate.specs.Items.{Joined}
+use Rattle.chanstate.specs.Items.{Joined, any_named}
+use Rattle.chanstate.specs.Announced.{with_join}
+use Rattle.chanstate.specs.Plans.{joined_if}
 use Rattle.chanstate.specs.Memory.{any_adds}
 use Rattle.chanstate.specs.Steps.{steps}
 use Rattle.chanstate.specs.Takes.{came_each}
 use Rattle.chanstate.proofs.BoolLemmas.{or-left, or-right}
 use Rattle.bytetext.proofs.Lists.{find-none}
-use Rattle.rfccase.proofs.SameLemmas.{is_same-refl}
+use Rattle.rfccase.proofs.SameLemmas.{is_same_by-refl}
 use Rattle.chanstate.proofs.FindLemmas.{find-end, or_else, or_else-none}
-use Rattle.chanstate.proofs.KeptLemmas.{any-kept, first_changed-kept, some_same}
+use Rattle.chanstate.proofs.KeptLemmas.{any-kept, joined_again, first_changed-kept, some_same}
 use Rattle.chanstate.proofs.StepLemmas.{first_changed-twice}
+use Rattle.rfccase.specs.declared.casemappings.Casemapping.{Casemapping}
+use Rattle.chanstate.specs.Views.{mapping_of}
 
 -- one who has come is there, and comes with the same address
-pub arrived-again : (one : Member) (ms : List Member) → arrived one (arrived one ms) ≡ arrived one ms
-arrived-again one ms = by (has_member one.nick ms) refl
+pub arrived-again : (mapping : Casemapping) (one : Member) (ms : List Member) → arrived mapping one (arrived mapping one ms) ≡ arrived mapping one ms
+arrived-again mapping one ms = by (has_member mapping one.nick ms) refl
   where
     p : Member → Bool
-    p = is_called one.nick
+    p = is_called mapping one.nick
 
     f : Member → Member
     f = with_address one.user one.host
 
     -- where nobody was
-    last : (x : Member) → has_member one.nick ms ≡ false → find p (ms ++ one ∷ []) ≡ Some x → f x ≡ x
+    last : (x : Member) → has_member mapping one.nick ms ≡ false → find p (ms ++ one ∷ []) ≡ Some x → f x ≡ x
     last x none found =
         let end : find p (ms ++ one ∷ []) ≡ Some one = find-end p ms one ∙ ap (λ o. or_else o (cond (p one) (Some one) None)) (find-none p ms none)
-        ∙ or_else-none _ ∙ cond-true (p one) _ _ (is_same-refl one.nick) in
+        ∙ or_else-none _ ∙ cond-true (p one) _ _ (is_same_by-refl mapping one.nick) in
         subst (λ y. f y ≡ y) (some_same (sym end ∙ found)) refl
 
-    by : (b : Bool) → has_member one.nick ms ≡ b → arrived one (arrived one ms) ≡ arrived one ms
+    by : (b : Bool) → has_member mapping one.nick ms ≡ b → arrived mapping one (arrived mapping one ms) ≡ arrived mapping one ms
     by false is =
-        let came : arrived one ms ≡ ms ++ one ∷ [] = cond-false _ _ _ is in
-        let there : has_member one.nick (ms ++ one ∷ []) ≡ true =
-        list_any-append p ms (one ∷ []) ∙ or-right (list_any p ms) (list_any p (one ∷ [])) (or-left (p one) false (is_same-refl one.nick)) in
-        ap (arrived one) came ∙ cond-true _ _ _ there ∙ first_changed-kept p f (ms ++ one ∷ []) (λ x found. last x is found) ∙ sym came
+        let came : arrived mapping one ms ≡ ms ++ one ∷ [] = cond-false _ _ _ is in
+        let there : has_member mapping one.nick (ms ++ one ∷ []) ≡ true =
+        list_any-append p ms (one ∷ []) ∙ or-right (list_any p ms) (list_any p (one ∷ [])) (or-left (p one) false (is_same_by-refl mapping one.nick)) in
+        ap (arrived mapping one) came ∙ cond-true _ _ _ there ∙ first_changed-kept p f (ms ++ one ∷ []) (λ x found. last x is found) ∙ sym came
     by true is =
-        let came : arrived one ms ≡ first_changed p f ms = cond-true _ _ _ is in
-        let there : has_member one.nick (first_changed p f ms) ≡ true = any-kept p p f (λ x. refl) ms ∙ is in
-        ap (arrived one) came ∙ cond-true _ _ _ there ∙ first_changed-twice p f f (λ x. refl) ms ∙ sym came
+        let came : arrived mapping one ms ≡ first_changed p f ms = cond-true _ _ _ is in
+        let there : has_member mapping one.nick (first_changed p f ms) ≡ true = any-kept p p f (λ x. refl) ms ∙ is in
+        ap (arrived mapping one) came ∙ cond-true _ _ _ there ∙ first_changed-twice p f f (λ x. refl) ms ∙ sym came
 
-came-append : (one : Member) (xs ys : List (List ℕ)) (cs : List Channel) → came_each one (xs ++ ys) cs ≡ came_each one ys (came_each one xs cs)
-came-append one [] ys cs = refl
-came-append one (x ∷ xs) ys cs = came-append one xs ys _
+came-append : (mapping : Casemapping) (one : Member) (xs ys : List (List ℕ)) (cs : List Channel) → came_each mapping one (xs ++ ys) cs ≡ came_each mapping one ys (came_each mapping one xs cs)
+came-append mapping one [] ys cs = refl
+came-append mapping one (x ∷ xs) ys cs = came-append mapping one xs ys _
 
 -- one more piece of a list, of which some name channels
-pub came_more : (one : Member) (p : List ℕ → Bool) (xs : List (List ℕ)) (x : List ℕ) (cs : List Channel)
-    → came_each one (filter p (x ∷ [])) (came_each one (filter p xs) cs) ≡ came_each one (filter p (xs ++ x ∷ [])) cs
-came_more one p xs x cs =
-    sym (ap (λ ns. came_each one ns cs) (filter-append p xs (x ∷ [])) ∙ came-append one (filter p xs) (filter p (x ∷ [])) cs)
+pub came_more : (mapping : Casemapping) (one : Member) (p : List ℕ → Bool) (xs : List (List ℕ)) (x : List ℕ) (cs : List Channel)
+    → came_each mapping one (filter p (x ∷ [])) (came_each mapping one (filter p xs) cs) ≡ came_each mapping one (filter p (xs ++ x ∷ [])) cs
+came_more mapping one p xs x cs =
+    sym (ap (λ ns. came_each mapping one ns cs) (filter-append p xs (x ∷ [])) ∙ came-append mapping one (filter p xs) (filter p (x ∷ [])) cs)
 
 -- a piece that passes two tests is among those that pass the first
 piece_step : (b : Bool) (q : List ℕ → Bool) (x : List ℕ) (xs : List (List ℕ)) → list_any q xs ≡ true → list_any q (cond b (x ∷ xs) xs) ≡ true
@@ -79,38 +83,65 @@ any-piece p q (y ∷ ys) (suc i) x less at is one =
 -- ---- the joins of a line
 
 -- the bot's joins put each of its channels last
-pub steps-own : (nick user host : List ℕ) (names : List (List ℕ)) (s : ChanState) → is_same nick s.nick ≡ true
+pub steps-own : (nick user host : List ℕ) (names : List (List ℕ)) (s : ChanState) → is_same_by (mapping_of s) nick s.nick ≡ true
     → steps (map (Joined nick user host) names) s
-    ≡ record s { channels = put_each_last (map (λ name. opened name (unmarked nick user host)) names) s.channels }
+    ≡ record s {
+      channels = put_each_last (mapping_of s) (map (λ name. opened name (unmarked nick user host)) names) s.channels;
+      support = joined_if (any_named names) s.support;
+    }
 steps-own nick user host [] s own = refl
 steps-own nick user host (n ∷ ns) s own =
+    let one : Channel = opened n (unmarked nick user host) in
+    let all = put_each_last (mapping_of s) (map (λ name. opened name (unmarked nick user host)) (n ∷ ns)) s.channels in
     ap (steps (map (Joined nick user host) ns)) (cond-true _ _ _ own)
-    ∙ steps-own nick user host ns (record s { channels = put_last (opened n (unmarked nick user host)) s.channels }) own
+    ∙ (steps-own nick user host ns (record s { channels = put_last (mapping_of s) one s.channels; support = with_join s.support }) own
+    ∙ ap (λ sup. record s { channels = all; support = sup }) (joined_again (any_named ns) s.support))
 
 -- another's joins are comings
-pub steps-came : (nick user host : List ℕ) (names : List (List ℕ)) (s : ChanState) → is_same nick s.nick ≡ false
-    → steps (map (Joined nick user host) names) s ≡ record s { channels = came_each (unmarked nick user host) names s.channels }
+pub steps-came : (nick user host : List ℕ) (names : List (List ℕ)) (s : ChanState) → is_same_by (mapping_of s) nick s.nick ≡ false
+    → steps (map (Joined nick user host) names) s
+    ≡ record s {
+      channels = came_each (mapping_of s) (unmarked nick user host) names s.channels;
+      support = joined_if (any_named names) s.support;
+    }
 steps-came nick user host [] s other = refl
 steps-came nick user host (n ∷ ns) s other =
+    let one : Member = unmarked nick user host in
+    let all = came_each (mapping_of s) one (n ∷ ns) s.channels in
     ap (steps (map (Joined nick user host) ns)) (cond-false _ _ _ other)
-    ∙ steps-came nick user host ns (record s { channels = on_channel n (arrived (unmarked nick user host)) s.channels }) other
+    ∙ (steps-came nick user host ns
+    (record s { channels = on_channel (mapping_of s) n (arrived (mapping_of s) one) s.channels; support = with_join s.support }) other
+    ∙ ap (λ sup. record s { channels = all; support = sup }) (joined_again (any_named ns) s.support))
 
-pub joins_some : (nick user host : List ℕ) (names : List (List ℕ)) (s : ChanState) → list_any (λ name. is_held name s.channels) names ≡ true
+-- whether some piece of a list names a channel
+pub any_named-some : (p : List ℕ → Bool) (xs : List (List ℕ)) → list_any p xs ≡ any_named (filter p xs)
+any_named-some p [] = refl
+any_named-some p (x ∷ xs) = by (p x) (any_named-some p xs)
+  where
+    by : (b : Bool) → list_any p xs ≡ any_named (filter p xs) → (b || list_any p xs) ≡ any_named (cond b (x ∷ filter p xs) (filter p xs))
+    by true rest = refl
+    by false rest = rest
+
+pub any_named-long : (names : List (List ℕ)) → 0 < length names → any_named names ≡ true
+any_named-long [] long = absurd (let long : 0 < 0 = long in omega arith)
+any_named-long (name ∷ more) long = refl
+
+pub joins_some : (nick user host : List ℕ) (names : List (List ℕ)) (s : ChanState) → list_any (λ name. is_held (mapping_of s) name s.channels) names ≡ true
     → any_adds (map (Joined nick user host) names) s ≡ true
 joins_some nick user host [] s some = some
-joins_some nick user host (n ∷ ns) s some = by (is_held n s.channels) refl (joins_some nick user host ns s)
+joins_some nick user host (n ∷ ns) s some = by (is_held (mapping_of s) n s.channels) refl (joins_some nick user host ns s)
   where
     here : Bool
-    here = is_same nick s.nick
+    here = is_same_by (mapping_of s) nick s.nick
 
     rest : Bool
     rest = any_adds (map (Joined nick user host) ns) s
 
-    later : (b : Bool) → b ≡ false → (b || list_any (λ name. is_held name s.channels) ns) ≡ true → list_any (λ name. is_held name s.channels) ns ≡ true
+    later : (b : Bool) → b ≡ false → (b || list_any (λ name. is_held (mapping_of s) name s.channels) ns) ≡ true → list_any (λ name. is_held (mapping_of s) name s.channels) ns ≡ true
     later true none is = cc
     later false none is = is
 
-    by : (b : Bool) → is_held n s.channels ≡ b → (list_any (λ name. is_held name s.channels) ns ≡ true → rest ≡ true)
-        → ((here || is_held n s.channels) || rest) ≡ true
-    by true is further = or-left (here || is_held n s.channels) rest (or-right here (is_held n s.channels) is)
-    by false is further = or-right (here || is_held n s.channels) rest (further (later (is_held n s.channels) is some))
+    by : (b : Bool) → is_held (mapping_of s) n s.channels ≡ b → (list_any (λ name. is_held (mapping_of s) name s.channels) ns ≡ true → rest ≡ true)
+        → ((here || is_held (mapping_of s) n s.channels) || rest) ≡ true
+    by true is further = or-left (here || is_held (mapping_of s) n s.channels) rest (or-right here (is_held (mapping_of s) n s.channels) is)
+    by false is further = or-right (here || is_held (mapping_of s) n s.channels) rest (further (later (is_held (mapping_of s) n s.channels) is some))

@@ -7,13 +7,16 @@ use Rattle.std.proofs.lemmas.Bool.{cond-true, cond-false}
 use Rattle.chanstate.specs.declared.member.Member.{Member}
 use Rattle.chanstate.specs.declared.channel.Channel.{Channel}
 use Rattle.chanstate.specs.declared.state.ChanState.{ChanState}
-use Rattle.rfccase.specs.Casemapping.{is_same}
+use Rattle.rfccase.specs.Casemapping.{is_same_by}
 use Rattle.chanstate.specs.Firsts.{first_changed}
 use Rattle.chanstate.specs.Members.{is_called, has_member, with_marks_of, listed, listed_each, shown_each, arrived, unmarked, renamed}
 use Rattle.chanstate.specs.Channels.{is_named, is_held, with_members, on_channel, all_renamed}
 use Rattle.chanstate.specs.Views.{channel_in, member_in, members_of}
-use Rattle.chanstate.specs.Items.{Item, Joined, Left, NamesTold, Renamed, names_in}
+use Rattle.chanstate.specs.Items.{Item, Joined, Left, NamesTold, Renamed, any_named, names_in}
 use Rattle.chanstate.specs.Steps.{joined, step, steps}
+use Rattle.chanstate.specs.Announced.{with_join}
+use Rattle.chanstate.specs.Plans.{joined_if}
+use Rattle.chanstate.specs.declared.support.Support.{Support}
 use Rattle.chanstate.specs.Memory.{adds, any_adds, lacks, readdresses, respells, retitles}
 use Rattle.std.specs.Prelude.{nat_eq}
 use Rattle.std.specs.Cmp.Lexicographic.{pointwise}
@@ -23,6 +26,8 @@ use Rattle.chanstate.specs.Channels.{with_topic}
 use Rattle.chanstate.proofs.BoolLemmas.{or-parts, or-left, not-false}
 use Rattle.chanstate.proofs.FirstsLemmas.{first_changed-nowhere}
 use Rattle.chanstate.proofs.FindLemmas.{any-agree, list_any-find}
+use Rattle.rfccase.specs.declared.casemappings.Casemapping.{Casemapping}
+use Rattle.chanstate.specs.Views.{mapping_of}
 
 -- ---- a change that changes nothing
 
@@ -61,21 +66,34 @@ pub any-kept : {X : Type 0} (p q : X → Bool) (f : X → X) → ((x : X) → p 
 any-kept p q f keeps [] = refl
 any-kept p q f keeps (x ∷ xs) = any_step (q x) p x (f x) xs (first_changed q f xs) (keeps x) (any-kept p q f keeps xs)
 
--- a join of a channel that isn't held
-pub joined-nowhere : (nick user host channel : List ℕ) (s : ChanState) → is_same nick s.nick ≡ false → is_held channel s.channels ≡ false
-    → joined nick user host channel s ≡ s
+-- a join of a channel that isn't held changes no channel
+pub joined-nowhere : (nick user host channel : List ℕ) (s : ChanState) → is_same_by (mapping_of s) nick s.nick ≡ false
+    → is_held (mapping_of s) channel s.channels ≡ false → joined nick user host channel s ≡ record s { support = with_join s.support }
 joined-nowhere nick user host channel s other none =
     cond-false _ _ _ other
-    ∙ ap (λ cs. record s { channels = cs }) (first_changed-nowhere (is_named channel) (with_members (arrived (unmarked nick user host))) s.channels none)
+    ∙ ap (λ cs. record s { channels = cs; support = with_join s.support })
+    (first_changed-nowhere (is_named (mapping_of s) channel) (with_members (arrived (mapping_of s) (unmarked nick user host))) s.channels none)
+
+-- a JOIN that has been read once has been read
+pub joined_again : (b : Bool) (sup : Support) → joined_if b (with_join sup) ≡ with_join sup
+joined_again true sup = refl
+joined_again false sup = refl
+
+-- which joins take memory does not depend on what else the server has announced
+joins_same : (nick user host : List ℕ) (names : List (List ℕ)) (s : ChanState)
+    → any_adds (map (Joined nick user host) names) (record s { support = with_join s.support }) ≡ any_adds (map (Joined nick user host) names) s
+joins_same nick user host [] s = refl
+joins_same nick user host (n ∷ ns) s =
+    ap (λ b. (is_same_by (mapping_of s) nick s.nick || is_held (mapping_of s) n s.channels) || b) (joins_same nick user host ns s)
 
 -- a topic or an address that is there already
 same_text : (xs ys : List ℕ) → not (pointwise nat_eq xs ys) ≡ false → ys ≡ xs
 same_text xs ys same = sym ((bytes_eq-Decides xs ys).0 (not-false _ same))
 
 pub same_topic : (channel topic : List ℕ) (s : ChanState) → retitles topic (channel_in channel s) ≡ false
-    → first_changed (is_named channel) (with_topic topic) s.channels ≡ s.channels
+    → first_changed (is_named (mapping_of s) channel) (with_topic topic) s.channels ≡ s.channels
 same_topic channel topic s same =
-    first_changed-kept (is_named channel) (with_topic topic) s.channels
+    first_changed-kept (is_named (mapping_of s) channel) (with_topic topic) s.channels
     (λ c found. ap (λ t. record c { topic = t }) (same_text c.topic topic (ap (retitles topic) (sym found) ∙ same)))
 
 readdressed : (user host : List ℕ) (m : Member) → readdresses user host (Some m) ≡ false → with_address user host m ≡ m
@@ -84,13 +102,13 @@ readdressed user host m same =
     ap (λ u. record m { user = u; host = host }) (same_text m.user user parts.0) ∙ ap (λ h. record m { host = h }) (same_text m.host host parts.1)
 
 pub same_address : (channel nick user host : List ℕ) (s : ChanState) → readdresses user host (member_in channel nick s) ≡ false
-    → on_channel channel (first_changed (is_called nick) (with_address user host)) s.channels ≡ s.channels
+    → on_channel (mapping_of s) channel (first_changed (is_called (mapping_of s) nick) (with_address user host)) s.channels ≡ s.channels
 same_address channel nick user host s same =
-    first_changed-kept (is_named channel) (with_members (first_changed (is_called nick) (with_address user host))) s.channels
+    first_changed-kept (is_named (mapping_of s) channel) (with_members (first_changed (is_called (mapping_of s) nick) (with_address user host))) s.channels
     (λ c found. ap (λ ms. record c { members = ms })
-    (first_changed-kept (is_called nick) (with_address user host) c.members
+    (first_changed-kept (is_called (mapping_of s) nick) (with_address user host) c.members
     (λ m there. readdressed user host m (ap (readdresses user host) (sym there)
-    ∙ (ap (λ o. readdresses user host (find (is_called nick) (members_of o))) (sym found) ∙ same)))))
+    ∙ (ap (λ o. readdresses user host (find (is_called (mapping_of s) nick) (members_of o))) (sym found) ∙ same)))))
 
 -- a nick that is there already, wherever the old one is
 pub some_same : {X : Type 0} {x y : X} → Some x ≡ Some y → x ≡ y
@@ -104,23 +122,23 @@ find-passes : {X : Type 0} (p : X → Bool) (xs : List X) (y : X) → find p xs 
 find-passes p [] y found = cc
 find-passes p (x ∷ xs) y found = passes_step (p x) p x y (find p xs) refl (find-passes p xs y) found
 
-renamed_there : (old new : List ℕ) (ms : List Member) (o : Option Member) → find (is_called old) ms ≡ o → respells new o ≡ false → renamed old new ms ≡ ms
-renamed_there old new ms None is same = cond-false _ _ _ (list_any-find (is_called old) ms ∙ ap is_some is)
-renamed_there old new ms (Some m) is same =
+renamed_there : (mapping : Casemapping) (old new : List ℕ) (ms : List Member) (o : Option Member) → find (is_called mapping old) ms ≡ o → respells new o ≡ false → renamed mapping old new ms ≡ ms
+renamed_there mapping old new ms None is same = cond-false _ _ _ (list_any-find (is_called mapping old) ms ∙ ap is_some is)
+renamed_there mapping old new ms (Some m) is same =
     let spelled : new ≡ m.nick = same_text m.nick new same in
-    let called : is_same old new ≡ true = ap (is_same old) spelled ∙ find-passes (is_called old) ms m is in
-    cond-true _ _ _ (list_any-find (is_called old) ms ∙ ap is_some is)
-    ∙ ap (first_changed (is_called old) (with_nick new)) (cond-true _ _ _ called)
-    ∙ first_changed-kept (is_called old) (with_nick new) ms
+    let called : is_same_by mapping old new ≡ true = ap (is_same_by mapping old) spelled ∙ find-passes (is_called mapping old) ms m is in
+    cond-true _ _ _ (list_any-find (is_called mapping old) ms ∙ ap is_some is)
+    ∙ ap (first_changed (is_called mapping old) (with_nick new)) (cond-true _ _ _ called)
+    ∙ first_changed-kept (is_called mapping old) (with_nick new) ms
     (λ x found. ap (λ nick. record x { nick = nick }) (spelled ∙ ap (λ (y : Member). y.nick) (some_same (sym is ∙ found))))
 
-all_renamed_there : (old new : List ℕ) (cs : List Channel) → list_any (λ c. respells new (find (is_called old) c.members)) cs ≡ false
-    → all_renamed old new cs ≡ cs
-all_renamed_there old new [] none = refl
-all_renamed_there old new (c ∷ cs) none =
-    let parts = or-parts (respells new (find (is_called old) c.members)) (list_any (λ c. respells new (find (is_called old) c.members)) cs) none in
-    ap (λ ms. record c { members = ms } ∷ all_renamed old new cs) (renamed_there old new c.members (find (is_called old) c.members) refl parts.0)
-    ∙ ap (λ ds. c ∷ ds) (all_renamed_there old new cs parts.1)
+all_renamed_there : (mapping : Casemapping) (old new : List ℕ) (cs : List Channel) → list_any (λ c. respells new (find (is_called mapping old) c.members)) cs ≡ false
+    → all_renamed mapping old new cs ≡ cs
+all_renamed_there mapping old new [] none = refl
+all_renamed_there mapping old new (c ∷ cs) none =
+    let parts = or-parts (respells new (find (is_called mapping old) c.members)) (list_any (λ c. respells new (find (is_called mapping old) c.members)) cs) none in
+    ap (λ ms. record c { members = ms } ∷ all_renamed mapping old new cs) (renamed_there mapping old new c.members (find (is_called mapping old) c.members) refl parts.0)
+    ∙ ap (λ ds. c ∷ ds) (all_renamed_there mapping old new cs parts.1)
 
 own_there : (b : Bool) (new nick : List ℕ) → (b && not (pointwise nat_eq nick new)) ≡ false → cond b new nick ≡ nick
 own_there true new nick same = same_text nick new same
@@ -128,26 +146,26 @@ own_there false new nick same = refl
 
 pub same_nick : (old new : List ℕ) (s : ChanState) → adds (Renamed old new) s ≡ false → step (Renamed old new) s ≡ s
 same_nick old new s none =
-    let parts = or-parts (is_same old s.nick && not (pointwise nat_eq s.nick new)) (list_any (λ c. respells new (find (is_called old) c.members)) s.channels) none in
-    ap (λ nick. record s { nick = nick; channels = all_renamed old new s.channels }) (own_there (is_same old s.nick) new s.nick parts.0)
-    ∙ ap (λ cs. record s { channels = cs }) (all_renamed_there old new s.channels parts.1)
+    let parts = or-parts (is_same_by (mapping_of s) old s.nick && not (pointwise nat_eq s.nick new)) (list_any (λ c. respells new (find (is_called (mapping_of s) old) c.members)) s.channels) none in
+    ap (λ nick. record s { nick = nick; channels = all_renamed (mapping_of s) old new s.channels }) (own_there (is_same_by (mapping_of s) old s.nick) new s.nick parts.0)
+    ∙ ap (λ cs. record s { channels = cs }) (all_renamed_there (mapping_of s) old new s.channels parts.1)
 
 -- ---- those who are listed while all of them are members
 
-none_new_step : (one : Member) (more ms : List Member) → has_member one.nick ms ≡ true
-    → listed_each more (first_changed (is_called one.nick) (with_marks_of one) ms) ≡ shown_each more (first_changed (is_called one.nick) (with_marks_of one) ms)
-    → listed_each more (listed one ms) ≡ shown_each more (first_changed (is_called one.nick) (with_marks_of one) ms)
-none_new_step one more ms here rest = ap (listed_each more) (cond-true _ _ _ here) ∙ rest
+none_new_step : (mapping : Casemapping) (one : Member) (more ms : List Member) → has_member mapping one.nick ms ≡ true
+    → listed_each mapping more (first_changed (is_called mapping one.nick) (with_marks_of one) ms) ≡ shown_each mapping more (first_changed (is_called mapping one.nick) (with_marks_of one) ms)
+    → listed_each mapping more (listed mapping one ms) ≡ shown_each mapping more (first_changed (is_called mapping one.nick) (with_marks_of one) ms)
+none_new_step mapping one more ms here rest = ap (listed_each mapping more) (cond-true _ _ _ here) ∙ rest
 
-pub listed-members : (names ms : List Member) → list_any (λ one. not (has_member one.nick ms)) names ≡ false → listed_each names ms ≡ shown_each names ms
-listed-members [] ms none = refl
-listed-members (one ∷ more) ms none =
-    let parts = or-parts (not (has_member one.nick ms)) (list_any (λ one. not (has_member one.nick ms)) more) none in
-    let after = first_changed (is_called one.nick) (with_marks_of one) ms in
-    none_new_step one more ms (not-false _ parts.0)
-    (listed-members more after
-    (any-agree (λ x. not (has_member x.nick after)) (λ x. not (has_member x.nick ms))
-    (λ x. ap not (any-kept (is_called x.nick) (is_called one.nick) (with_marks_of one) (λ m. refl) ms)) more ∙ parts.1))
+pub listed-members : (mapping : Casemapping) (names ms : List Member) → list_any (λ one. not (has_member mapping one.nick ms)) names ≡ false → listed_each mapping names ms ≡ shown_each mapping names ms
+listed-members mapping [] ms none = refl
+listed-members mapping (one ∷ more) ms none =
+    let parts = or-parts (not (has_member mapping one.nick ms)) (list_any (λ one. not (has_member mapping one.nick ms)) more) none in
+    let after = first_changed (is_called mapping one.nick) (with_marks_of one) ms in
+    none_new_step mapping one more ms (not-false _ parts.0)
+    (listed-members mapping more after
+    (any-agree (λ x. not (has_member mapping x.nick after)) (λ x. not (has_member mapping x.nick ms))
+    (λ x. ap not (any-kept (is_called mapping x.nick) (is_called mapping one.nick) (with_marks_of one) (λ m. refl) ms)) more ∙ parts.1))
 
 -- ---- a piece of a list that names what takes memory
 
@@ -176,12 +194,12 @@ any_adds-one item s = by (adds item s)
     by false = refl
 
 -- the bot's joins take memory, if there are any
-pub any_adds-own : (nick user host : List ℕ) (names : List (List ℕ)) (s : ChanState) → is_same nick s.nick ≡ true → 0 < length names
+pub any_adds-own : (nick user host : List ℕ) (names : List (List ℕ)) (s : ChanState) → is_same_by (mapping_of s) nick s.nick ≡ true → 0 < length names
     → any_adds (map (Joined nick user host) names) s ≡ true
 any_adds-own nick user host [] s own some = absurd (let some : 0 < 0 = some in omega arith)
 any_adds-own nick user host (n ∷ ns) s own some =
-    or-left (is_same nick s.nick || is_held n s.channels) (any_adds (map (Joined nick user host) ns) s) (or-left (is_same nick s.nick) (is_held
-    n s.channels) own)
+    or-left (is_same_by (mapping_of s) nick s.nick || is_held (mapping_of s) n s.channels) (any_adds (map (Joined nick user host) ns) s) (or-left
+    (is_same_by (mapping_of s) nick s.nick) (is_held (mapping_of s) n s.channels) own)
 
 -- ---- items that take no memory
 
@@ -189,25 +207,28 @@ pub adds-none : (item : Item) (s : ChanState) → any_adds (item ∷ []) s ≡ f
 adds-none item s none = (or-parts (adds item s) false none).0
 
 pub joins_none : (nick user host : List ℕ) (names : List (List ℕ)) (s : ChanState) → any_adds (map (Joined nick user host) names) s ≡ false
-    → steps (map (Joined nick user host) names) s ≡ s
+    → steps (map (Joined nick user host) names) s ≡ record s { support = joined_if (any_named names) s.support }
 joins_none nick user host [] s none = refl
 joins_none nick user host (n ∷ ns) s none =
     let parts = or-parts (adds (Joined nick user host n) s) (any_adds (map (Joined nick user host) ns) s) none in
-    let apart = or-parts (is_same nick s.nick) (is_held n s.channels) parts.0 in
-    ap (steps (map (Joined nick user host) ns)) (joined-nowhere nick user host n s apart.0 apart.1) ∙ joins_none nick user host ns s parts.1
+    let apart = or-parts (is_same_by (mapping_of s) nick s.nick) (is_held (mapping_of s) n s.channels) parts.0 in
+    let next : ChanState = record s { support = with_join s.support } in
+    ap (steps (map (Joined nick user host) ns)) (joined-nowhere nick user host n s apart.0 apart.1)
+    ∙ (joins_none nick user host ns next (joins_same nick user host ns s ∙ parts.1)
+    ∙ ap (λ sup. record s { support = sup }) (joined_again (any_named ns) s.support))
 
 pub shown_none : (channel names : List ℕ) (s : ChanState) → adds (NamesTold channel names) s ≡ false
-    → on_channel channel (shown_each (names_in s.support names)) s.channels ≡ on_channel channel (listed_each (names_in s.support names)) s.channels
+    → on_channel (mapping_of s) channel (shown_each (mapping_of s) (names_in s.support names)) s.channels ≡ on_channel (mapping_of s) channel (listed_each (mapping_of s) (names_in s.support names)) s.channels
 shown_none channel names s none =
     let ones = names_in s.support names in
-    first_changed-agree (is_named channel) (with_members (shown_each ones)) (with_members (listed_each ones)) s.channels
-    (λ c found. ap (λ ms. record c { members = ms }) (sym (listed-members ones c.members
-    (ap (λ o. list_any (λ one. lacks one.nick o) ones) (sym found) ∙ none))))
+    first_changed-agree (is_named (mapping_of s) channel) (with_members (shown_each (mapping_of s) ones)) (with_members (listed_each (mapping_of s) ones)) s.channels
+    (λ c found. ap (λ ms. record c { members = ms }) (sym (listed-members (mapping_of s) ones c.members
+    (ap (λ o. list_any (λ one. lacks (mapping_of s) one.nick o) ones) (sym found) ∙ none))))
 
 pub any_adds-left : (nick : List ℕ) (names : List (List ℕ)) (s : ChanState) → any_adds (map (Left nick) names) s ≡ false
 any_adds-left nick [] s = refl
 any_adds-left nick (n ∷ ns) s = any_adds-left nick ns s
 
-pub lacks_none : (names : List Member) → list_any (λ one. lacks one.nick None) names ≡ false
-lacks_none [] = refl
-lacks_none (one ∷ more) = lacks_none more
+pub lacks_none : (mapping : Casemapping) (names : List Member) → list_any (λ one. lacks mapping one.nick None) names ≡ false
+lacks_none mapping [] = refl
+lacks_none mapping (one ∷ more) = lacks_none mapping more

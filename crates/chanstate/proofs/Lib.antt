@@ -9,6 +9,7 @@ pub mod DistinctLemmas
 pub mod LookLemmas
 pub mod ItemLemmas
 pub mod PartLemmas
+pub mod AnnouncedLemmas
 pub mod HistoryLemmas
 pub mod SeatLemmas
 pub mod TakeLemmas

@@ -5,13 +5,14 @@ use Rattle.std.specs.Option.{option_map}
 use Rattle.chanstate.specs.declared.member.Member.{Member}
 use Rattle.chanstate.specs.declared.member.Mark.{Mark}
 use Rattle.chanstate.specs.declared.member.Mark.TheVariants.{Op, Voice, HalfOp}
-use Rattle.rfccase.specs.Casemapping.{is_same}
+use Rattle.rfccase.specs.Casemapping.{is_same_by}
 use Rattle.chanstate.specs.Members.{unmarked, with_mark, with_address, with_marks_of, with_nick}
 use Rattle.chanstate.specs.Items.{Item, Welcomed, Announced, Joined, Left, Departed, Renamed, ModesSet, Marked, Titled, NamesTold, Listed, Addressed}
 use Rattle.chanstate.specs.History.{topic, member_said, has_mark, mark_begins, mark_says, if_same_mark, user_begins, user_says, host_begins, host_says}
 use Rattle.chanstate.specs.History.{nick_begins, nick_says, before}
 use Rattle.chanstate.proofs.LookLemmas.{come_as, come_as-none, come_as-some, rename_as, rename_as-none, rename_as-some}
 use Rattle.chanstate.proofs.ItemLemmas.{member_after, mark_keeps}
+use Rattle.rfccase.specs.declared.casemappings.Casemapping.{Casemapping}
 
 -- how a part of a member begins and changes, as the items say
 pub record Part {A : Type 0} (get : Member → A) (begins : Item → A) (says : Item → Option A) : Type 0 where
@@ -79,40 +80,40 @@ d_renamed_some get new now a o true b3 made is = made
 d_renamed_some get new now a o false true made is = tt
 d_renamed_some get new now a o false false made is = is
 
-d_renamed : {A : Type 0} (get : Member → A) (old new x : List ℕ) (says : Option A) (a e : A) (w o : Option Member)
+d_renamed : {A : Type 0} (mapping : Casemapping) (get : Member → A) (old new x : List ℕ) (says : Option A) (a e : A) (w o : Option Member)
     → ((m : Member) → get (with_nick new m) ≡ unwrap_or says (get m)) → Has get e w → Has get a o →
-    Has get (cond (is_some w && is_same x new) (unwrap_or says e) a) (rename_as old new x w o)
-d_renamed get old new x says a e None o made before is = subst (λ z. Has get a z) (sym (rename_as-none old new x o)) is
-d_renamed get old new x says a e (Some m) o made before is =
-    subst (λ z. Has get (cond (is_same x new) (unwrap_or says e) a) z) (sym (rename_as-some old new x m o))
-    (d_renamed_some get (with_nick new m) (unwrap_or says e) a o (is_same x new) (is_same x old) (made m ∙ ap (unwrap_or says) before) is)
+    Has get (cond (is_some w && is_same_by mapping x new) (unwrap_or says e) a) (rename_as mapping old new x w o)
+d_renamed mapping get old new x says a e None o made before is = subst (λ z. Has get a z) (sym (rename_as-none mapping old new x o)) is
+d_renamed mapping get old new x says a e (Some m) o made before is =
+    subst (λ z. Has get (cond (is_same_by mapping x new) (unwrap_or says e) a) z) (sym (rename_as-some mapping old new x m o))
+    (d_renamed_some get (with_nick new m) (unwrap_or says e) a o (is_same_by mapping x new) (is_same_by mapping x old) (made m ∙ ap (unwrap_or says) before) is)
 
-pub known-after : {A : Type 0} (get : Member → A) (begins : Item → A) (says : Item → Option A) → Part get begins says →
+pub known-after : {A : Type 0} (mapping : Casemapping) (get : Member → A) (begins : Item → A) (says : Item → Option A) → Part get begins says →
     (item : Item) (me : List ℕ) (here : Bool) (c x : List ℕ) (look : List ℕ → Option Member) (before : List ℕ → A) → (here ≡ false → look x ≡ None)
     → ((y : List ℕ) → Has get (before y) (look y)) →
-    Has get (member_said begins says item me c (λ y. is_some (look y)) before x) (member_after item me here c look x)
-known-after get begins says part (Welcomed nick) me here c x look before away is = tt
-known-after get begins says part (Announced tokens) me here c x look before away is = is x
-known-after get begins says part (Joined nick user host d) me here c x look before away is =
+    Has get (member_said mapping begins says item me c (λ y. is_some (look y)) before x) (member_after mapping item me here c look x)
+known-after mapping get begins says part (Welcomed nick) me here c x look before away is = tt
+known-after mapping get begins says part (Announced tokens) me here c x look before away is = is x
+known-after mapping get begins says part (Joined nick user host d) me here c x look before away is =
     d_joined get (unmarked nick user host) (with_address user host) (begins (Joined nick user host d)) (says (Joined nick user host d)) (before x)
-    (look x) (is_same c d) (is_same nick me) (is_same x nick) here
+    (look x) (is_same_by mapping c d) (is_same_by mapping nick me) (is_same_by mapping x nick) here
     (part.joins nick user host d) (part.rejoins nick user host d) away (is x)
-known-after get begins says part (Left nick d) me here c x look before away is = d_gone get (before x) (look x)
-    (is_same c d && (is_same nick me || is_same x nick)) (is x)
-known-after get begins says part (Departed nick) me here c x look before away is = d_gone get (before x) (look x) (is_same nick me || is_same x nick) (is x)
-known-after get begins says part (Renamed old new) me here c x look before away is =
-    d_renamed get old new x (says (Renamed old new)) (before x) (before old) (look old) (look x) (part.renames old new) (is old) (is x)
-known-after get begins says part (ModesSet channel modes arguments) me here c x look before away is = is x
-known-after get begins says part (Marked d mark set nick) me here c x look before away is =
-    d_changed get (with_mark mark set) (says (Marked d mark set nick)) (before x) (look x) (is_same c d && is_same x nick) (part.marks d mark set nick)
+known-after mapping get begins says part (Left nick d) me here c x look before away is = d_gone get (before x) (look x)
+    (is_same_by mapping c d && (is_same_by mapping nick me || is_same_by mapping x nick)) (is x)
+known-after mapping get begins says part (Departed nick) me here c x look before away is = d_gone get (before x) (look x) (is_same_by mapping nick me || is_same_by mapping x nick) (is x)
+known-after mapping get begins says part (Renamed old new) me here c x look before away is =
+    d_renamed mapping get old new x (says (Renamed old new)) (before x) (before old) (look old) (look x) (part.renames old new) (is old) (is x)
+known-after mapping get begins says part (ModesSet channel modes arguments) me here c x look before away is = is x
+known-after mapping get begins says part (Marked d mark set nick) me here c x look before away is =
+    d_changed get (with_mark mark set) (says (Marked d mark set nick)) (before x) (look x) (is_same_by mapping c d && is_same_by mapping x nick) (part.marks d mark set nick)
     (is x)
-known-after get begins says part (Titled d topic) me here c x look before away is = is x
-known-after get begins says part (NamesTold channel names) me here c x look before away is = is x
-known-after get begins says part (Listed d one) me here c x look before away is =
-    d_listed get one (with_marks_of one) (begins (Listed d one)) (says (Listed d one)) (before x) (look x) (is_same c d) (is_same x one.nick) here
+known-after mapping get begins says part (Titled d topic) me here c x look before away is = is x
+known-after mapping get begins says part (NamesTold channel names) me here c x look before away is = is x
+known-after mapping get begins says part (Listed d one) me here c x look before away is =
+    d_listed get one (with_marks_of one) (begins (Listed d one)) (says (Listed d one)) (before x) (look x) (is_same_by mapping c d) (is_same_by mapping x one.nick) here
     (part.lists d one) (part.relists d one) away (is x)
-known-after get begins says part (Addressed d nick user host) me here c x look before away is =
-    d_changed get (with_address user host) (says (Addressed d nick user host)) (before x) (look x) (is_same c d && is_same x nick)
+known-after mapping get begins says part (Addressed d nick user host) me here c x look before away is =
+    d_changed get (with_address user host) (says (Addressed d nick user host)) (before x) (look x) (is_same_by mapping c d && is_same_by mapping x nick)
     (part.addresses d nick user host) (is x)
 
 -- ---- the parts of a member

@@ -18,6 +18,7 @@ use Rattle.chanstate.specs.Announced.{is_in}
 use Rattle.chanstate.specs.Items.{Item, Listed, Single, marking, markings, mark_of, rank_of, is_letter, single_at, singles, sign_after, argument_of}
 use Rattle.chanstate.specs.Items.{arguments_after, read_by}
 use Rattle.chanstate.specs.Steps.{step, each_step, steps}
+use Rattle.chanstate.specs.Views.{mapping_of}
 
 each_step-append : (xs ys : List Item) (s : ChanState) → each_step (xs ++ ys) s ≡ each_step ys (each_step xs s)
 each_step-append [] ys s = refl
@@ -59,13 +60,13 @@ first_changed-same p f same (x ∷ xs) = same_by x (f x) xs (first_changed p f x
 
 -- the names of a listing, one after the other, are one change of the channel's members
 pub each_step-listed : (channel : List ℕ) (names : List Member) (s : ChanState)
-    → each_step (map (Listed channel) names) s ≡ record s { channels = on_channel channel (listed_each names) s.channels }
+    → each_step (map (Listed channel) names) s ≡ record s { channels = on_channel (mapping_of s) channel (listed_each (mapping_of s) names) s.channels }
 each_step-listed channel [] s = ap (λ cs. record s { channels = cs })
-    (sym (first_changed-same (is_named channel) (with_members (listed_each [])) (λ c. refl) s.channels))
+    (sym (first_changed-same (is_named (mapping_of s) channel) (with_members (listed_each (mapping_of s) [])) (λ c. refl) s.channels))
 each_step-listed channel (one ∷ more) s =
     each_step-listed channel more (step (Listed channel one) s)
     ∙ ap (λ cs. record s { channels = cs })
-    (first_changed-twice (is_named channel) (with_members (listed one)) (with_members (listed_each more)) (λ c. refl) s.channels)
+    (first_changed-twice (is_named (mapping_of s) channel) (with_members (listed (mapping_of s) one)) (with_members (listed_each (mapping_of s) more)) (λ c. refl) s.channels)
 
 -- one more piece of a list that is cut into pieces, of which some name what an item is about
 pub pieces_more : (f : List ℕ → Item) (p : List ℕ → Bool) (xs : List (List ℕ)) (x : List ℕ) (s : ChanState)

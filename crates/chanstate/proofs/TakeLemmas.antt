@@ -15,6 +15,7 @@ use Rattle.chanstate.specs.Channels.{is_named, is_held, with_members, on_channel
 use Rattle.chanstate.proofs.BoolLemmas.{or-parts}
 use Rattle.bytetext.proofs.Lists.{list_any-no_position}
 use Rattle.chanstate.proofs.FirstsLemmas.{first_changed-first, first-from_position, first_changed-nowhere, somewhere}
+use Rattle.rfccase.specs.declared.casemappings.Casemapping.{Casemapping}
 
 -- ---- the channel at a place
 
@@ -86,13 +87,13 @@ AreKept-append change [] t one all = (one, tt)
 AreKept-append change (u ∷ us) t one all = (all.0, AreKept-append change us t one all.1)
 
 -- as the code takes one more
-pub taken : (at : ℕ) (task : Task) (xs old : List Channel) (before ts takes : List Take) (c : Channel) (ms : List Member) (seating : List Member × List Member)
-    → xs ≡ old → at < length old → c ≡ get_or xs at c → seating ≡ (c.members, done_by task c.members) → ts ≡ before
+pub taken : (mapping : Casemapping) (at : ℕ) (task : Task) (xs old : List Channel) (before ts takes : List Take) (c : Channel) (ms : List Member) (seating : List Member × List Member)
+    → xs ≡ old → at < length old → c ≡ get_or xs at c → seating ≡ (c.members, done_by mapping task c.members) → ts ≡ before
     → takes ≡ ts ++ (record { at = at; seating = seating }) ∷ []
-    → Holds at task old before (set xs at (record c { members = ms })) takes
-taken at task xs old before ts takes c ms seating same less read made kept more = record {
+    → Holds mapping at task old before (set xs at (record c { members = ms })) takes
+taken mapping at task xs old before ts takes c ms seating same less read made kept more = record {
   back = side false (λ ms. ms) (ap (λ (p : List Member × List Member). p.0) made) ∙ ap (given false before) (on_place-still at (λ ms. ms) old c refl);
-  done = side true (done_by task) (ap (λ (p : List Member × List Member). p.1) made);
+  done = side true (done_by mapping task) (ap (λ (p : List Member × List Member). p.1) made);
   places = λ i. ap (is_taken i) is ∙ list_any-append (λ (t : Take). nat_eq t.at i) before (one ∷ []) ∙ ap (λ b. is_taken i before || b) (or_false (nat_eq at i));
   kept = λ change again all.
       let fixed : change seating.1 ≡ seating.1 = ap (λ (p : List Member × List Member). change p.1) made ∙ again c.members
@@ -167,35 +168,35 @@ pub len-given : (done : Bool) (ts : List Take) (cs : List Channel) → length (g
 len-given done [] cs = refl
 len-given done (t ∷ ts) cs = len-on_place t.at (λ _. pick done t.seating) (given done ts cs) ∙ len-given done ts cs
 
-first-on_place : (name : List ℕ) (i : ℕ) (f : List Member → List Member) (cs : List Channel)
-    → position_or_len (is_named name) (on_place i f cs) ≡ position_or_len (is_named name) cs
-first-on_place name i f [] = refl
-first-on_place name zero f (c ∷ cs) = refl
-first-on_place name (suc i) f (c ∷ cs) = ap (λ n. cond (not (is_named name c)) (1 + n) 0) (first-on_place name i f cs)
+first-on_place : (mapping : Casemapping) (name : List ℕ) (i : ℕ) (f : List Member → List Member) (cs : List Channel)
+    → position_or_len (is_named mapping name) (on_place i f cs) ≡ position_or_len (is_named mapping name) cs
+first-on_place mapping name i f [] = refl
+first-on_place mapping name zero f (c ∷ cs) = refl
+first-on_place mapping name (suc i) f (c ∷ cs) = ap (λ n. cond (not (is_named mapping name c)) (1 + n) 0) (first-on_place mapping name i f cs)
 
-first-given : (name : List ℕ) (done : Bool) (ts : List Take) (cs : List Channel)
-    → position_or_len (is_named name) (given done ts cs) ≡ position_or_len (is_named name) cs
-first-given name done [] cs = refl
-first-given name done (t ∷ ts) cs = first-on_place name t.at (λ _. pick done t.seating) (given done ts cs) ∙ first-given name done ts cs
+first-given : (mapping : Casemapping) (name : List ℕ) (done : Bool) (ts : List Take) (cs : List Channel)
+    → position_or_len (is_named mapping name) (given done ts cs) ≡ position_or_len (is_named mapping name) cs
+first-given mapping name done [] cs = refl
+first-given mapping name done (t ∷ ts) cs = first-on_place mapping name t.at (λ _. pick done t.seating) (given done ts cs) ∙ first-given mapping name done ts cs
 
-pub position-given : (name : List ℕ) (done : Bool) (ts : List Take) (cs : List Channel)
-    → position (is_named name) (given done ts cs) ≡ position (is_named name) cs
-position-given name done ts cs =
-    ap (λ n. cond (ltb n (length (given done ts cs))) (Some n) None) (first-given name done ts cs)
-    ∙ ap (λ l. cond (ltb (position_or_len (is_named name) cs) l) (Some (position_or_len (is_named name) cs)) None) (len-given done ts cs)
+pub position-given : (mapping : Casemapping) (name : List ℕ) (done : Bool) (ts : List Take) (cs : List Channel)
+    → position (is_named mapping name) (given done ts cs) ≡ position (is_named mapping name) cs
+position-given mapping name done ts cs =
+    ap (λ n. cond (ltb n (length (given done ts cs))) (Some n) None) (first-given mapping name done ts cs)
+    ∙ ap (λ l. cond (ltb (position_or_len (is_named mapping name) cs) l) (Some (position_or_len (is_named mapping name) cs)) None) (len-given done ts cs)
 
 nobody : Channel
 nobody = record { name = []; topic = []; members = [] }
 
-pub on_channel-at : (name : List ℕ) (i : ℕ) (f : List Member → List Member) (cs : List Channel) → position (is_named name) cs ≡ Some i
-    → on_channel name f cs ≡ on_place i f cs
-on_channel-at name i f cs is =
-    let first = first-from_position (is_named name) cs i nobody is in
-    first_changed-first (is_named name) (with_members f) cs i nobody first ∙ sym (on_place-at i f cs nobody first.within)
+pub on_channel-at : (mapping : Casemapping) (name : List ℕ) (i : ℕ) (f : List Member → List Member) (cs : List Channel) → position (is_named mapping name) cs ≡ Some i
+    → on_channel mapping name f cs ≡ on_place i f cs
+on_channel-at mapping name i f cs is =
+    let first = first-from_position (is_named mapping name) cs i nobody is in
+    first_changed-first (is_named mapping name) (with_members f) cs i nobody first ∙ sym (on_place-at i f cs nobody first.within)
 
-pub on_channel-nowhere : (name : List ℕ) (f : List Member → List Member) (cs : List Channel) → position (is_named name) cs ≡ None
-    → on_channel name f cs ≡ cs
-on_channel-nowhere name f cs none = first_changed-nowhere (is_named name) (with_members f) cs (list_any-no_position (is_named name) cs none)
+pub on_channel-nowhere : (mapping : Casemapping) (name : List ℕ) (f : List Member → List Member) (cs : List Channel) → position (is_named mapping name) cs ≡ None
+    → on_channel mapping name f cs ≡ cs
+on_channel-nowhere mapping name f cs none = first_changed-nowhere (is_named mapping name) (with_members f) cs (list_any-no_position (is_named mapping name) cs none)
 
 -- ---- the same change on each channel in turn
 
@@ -223,14 +224,14 @@ front_on-all (suc n) f (c ∷ cs) all =
 
 -- ---- which channels are held
 
-pub held_at : (name : List ℕ) (i : ℕ) (cs : List Channel) → Some i ≡ position (is_named name) cs → is_held name cs ≡ true
-held_at name i cs is = somewhere (is_named name) cs i nobody is
+pub held_at : (mapping : Casemapping) (name : List ℕ) (i : ℕ) (cs : List Channel) → Some i ≡ position (is_named mapping name) cs → is_held mapping name cs ≡ true
+held_at mapping name i cs is = somewhere (is_named mapping name) cs i nobody is
 
-held-on_place : (name : List ℕ) (i : ℕ) (f : List Member → List Member) (cs : List Channel) → is_held name (on_place i f cs) ≡ is_held name cs
-held-on_place name i f [] = refl
-held-on_place name zero f (c ∷ cs) = refl
-held-on_place name (suc i) f (c ∷ cs) = ap (λ b. is_named name c || b) (held-on_place name i f cs)
+held-on_place : (mapping : Casemapping) (name : List ℕ) (i : ℕ) (f : List Member → List Member) (cs : List Channel) → is_held mapping name (on_place i f cs) ≡ is_held mapping name cs
+held-on_place mapping name i f [] = refl
+held-on_place mapping name zero f (c ∷ cs) = refl
+held-on_place mapping name (suc i) f (c ∷ cs) = ap (λ b. is_named mapping name c || b) (held-on_place mapping name i f cs)
 
-pub held-given : (name : List ℕ) (done : Bool) (ts : List Take) (cs : List Channel) → is_held name (given done ts cs) ≡ is_held name cs
-held-given name done [] cs = refl
-held-given name done (t ∷ ts) cs = held-on_place name t.at (λ _. pick done t.seating) (given done ts cs) ∙ held-given name done ts cs
+pub held-given : (mapping : Casemapping) (name : List ℕ) (done : Bool) (ts : List Take) (cs : List Channel) → is_held mapping name (given done ts cs) ≡ is_held mapping name cs
+held-given mapping name done [] cs = refl
+held-given mapping name done (t ∷ ts) cs = held-on_place mapping name t.at (λ _. pick done t.seating) (given done ts cs) ∙ held-given mapping name done ts cs

@@ -11,6 +11,7 @@ use Rattle.chanstate.specs.declared.support.Support.{Support}
 use Rattle.chanstate.specs.Items.{named}
 use Rattle.chanstate.specs.Members.{shown_each, is_called, with_marks_of}
 use denote.Ref.{Bor}
+use Rattle.rfccase.specs.declared.casemappings.Casemapping.{Casemapping}
 
 one_word : {X Y : Type 0} (h : X → Option Y) (x : X) → filter_map h (x ∷ []) ≡ option_to_list (h x)
 one_word {Y = Y} h x = by (h x)
@@ -28,9 +29,9 @@ named_more sup words word =
     ∙ filter_map-append (named sup) (map (λ x. x.now) words) (word.now ∷ [])
     ∙ ap (λ ms. filter_map (named sup) (map (λ x. x.now) words) ++ ms) (one_word (named sup) word.now)
 
-pub shown_each-append : (xs ys ms : List Member) → shown_each (xs ++ ys) ms ≡ shown_each ys (shown_each xs ms)
-shown_each-append [] ys ms = refl
-shown_each-append (x ∷ xs) ys ms = shown_each-append xs ys (first_changed (is_called x.nick) (with_marks_of x) ms)
+pub shown_each-append : (mapping : Casemapping) (xs ys ms : List Member) → shown_each mapping (xs ++ ys) ms ≡ shown_each mapping ys (shown_each mapping xs ms)
+shown_each-append mapping [] ys ms = refl
+shown_each-append mapping (x ∷ xs) ys ms = shown_each-append mapping xs ys (first_changed (is_called mapping x.nick) (with_marks_of x) ms)
 
 -- one word among those of a list
 front : {Y : Type 0} (p : Y → Bool) (o : Option Y) (ys : List Y) → list_any p (option_to_list o) ≡ true → list_any p (cons_option o ys) ≡ true

@@ -5,6 +5,8 @@ use Rattle.std.specs.Prelude.{ℕ, Bool, true, false, ◌||◌, ◌&&◌, ◌==�
 use Rattle.std.specs.Prelude.{slice_get, slice_set, unwrap_or, if◌then◌else◌}
 use Rattle.std.specs.List.{position_or_len}
 use Rattle.std.specs.Str.{bytes_eq}
+use Rattle.rfccase.specs.declared.casemappings.Casemapping.TheVariants.{Rfc1459}
+use Rattle.rfccase.specs.Casemapping.{mapping_named}
 use Rattle.chanstate.specs.declared.letters.Letters.{Letters}
 use Rattle.chanstate.specs.declared.support.Support.{Support}
 
@@ -35,6 +37,8 @@ unannounced = record {
   signs = letters_of (codes "@%+&~");
   always = letters_of (codes "beIk");
   when_set = letters_of (codes "l");
+  casemapping = Rfc1459;
+  join_read = false;
 }
 
 -- a text cut at the first such byte, which is dropped; without such a byte it is not cut
@@ -78,6 +82,15 @@ typed_one (Some p) s = typed_two p.0 (cut 44 p.1) s
 abbrev pub with_types : List ℕ → Support → Support
 with_types value s = typed_one (cut 44 value) s
 
+-- CASEMAPPING=name: how the server compares names. It counts only while no JOIN has been read, so that no channel or
+-- member is held that was found by another casemapping.
+abbrev pub with_casemapping : List ℕ → Support → Support
+with_casemapping value s = if s.join_read then s else record s { casemapping = mapping_named value }
+
+-- a JOIN has been read
+abbrev pub with_join : Support → Support
+with_join s = record s { join_read = true }
+
 -- a token is KEY=value, or KEY alone with an empty value
 abbrev pub key_and_value : List ℕ → Option (List ℕ × List ℕ) → List ℕ × List ℕ
 key_and_value token None = (token, [])
@@ -87,7 +100,8 @@ key_and_value token (Some p) = p
 abbrev pub announced_by : List ℕ × List ℕ → Support → Support
 announced_by p s =
     if bytes_eq p.0 (codes "PREFIX") then with_prefix p.1 s
-    else (if bytes_eq p.0 (codes "CHANMODES") then with_types p.1 s else s)
+    else (if bytes_eq p.0 (codes "CHANMODES") then with_types p.1 s
+    else (if bytes_eq p.0 (codes "CASEMAPPING") then with_casemapping p.1 s else s))
 
 abbrev pub with_token : List ℕ → Support → Support
 with_token token s = announced_by (key_and_value token (cut 61 token)) s

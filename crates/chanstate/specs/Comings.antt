@@ -5,9 +5,9 @@ use Rattle.std.specs.Option.{option_map}
 use Rattle.chanstate.specs.declared.event.IrcEvent.{IrcEvent}
 use Rattle.chanstate.specs.declared.event.EventKind.TheVariants.{Join, Part, Sign, Nick}
 use Rattle.chanstate.specs.declared.state.ChanState.{ChanState}
-use Rattle.rfccase.specs.Casemapping.{is_same}
+use Rattle.rfccase.specs.Casemapping.{is_same_by}
 use Rattle.chanstate.specs.Items.{channels_in}
-use Rattle.chanstate.specs.Views.{channel_in, channels_with}
+use Rattle.chanstate.specs.Views.{mapping_of, channel_in, channels_with}
 use Rattle.chanstate.specs.EventShape.{event_on}
 use Rattle.chanstate.specs.Given.{when_given, text_at}
 
@@ -28,7 +28,7 @@ listed_in own s list = filter_map (spelled own s) (channels_in list)
 -- JOIN: on each listed channel that the bot is on, or on every listed channel if the bot itself joins
 abbrev pub joins : List ℕ → List ℕ → List (List ℕ) → ChanState → List IrcEvent
 joins nick address ps s = when_given (slice_get ps 0)
-    (λ list. map (event_on Join nick address (hostmask nick address) []) (listed_in (is_same nick s.nick) s list))
+    (λ list. map (event_on Join nick address (hostmask nick address) []) (listed_in (is_same_by (mapping_of s) nick s.nick) s list))
 
 -- PART: on each listed channel that the bot is on, with the message
 abbrev pub parts : List ℕ → List ℕ → List (List ℕ) → ChanState → List IrcEvent

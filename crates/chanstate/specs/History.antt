@@ -8,105 +8,126 @@ use Rattle.chanstate.specs.declared.member.Mark.{Mark}
 use Rattle.chanstate.specs.declared.member.Mark.TheVariants.{Op, Voice, HalfOp}
 use Rattle.chanstate.specs.declared.state.ChanState.{ChanState}
 use Rattle.ircline.specs.declared.message.Message.{Message}
-use Rattle.rfccase.specs.Casemapping.{is_same}
+use Rattle.rfccase.specs.Casemapping.{is_same_by}
+use Rattle.rfccase.specs.declared.casemappings.Casemapping.{Casemapping}
 use Rattle.chanstate.specs.declared.support.Support.{Support}
-use Rattle.chanstate.specs.Announced.{unannounced, announced}
+use Rattle.chanstate.specs.Announced.{unannounced, announced, with_join}
 use Rattle.chanstate.specs.Items.{Item, Welcomed, Announced, Joined, Left, Departed, Renamed, Marked, Titled, Listed, Addressed, read_by, items_of}
 use Rattle.chanstate.specs.Steps.{after}
 use Rattle.chanstate.specs.Views.{channel_in, members_in, member_in}
 
--- the bot's nick, from the last welcome or the last change of that nick
-abbrev pub own_said : Item → List ℕ → Option (List ℕ)
-own_said (Welcomed nick) me = Some nick
-own_said (Renamed old new) me = if is_same old me then Some new else None
-own_said item me = None
-
-abbrev pub own : List ℕ → List Item → List ℕ
-own first [] = first
-own first (item ∷ past) = unwrap_or (own_said item (own first past)) (own first past)
-
--- what the server has announced, token by token, since it last welcomed the bot
+-- What the server has announced, token by token, since it last welcomed the bot. A casemapping that it announces after
+-- a JOIN does not count.
 abbrev pub support_said : Item → Support → Support
 support_said (Welcomed nick) was = unannounced
 support_said (Announced tokens) was = announced tokens was
+support_said (Joined nick user host c) was = with_join was
 support_said item was = was
 
 abbrev pub support : List Item → Support
 support [] = unannounced
 support (item ∷ past) = support_said item (support past)
 
+-- how names compare
+abbrev pub mapping_at : List Item → Casemapping
+mapping_at past = (support past).casemapping
+
+-- the bot's nick, from the last welcome or the last change of that nick
+abbrev pub own_said : Casemapping → Item → List ℕ → Option (List ℕ)
+own_said mapping (Welcomed nick) me = Some nick
+own_said mapping (Renamed old new) me = if is_same_by mapping old me then Some new else None
+own_said mapping item me = None
+
+abbrev pub own : List ℕ → List Item → List ℕ
+own first [] = first
+own first (item ∷ past) = unwrap_or (own_said (mapping_at past) item (own first past)) (own first past)
+
 -- whether a channel is held: a join of the bot adds it; its leaving, its departure and a welcome remove it
-abbrev pub channel_said : Item → List ℕ → List ℕ → Option Bool
-channel_said (Welcomed nick) me c = Some false
-channel_said (Joined nick user host d) me c = if is_same c d && is_same nick me then Some true else None
-channel_said (Left nick d) me c = if is_same c d && is_same nick me then Some false else None
-channel_said (Departed nick) me c = if is_same nick me then Some false else None
-channel_said item me c = None
+abbrev pub channel_said : Casemapping → Item → List ℕ → List ℕ → Option Bool
+channel_said mapping (Welcomed nick) me c = Some false
+channel_said mapping (Joined nick user host d) me c =
+    if is_same_by mapping c d && is_same_by mapping nick me then Some true else None
+channel_said mapping (Left nick d) me c = if is_same_by mapping c d && is_same_by mapping nick me then Some false else None
+channel_said mapping (Departed nick) me c = if is_same_by mapping nick me then Some false else None
+channel_said mapping item me c = None
 
 abbrev pub held : List ℕ → List ℕ → List Item → Bool
 held first c [] = false
-held first c (item ∷ past) = unwrap_or (channel_said item (own first past) c) (held first c past)
+held first c (item ∷ past) = unwrap_or (channel_said (mapping_at past) item (own first past) c) (held first c past)
 
 -- the topic of a held channel: what the last topic says, or none if the bot joined after that
-abbrev pub topic_said : Item → List ℕ → List ℕ → Option (List ℕ)
-topic_said (Joined nick user host d) me c = if is_same c d && is_same nick me then Some [] else None
-topic_said (Titled d topic) me c = if is_same c d then Some topic else None
-topic_said item me c = None
+abbrev pub topic_said : Casemapping → Item → List ℕ → List ℕ → Option (List ℕ)
+topic_said mapping (Joined nick user host d) me c =
+    if is_same_by mapping c d && is_same_by mapping nick me then Some [] else None
+topic_said mapping (Titled d topic) me c = if is_same_by mapping c d then Some topic else None
+topic_said mapping item me c = None
 
 abbrev pub topic : List ℕ → List ℕ → List Item → List ℕ
 topic first c [] = []
-topic first c (item ∷ past) = unwrap_or (topic_said item (own first past) c) (topic first c past)
+topic first c (item ∷ past) = unwrap_or (topic_said (mapping_at past) item (own first past) c) (topic first c past)
 
 -- the spelling of a held channel, as in the bot's last join of it
-abbrev pub name_said : Item → List ℕ → List ℕ → Option (List ℕ)
-name_said (Joined nick user host d) me c = if is_same c d && is_same nick me then Some d else None
-name_said item me c = None
+abbrev pub name_said : Casemapping → Item → List ℕ → List ℕ → Option (List ℕ)
+name_said mapping (Joined nick user host d) me c =
+    if is_same_by mapping c d && is_same_by mapping nick me then Some d else None
+name_said mapping item me c = None
 
 abbrev pub spelling : List ℕ → List ℕ → List Item → List ℕ
 spelling first c [] = []
-spelling first c (item ∷ past) = unwrap_or (name_said item (own first past) c) (spelling first c past)
+spelling first c (item ∷ past) = unwrap_or (name_said (mapping_at past) item (own first past) c) (spelling first c past)
 
 -- Whether a nick is on a channel. `here` says whether the channel was held, and `was` who was on it. After the bot's
 -- own join nobody else is on it. A change of nick removes the old one and adds the new one.
-abbrev pub nick_said : Item → List ℕ → Bool → List ℕ → (List ℕ → Bool) → List ℕ → Option Bool
-nick_said (Welcomed nick) me here c was x = Some false
-nick_said (Joined nick user host d) me here c was x =
-    if is_same c d then (if is_same nick me then Some (is_same x nick) else (if here && is_same x nick then Some true else None)) else None
-nick_said (Left nick d) me here c was x = if is_same c d && (is_same nick me || is_same x nick) then Some false else None
-nick_said (Departed nick) me here c was x = if is_same nick me || is_same x nick then Some false else None
-nick_said (Renamed old new) me here c was x =
-    if was old then (if is_same x new then Some true else (if is_same x old then Some false else None)) else None
-nick_said (Listed d one) me here c was x = if is_same c d && (here && is_same x one.nick) then Some true else None
-nick_said item me here c was x = None
+abbrev pub nick_said : Casemapping → Item → List ℕ → Bool → List ℕ → (List ℕ → Bool) → List ℕ → Option Bool
+nick_said mapping (Welcomed nick) me here c was x = Some false
+nick_said mapping (Joined nick user host d) me here c was x =
+    if is_same_by mapping c d
+    then (if is_same_by mapping nick me
+    then Some (is_same_by mapping x nick)
+    else (if here && is_same_by mapping x nick then Some true else None))
+    else None
+nick_said mapping (Left nick d) me here c was x =
+    if is_same_by mapping c d && (is_same_by mapping nick me || is_same_by mapping x nick) then Some false else None
+nick_said mapping (Departed nick) me here c was x =
+    if is_same_by mapping nick me || is_same_by mapping x nick then Some false else None
+nick_said mapping (Renamed old new) me here c was x =
+    if was old then (if is_same_by mapping x new then Some true else (if is_same_by mapping x old then Some false else None)) else None
+nick_said mapping (Listed d one) me here c was x =
+    if is_same_by mapping c d && (here && is_same_by mapping x one.nick) then Some true else None
+nick_said mapping item me here c was x = None
 
 abbrev pub on : List ℕ → List ℕ → List Item → List ℕ → Bool
 on first c [] x = false
-on first c (item ∷ past) x = unwrap_or (nick_said item (own first past) (held first c past) c (on first c past) x) (on first c past x)
+on first c (item ∷ past) x =
+    unwrap_or (nick_said (mapping_at past) item (own first past) (held first c past) c (on first c past) x) (on first c past x)
 
 -- What is known of a member, for example a mark. The item that puts the nick on the channel says how it begins, and the
 -- last later item that concerns it says what it is now. Before a change of nick, the history is searched for the old
 -- one.
-abbrev pub member_said : {A : Type 0} → (Item → A) → (Item → Option A) → Item → List ℕ → List ℕ → (List ℕ → Bool) → (List ℕ → A) → List ℕ → A
-member_said begins says (Joined nick user host d) me c was before x =
-    if is_same c d && is_same x nick
-    then (if is_same nick me || not (was x) then begins (Joined nick user host d) else unwrap_or (says (Joined nick user host d)) (before x))
+abbrev pub member_said : {A : Type 0} → Casemapping → (Item → A) → (Item → Option A) → Item → List ℕ → List ℕ → (List ℕ → Bool)
+    → (List ℕ → A) → List ℕ → A
+member_said mapping begins says (Joined nick user host d) me c was before x =
+    if is_same_by mapping c d && is_same_by mapping x nick
+    then (if is_same_by mapping nick me || not (was x)
+    then begins (Joined nick user host d)
+    else unwrap_or (says (Joined nick user host d)) (before x))
     else before x
-member_said begins says (Listed d one) me c was before x =
-    if is_same c d && is_same x one.nick
+member_said mapping begins says (Listed d one) me c was before x =
+    if is_same_by mapping c d && is_same_by mapping x one.nick
     then (if was x then unwrap_or (says (Listed d one)) (before x) else begins (Listed d one))
     else before x
-member_said begins says (Renamed old new) me c was before x =
-    if was old && is_same x new then unwrap_or (says (Renamed old new)) (before old) else before x
-member_said begins says (Marked d mark set nick) me c was before x =
-    if is_same c d && is_same x nick then unwrap_or (says (Marked d mark set nick)) (before x) else before x
-member_said begins says (Addressed d nick user host) me c was before x =
-    if is_same c d && is_same x nick then unwrap_or (says (Addressed d nick user host)) (before x) else before x
-member_said begins says item me c was before x = before x
+member_said mapping begins says (Renamed old new) me c was before x =
+    if was old && is_same_by mapping x new then unwrap_or (says (Renamed old new)) (before old) else before x
+member_said mapping begins says (Marked d mark set nick) me c was before x =
+    if is_same_by mapping c d && is_same_by mapping x nick then unwrap_or (says (Marked d mark set nick)) (before x) else before x
+member_said mapping begins says (Addressed d nick user host) me c was before x =
+    if is_same_by mapping c d && is_same_by mapping x nick then unwrap_or (says (Addressed d nick user host)) (before x) else before x
+member_said mapping begins says item me c was before x = before x
 
 abbrev pub known : {A : Type 0} → (Item → A) → (Item → Option A) → A → List ℕ → List ℕ → List Item → List ℕ → A
 known begins says none first c [] x = none
 known begins says none first c (item ∷ past) x =
-    member_said begins says item (own first past) c (on first c past) (known begins says none first c past) x
+    member_said (mapping_at past) begins says item (own first past) c (on first c past) (known begins says none first c past) x
 
 -- a mark: someone who joins has none, a listing gives the marks that it shows, and a mode sets or clears one
 abbrev pub has_mark : Mark → Member → Bool
@@ -166,16 +187,17 @@ nick_says item = None
 -- when a nick was put on a channel, as the number of earlier items; a change of nick keeps it
 abbrev pub arrival : List ℕ → List ℕ → List Item → List ℕ → ℕ
 arrival first c [] x = 0
-arrival first c (item ∷ past) x = member_said (λ _. length past) (λ _. None) item (own first past) c (on first c past) (arrival first c past) x
+arrival first c (item ∷ past) x =
+    member_said (mapping_at past) (λ _. length past) (λ _. None) item (own first past) c (on first c past) (arrival first c past) x
 
 -- when the bot joined a channel
-abbrev pub joins : Item → List ℕ → List ℕ → Bool
-joins (Joined nick user host d) me c = is_same c d && is_same nick me
-joins item me c = false
+abbrev pub joins : Casemapping → Item → List ℕ → List ℕ → Bool
+joins mapping (Joined nick user host d) me c = is_same_by mapping c d && is_same_by mapping nick me
+joins mapping item me c = false
 
 abbrev pub opening : List ℕ → List Item → List ℕ → ℕ
 opening first [] c = 0
-opening first (item ∷ past) c = if joins item (own first past) c then length past else opening first past c
+opening first (item ∷ past) c = if joins (mapping_at past) item (own first past) c then length past else opening first past c
 
 -- the number is below all that follow it
 abbrev pub Behind : ℕ → List ℕ → Type 0

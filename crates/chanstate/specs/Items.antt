@@ -53,6 +53,11 @@ if_given (Some text) items = items text
 abbrev pub channels_in : List ℕ → List (List ℕ)
 channels_in text = filter is_channel_name (slice_split (λ b. b == 44) text)
 
+-- whether there is one
+abbrev pub any_named : List (List ℕ) → Bool
+any_named [] = false
+any_named (name ∷ more) = true
+
 -- signs stand before a nick in a list of names
 abbrev pub signs_len : Support → List ℕ → ℕ
 signs_len s word = position_or_len (λ b. not (is_sign s b)) word

@@ -6,16 +6,17 @@ use Rattle.chanstate.specs.declared.member.Mark.{Mark}
 use Rattle.chanstate.specs.declared.member.Mark.TheVariants.{Op, Voice, HalfOp}
 use Rattle.chanstate.specs.declared.member_edit.MemberEdit.{MemberEdit}
 use Rattle.chanstate.specs.declared.member_edit.MemberEdit.TheVariants.{Marked, Listed, Addressed}
-use Rattle.rfccase.specs.Casemapping.{is_same}
+use Rattle.rfccase.specs.Casemapping.{is_same_by}
 use Rattle.chanstate.specs.Firsts.{first_removed, first_changed}
+use Rattle.rfccase.specs.declared.casemappings.Casemapping.{Casemapping}
 
 -- whether the member has this nick
-abbrev pub is_called : List ℕ → Member → Bool
-is_called nick m = is_same nick m.nick
+abbrev pub is_called : Casemapping → List ℕ → Member → Bool
+is_called mapping nick m = is_same_by mapping nick m.nick
 
 -- whether one of the members has this nick
-abbrev pub has_member : List ℕ → List Member → Bool
-has_member nick members = list_any (is_called nick) members
+abbrev pub has_member : Casemapping → List ℕ → List Member → Bool
+has_member mapping nick members = list_any (is_called mapping nick) members
 
 -- a member who has no mark yet
 abbrev pub unmarked : List ℕ → List ℕ → List ℕ → Member
@@ -46,36 +47,36 @@ edited (Listed more) m = with_marks_of more m
 edited (Addressed user host) m = with_address user host m
 
 -- someone joins: a member gets the new address, and anyone else comes last, without marks
-abbrev pub arrived : Member → List Member → List Member
-arrived one members =
-    if has_member one.nick members
-    then first_changed (is_called one.nick) (with_address one.user one.host) members
+abbrev pub arrived : Casemapping → Member → List Member → List Member
+arrived mapping one members =
+    if has_member mapping one.nick members
+    then first_changed (is_called mapping one.nick) (with_address one.user one.host) members
     else members ++ one ∷ []
 
 -- someone is listed: a member gets the marks, and anyone else comes last with them
-abbrev pub listed : Member → List Member → List Member
-listed one members =
-    if has_member one.nick members
-    then first_changed (is_called one.nick) (with_marks_of one) members
+abbrev pub listed : Casemapping → Member → List Member → List Member
+listed mapping one members =
+    if has_member mapping one.nick members
+    then first_changed (is_called mapping one.nick) (with_marks_of one) members
     else members ++ one ∷ []
 
 -- several are listed, in their order
-abbrev pub listed_each : List Member → List Member → List Member
-listed_each [] members = members
-listed_each (one ∷ more) members = listed_each more (listed one members)
+abbrev pub listed_each : Casemapping → List Member → List Member → List Member
+listed_each mapping [] members = members
+listed_each mapping (one ∷ more) members = listed_each mapping more (listed mapping one members)
 
 -- several are shown, but only members get the marks
-abbrev pub shown_each : List Member → List Member → List Member
-shown_each [] members = members
-shown_each (one ∷ more) members = shown_each more (first_changed (is_called one.nick) (with_marks_of one) members)
+abbrev pub shown_each : Casemapping → List Member → List Member → List Member
+shown_each mapping [] members = members
+shown_each mapping (one ∷ more) members = shown_each mapping more (first_changed (is_called mapping one.nick) (with_marks_of one) members)
 
 -- the members without another one who has the new nick
-abbrev pub without_namesake : List ℕ → List ℕ → List Member → List Member
-without_namesake old new members = if is_same old new then members else first_removed (is_called new) members
+abbrev pub without_namesake : Casemapping → List ℕ → List ℕ → List Member → List Member
+without_namesake mapping old new members = if is_same_by mapping old new then members else first_removed (is_called mapping new) members
 
 -- a member changes nick and keeps its place, and another member of that nick is removed first
-abbrev pub renamed : List ℕ → List ℕ → List Member → List Member
-renamed old new members =
-    if has_member old members
-    then first_changed (is_called old) (with_nick new) (without_namesake old new members)
+abbrev pub renamed : Casemapping → List ℕ → List ℕ → List Member → List Member
+renamed mapping old new members =
+    if has_member mapping old members
+    then first_changed (is_called mapping old) (with_nick new) (without_namesake mapping old new members)
     else members

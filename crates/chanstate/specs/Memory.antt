@@ -6,17 +6,18 @@ use Rattle.std.specs.List.{list_any}
 use Rattle.ircline.specs.declared.message.Message.{Message}
 use Rattle.chanstate.specs.declared.channel.Channel.{Channel}
 use Rattle.chanstate.specs.declared.state.ChanState.{ChanState}
-use Rattle.rfccase.specs.Casemapping.{is_same}
+use Rattle.rfccase.specs.Casemapping.{is_same_by}
 use Rattle.chanstate.specs.Members.{is_called, has_member}
 use Rattle.chanstate.specs.Channels.{is_held}
-use Rattle.chanstate.specs.Views.{channel_in, member_in}
+use Rattle.chanstate.specs.Views.{mapping_of, channel_in, member_in}
 use Rattle.chanstate.specs.Items.{Item, Welcomed, Announced, Joined, Left, Departed, Renamed, ModesSet, Marked, Titled, NamesTold, Listed, Addressed}
 use Rattle.chanstate.specs.Items.{names_in, items_of}
+use Rattle.rfccase.specs.declared.casemappings.Casemapping.{Casemapping}
 
 -- whether the channel is held, and nobody there has this nick
-abbrev pub lacks : List ℕ → Option Channel → Bool
-lacks nick None = false
-lacks nick (Some channel) = not (has_member nick channel.members)
+abbrev pub lacks : Casemapping → List ℕ → Option Channel → Bool
+lacks mapping nick None = false
+lacks mapping nick (Some channel) = not (has_member mapping nick channel.members)
 
 -- whether the channel is held, and has another topic
 abbrev pub retitles : List ℕ → Option Channel → Bool
@@ -37,15 +38,17 @@ respells nick (Some m) = not (pointwise nat_eq m.nick nick)
 abbrev pub adds : Item → ChanState → Bool
 adds (Welcomed nick) s = true
 adds (Announced tokens) s = false
-adds (Joined nick user host channel) s = is_same nick s.nick || is_held channel s.channels
+adds (Joined nick user host channel) s = is_same_by (mapping_of s) nick s.nick || is_held (mapping_of s) channel s.channels
 adds (Left nick channel) s = false
 adds (Departed nick) s = false
-adds (Renamed old new) s = (is_same old s.nick && not (pointwise nat_eq s.nick new)) || list_any (λ c. respells new (find (is_called old) c.members)) s.channels
+adds (Renamed old new) s =
+    (is_same_by (mapping_of s) old s.nick && not (pointwise nat_eq s.nick new))
+    || list_any (λ c. respells new (find (is_called (mapping_of s) old) c.members)) s.channels
 adds (ModesSet channel modes arguments) s = false
 adds (Marked channel mark on nick) s = false
 adds (Titled channel topic) s = retitles topic (channel_in channel s)
-adds (NamesTold channel names) s = list_any (λ one. lacks one.nick (channel_in channel s)) (names_in s.support names)
-adds (Listed channel one) s = lacks one.nick (channel_in channel s)
+adds (NamesTold channel names) s = list_any (λ one. lacks (mapping_of s) one.nick (channel_in channel s)) (names_in s.support names)
+adds (Listed channel one) s = lacks (mapping_of s) one.nick (channel_in channel s)
 adds (Addressed channel nick user host) s = readdresses user host (member_in channel nick s)
 
 -- whether one of these items does

@@ -1,9 +1,11 @@
 -- What is prepared for a message before it is taken in.
-use Rattle.std.specs.Prelude.{◌≡◌, Bool, true, false, List, Option, None, Some, if◌then◌else◌, unwrap_or}
+use Rattle.std.specs.Prelude.{◌≡◌, Bool, true, false, ◌&&◌, List, Option, None, Some, if◌then◌else◌, unwrap_or}
 use Rattle.ircline.specs.declared.message.Message.{Message}
 use Rattle.chanstate.specs.declared.state.ChanState.{ChanState}
 use Rattle.chanstate.specs.declared.message_plan.MessagePlan.{MessagePlan}
-use Rattle.chanstate.specs.declared.message_plan.MessagePlan.TheVariants.{Plain, Welcome, Title, Address, Open, Seat}
+use Rattle.chanstate.specs.declared.message_plan.MessagePlan.TheVariants.{Plain, Welcome, Title, Address, Open, Come, Seat}
+use Rattle.chanstate.specs.declared.support.Support.{Support}
+use Rattle.chanstate.specs.Announced.{with_join}
 use Rattle.chanstate.specs.Items.{Item, Welcomed, Titled, Addressed, items_of}
 use Rattle.chanstate.specs.Steps.{step, steps}
 use Rattle.chanstate.specs.Memory.{any_adds}
@@ -14,13 +16,24 @@ abbrev pub is_plain : MessagePlan → Bool
 is_plain Plain = true
 is_plain other = false
 
+-- the support once a JOIN has been read, if one has
+abbrev pub joined_if : Bool → Support → Support
+joined_if joined s = if joined then with_join s else s
+
 -- the state that takes in what was prepared, or gets back what was taken out for it
 abbrev pub settled : Bool → MessagePlan → ChanState → ChanState
 settled done Plain s = s
 settled done (Welcome nick) s = if done then step (Welcomed nick) s else s
 settled done (Title channel topic) s = if done then step (Titled channel topic) s else s
 settled done (Address channel nick user host) s = if done then step (Addressed channel nick user host) s else s
-settled done (Open o) s = record s { channels = if done then o.1 else o.0 }
+settled done (Open joined o) s = record s {
+  channels = if done then o.1 else o.0;
+  support = joined_if (done && joined) s.support;
+}
+settled done (Come joined takes) s = record s {
+  channels = given done takes.items s.channels;
+  support = joined_if (done && joined) s.support;
+}
 settled done (Seat own takes) s = record s {
   nick = if done then unwrap_or own s.nick else s.nick;
   channels = given done takes.items s.channels;

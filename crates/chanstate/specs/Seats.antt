@@ -1,13 +1,15 @@
 -- The seats of a channel, in the order in which people came, and the index that finds them by lower-case nick.
-use Rattle.std.specs.Prelude.{◌≡◌, ℕ, ◌+◌, zero, suc, Bool, false, nat_eq, List, [], ◌∷◌, Option, None, Some, is_some, filter}
+use Rattle.std.specs.Prelude.{◌≡◌, ℕ, ◌+◌, zero, suc, Bool, true, false, nat_eq, List, [], ◌∷◌, Option, None, Some, is_some, filter}
 use Rattle.std.specs.List.{filter_map}
 use Rattle.std.specs.Map.{lookup}
 use Rattle.std.specs.Cmp.Lexicographic.{pointwise}
 use Rattle.std.specs.declared.vec.Vec.{Vec}
 use Rattle.std.specs.declared.alloc.Global.{Global}
-use Rattle.rfccase.specs.Casemapping.{folded}
+use Rattle.rfccase.specs.Casemapping.{folded_by}
 use Rattle.chanstate.specs.declared.member.Member.{Member}
+use Rattle.chanstate.specs.declared.seats.Seats.{Seats}
 use Rattle.chanstate.specs.Members.{is_called}
+use Rattle.rfccase.specs.declared.casemappings.Casemapping.{Casemapping}
 
 -- the members who sit there, in their order; a member who left has left an empty seat
 abbrev pub seated : List (Option Member) → List Member
@@ -36,9 +38,14 @@ abbrev pub place_under : List ℕ → Entries → Option ℕ
 place_under lower entries = lookup (has_key lower) entries
 
 -- the index has the place of each member, and no other
-pub record AreIndexed (places : List (Option Member)) (entries : Entries) : Type 0 where
-  pub found : (i : ℕ) (m : Member) → SitsAt places i m → place_under (folded m.nick) entries ≡ Some i
-  pub named : (lower : List ℕ) (i : ℕ) → place_under lower entries ≡ Some i → (m : Member) × SitsAt places i m × (folded m.nick ≡ lower)
+pub record AreIndexed (mapping : Casemapping) (places : List (Option Member)) (entries : Entries) : Type 0 where
+  pub found : (i : ℕ) (m : Member) → SitsAt places i m → place_under (folded_by mapping m.nick) entries ≡ Some i
+  pub named : (lower : List ℕ) (i : ℕ) → place_under lower entries ≡ Some i
+      → (m : Member) × SitsAt places i m × (folded_by mapping m.nick ≡ lower)
+
+-- the index has those who sit there, if nicks are found by it
+abbrev pub AreSeated : Seats → Type 0
+AreSeated seats = seats.indexed ≡ true → AreIndexed seats.mapping seats.places.items seats.index.entries
 
 -- the index has `w` for this lower case, and is unchanged for every other one
 pub record IsChanged (lower : List ℕ) (w : Option ℕ) (old new : Entries) : Type 0 where
@@ -47,21 +54,21 @@ pub record IsChanged (lower : List ℕ) (w : Option ℕ) (old new : Entries) : T
 
 -- The member at a place is next in the index, under the index's number of entries. If the place is empty, nothing
 -- changes.
-abbrev pub IsIndexedNext : Option Member → ℕ → Entries → ℕ → Entries → Type 0
-IsIndexedNext None n old k new = (new ≡ old) × (k ≡ n)
-IsIndexedNext (Some m) n old k new =
-    IsChanged (folded m.nick) (Some n) old new × (place_under (folded m.nick) old ≡ None → k ≡ n + 1)
+abbrev pub IsIndexedNext : Casemapping → Option Member → ℕ → Entries → ℕ → Entries → Type 0
+IsIndexedNext mapping None n old k new = (new ≡ old) × (k ≡ n)
+IsIndexedNext mapping (Some m) n old k new =
+    IsChanged (folded_by mapping m.nick) (Some n) old new × (place_under (folded_by mapping m.nick) old ≡ None → k ≡ n + 1)
 
 -- whether someone of this nick sits there
-abbrev pub is_seat_of : List ℕ → Option Member → Bool
-is_seat_of nick None = false
-is_seat_of nick (Some m) = is_called nick m
+abbrev pub is_seat_of : Casemapping → List ℕ → Option Member → Bool
+is_seat_of mapping nick None = false
+is_seat_of mapping nick (Some m) = is_called mapping nick m
 
 -- the key of a member is the lower case of its nick
-abbrev pub IsUnder : Vec ℕ Global → Member → Type 0
-IsUnder key m = key.items ≡ folded m.nick
+abbrev pub IsUnder : Casemapping → Vec ℕ Global → Member → Type 0
+IsUnder mapping key m = key.items ≡ folded_by mapping m.nick
 
 -- this holds for each of these
-abbrev pub AreUnder : List (Vec ℕ Global × Member) → Type 0
-AreUnder [] = Unit {0}
-AreUnder (e ∷ es) = IsUnder e.0 e.1 × AreUnder es
+abbrev pub AreUnder : Casemapping → List (Vec ℕ Global × Member) → Type 0
+AreUnder mapping [] = Unit {0}
+AreUnder mapping (e ∷ es) = IsUnder mapping e.0 e.1 × AreUnder mapping es

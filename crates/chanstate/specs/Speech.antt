@@ -5,8 +5,8 @@ use Rattle.chanstate.specs.declared.event.IrcEvent.{IrcEvent}
 use Rattle.chanstate.specs.declared.event.EventKind.TheVariants.{Msg, Msgm, Notc, Pub, Pubm}
 use Rattle.chanstate.specs.declared.channel.Channel.{Channel}
 use Rattle.chanstate.specs.declared.state.ChanState.{ChanState}
-use Rattle.rfccase.specs.Casemapping.{is_same}
-use Rattle.chanstate.specs.Views.{channel_in}
+use Rattle.rfccase.specs.Casemapping.{is_same_by}
+use Rattle.chanstate.specs.Views.{mapping_of, channel_in}
 use Rattle.chanstate.specs.EventShape.{event_with}
 use Rattle.chanstate.specs.Given.{when_given}
 
@@ -48,12 +48,16 @@ noticed_on nick address text (Some channel) = noticed nick address (Some channel
 abbrev pub said : List ℕ → List ℕ → List ℕ → List ℕ → ChanState → List IrcEvent
 said nick address target text s =
     if is_hidden text then []
-    else (if is_same target s.nick then to_bot nick address text else said_on nick address text (channel_in target s))
+    else (if is_same_by (mapping_of s) target s.nick
+    then to_bot nick address text
+    else said_on nick address text (channel_in target s))
 
 abbrev pub noted : List ℕ → List ℕ → List ℕ → List ℕ → ChanState → List IrcEvent
 noted nick address target text s =
     if is_hidden text then []
-    else (if is_same target s.nick then noticed nick address None text target else noticed_on nick address text (channel_in target s))
+    else (if is_same_by (mapping_of s) target s.nick
+    then noticed nick address None text target
+    else noticed_on nick address text (channel_in target s))
 
 -- PRIVMSG
 abbrev pub says : List ℕ → List ℕ → List (List ℕ) → ChanState → List IrcEvent

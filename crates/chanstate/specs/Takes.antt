@@ -8,6 +8,7 @@ use Rattle.chanstate.specs.Tasks.{done_by}
 use Rattle.chanstate.specs.declared.take.Take.{Take}
 use Rattle.chanstate.specs.Members.{arrived}
 use Rattle.chanstate.specs.Channels.{with_members, on_channel}
+use Rattle.rfccase.specs.declared.casemappings.Casemapping.{Casemapping}
 
 -- one of two lists of members: as they will be, or as they are
 abbrev pub pick : Bool → List Member × List Member → List Member
@@ -38,14 +39,15 @@ AreKept change [] = Unit {0}
 AreKept change (t ∷ ts) = (change t.seating.1 ≡ t.seating.1) × AreKept change ts
 
 -- one more is taken out at a place, with what is to be done there
-pub record Holds (at : ℕ) (task : Task) (old : List Channel) (before : List Take) (new : List Channel) (takes : List Take) : Type 0 where
+pub record Holds (mapping : Casemapping) (at : ℕ) (task : Task) (old : List Channel) (before : List Take) (new : List Channel)
+    (takes : List Take) : Type 0 where
   pub back : given false takes new ≡ given false before old
-  pub done : given true takes new ≡ given true before (on_place at (done_by task) old)
+  pub done : given true takes new ≡ given true before (on_place at (done_by mapping task) old)
   pub places : (i : ℕ) → is_taken i takes ≡ (is_taken i before || nat_eq at i)
-  pub kept : (change : List Member → List Member) → ((ms : List Member) → change (done_by task ms) ≡ done_by task ms)
+  pub kept : (change : List Member → List Member) → ((ms : List Member) → change (done_by mapping task ms) ≡ done_by mapping task ms)
       → AreKept change before → AreKept change takes
 
 -- someone joins each of these channels, in their order
-abbrev pub came_each : Member → List (List ℕ) → List Channel → List Channel
-came_each one [] cs = cs
-came_each one (n ∷ ns) cs = came_each one ns (on_channel n (arrived one) cs)
+abbrev pub came_each : Casemapping → Member → List (List ℕ) → List Channel → List Channel
+came_each mapping one [] cs = cs
+came_each mapping one (n ∷ ns) cs = came_each mapping one ns (on_channel mapping n (arrived mapping one) cs)

@@ -4,9 +4,14 @@ use Rattle.std.specs.Option.{option_map}
 use Rattle.chanstate.specs.declared.member.Member.{Member}
 use Rattle.chanstate.specs.declared.channel.Channel.{Channel}
 use Rattle.chanstate.specs.declared.state.ChanState.{ChanState}
+use Rattle.rfccase.specs.declared.casemappings.Casemapping.{Casemapping}
 use Rattle.chanstate.specs.Members.{is_called, has_member}
 use Rattle.chanstate.specs.Channels.{is_named}
 use Rattle.chanstate.specs.Announced.{unannounced}
+
+-- how the names of channels and members compare
+abbrev pub mapping_of : ChanState → Casemapping
+mapping_of s = s.support.casemapping
 
 -- no channel is held yet, and the server has announced nothing
 abbrev pub connected : List ℕ → ChanState
@@ -14,7 +19,7 @@ connected nick = record { nick = nick; channels = []; support = unannounced }
 
 -- the channel of this name, if it is held
 abbrev pub channel_in : List ℕ → ChanState → Option Channel
-channel_in name s = find (is_named name) s.channels
+channel_in name s = find (is_named (mapping_of s) name) s.channels
 
 -- the topic of the channel of this name
 abbrev pub topic_in : List ℕ → ChanState → Option (List ℕ)
@@ -30,7 +35,7 @@ members_in name s = members_of (channel_in name s)
 
 -- the member of this nick on the channel of this name
 abbrev pub member_in : List ℕ → List ℕ → ChanState → Option Member
-member_in name nick s = find (is_called nick) (members_in name s)
+member_in name nick s = find (is_called (mapping_of s) nick) (members_in name s)
 
 -- whether that member is a channel operator
 abbrev pub is_op : Option Member → Bool
@@ -44,4 +49,4 @@ is_voice (Some member) = member.voice
 
 -- the names of the channels that have a member of this nick, in the order in which the bot joined them
 abbrev pub channels_with : List ℕ → ChanState → List (List ℕ)
-channels_with nick s = map (λ channel. channel.name) (filter (λ channel. has_member nick channel.members) s.channels)
+channels_with nick s = map (λ channel. channel.name) (filter (λ channel. has_member (mapping_of s) nick channel.members) s.channels)

@@ -7,6 +7,7 @@ ghost use Rattle.chanstate.specs.Firsts.{first_removed};
 use crate::member::Member;
 use crate::roster::Roster;
 use bytetext::{NoMemory, Text, TryCopy};
+use rfccase::Casemapping;
 use std::alloc::Global;
 
 /// A channel that the bot is on.
@@ -29,22 +30,28 @@ impl Drop for Channel {
 }
 
 impl Channel {
-    // Creates the channel `name` as the bot has just joined it: `bot` is its only member, and it has no topic.
-    pub(crate) fn open(alloc: Global, name: &[u8], bot: Member) -> Result<Channel, NoMemory>
+    // Creates the channel `name` as the bot has just joined it: `bot` is its only member, and it has no topic. Nicks
+    // compare by `mapping`.
+    pub(crate) fn open(
+        alloc: Global,
+        mapping: Casemapping,
+        name: &[u8],
+        bot: Member,
+    ) -> Result<Channel, NoMemory>
         ensures { IfOk result (λ c. c ≡ opened name.now bot) }
     {
         Ok(Channel {
             name: Text::from_slice(alloc, name)?,
             topic: Text::empty(alloc),
-            members: Roster::one(alloc, bot)?,
+            members: Roster::one(alloc, mapping, bot)?,
         })
     }
 
     // Removes the member called `nick`.
-    pub(crate) fn depart(&mut self, nick: &[u8])
-        ensures { self.new ≡ with_members (first_removed (is_called nick.now)) self.old }
+    pub(crate) fn depart(&mut self, mapping: Casemapping, nick: &[u8])
+        ensures { self.new ≡ with_members (first_removed (is_called mapping nick.now)) self.old }
     {
-        self.members.remove(nick);
+        self.members.remove(mapping, nick);
     }
 }
 

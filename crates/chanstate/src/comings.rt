@@ -15,7 +15,7 @@ use crate::names::is_same;
 use crate::state::ChanState;
 use crate::words::{param, text_at};
 use bytetext::{NoMemory, Text};
-use rfccase::is_channel_name;
+use rfccase::{Casemapping, is_channel_name};
 use std::alloc::Global;
 
 // Returns the events of a JOIN.
@@ -37,7 +37,7 @@ pub(crate) fn join(
         about: mask.as_bytes(),
         more: &[],
     };
-    let own = is_same(by.nick, state.own_nick());
+    let own = is_same(state.casemapping(), by.nick, state.own_nick());
     on_listed(alloc, &deed, own, list, state)
 }
 
@@ -135,17 +135,22 @@ fn on_listed(
 fn on_shared(alloc: Global, deed: &Deed<'_>, state: &ChanState) -> Result<Vec<IrcEvent>, NoMemory>
     ensures { IfOk result (λ v. v.items ≡ map (told deed.now) (channels_with deed.now.by.nick.now state.now)) }
 {
-    on_each(alloc, deed, state.channels.as_slice())
+    on_each(alloc, state.casemapping(), deed, state.channels.as_slice())
 }
 
 // Returns the events of `deed` on those of `channels` that its author is on.
-fn on_each(alloc: Global, deed: &Deed<'_>, channels: &[Channel]) -> Result<Vec<IrcEvent>, NoMemory>
+fn on_each(
+    alloc: Global,
+    mapping: Casemapping,
+    deed: &Deed<'_>,
+    channels: &[Channel],
+) -> Result<Vec<IrcEvent>, NoMemory>
     ensures { IfOk result (λ v. v.items
-        ≡ map (λ channel. told deed.now channel.name) (filter (λ channel. has_member deed.now.by.nick.now channel.members) channels.now)) }
+        ≡ map (λ channel. told deed.now channel.name) (filter (λ channel. has_member mapping deed.now.by.nick.now channel.members) channels.now)) }
 {
     let mut events = Vec::new(alloc);
     for channel in channels {
-        if channel.members.holds(deed.by.nick) {
+        if channel.members.holds(mapping, deed.by.nick) {
             events.push(deed.on(alloc, channel.name.as_bytes())?)?;
         }
     }

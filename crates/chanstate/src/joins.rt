@@ -4,11 +4,12 @@ ghost use Rattle.rfccase.specs.Channels.{is_channel_name};
 ghost use Rattle.chanstate.specs.Channels.{is_held, opened};
 ghost use Rattle.chanstate.specs.Memory.{any_adds};
 ghost use Rattle.chanstate.specs.Seen.{joins_in};
-ghost use Rattle.chanstate.specs.Items.{Joined, channels_in};
+ghost use Rattle.chanstate.specs.Items.{Joined, any_named, channels_in};
+ghost use Rattle.chanstate.specs.Views.{mapping_of};
 ghost use Rattle.chanstate.specs.Members.{arrived, unmarked};
 ghost use Rattle.std.specs.List.{list_any};
 ghost use Rattle.chanstate.specs.Takes.{AreKept, IsTaken, came_each, given};
-ghost use Rattle.rfccase.specs.Casemapping.{is_same};
+ghost use Rattle.rfccase.specs.Casemapping.{is_same_by};
 ghost use Rattle.chanstate.specs.Plans.{IsPlanFor};
 
 use crate::channel::Channel;
@@ -21,7 +22,7 @@ use crate::take::{Take, is_taken};
 use crate::task::Task;
 use bytetext::NoMemory;
 use ircline::Person;
-use rfccase::is_channel_name;
+use rfccase::{Casemapping, is_channel_name};
 use std::alloc::Global;
 
 impl Channels {
@@ -29,30 +30,31 @@ impl Channels {
     fn ready_arrival(
         &mut self,
         alloc: Global,
+        mapping: Casemapping,
         person: Person<'_>,
         piece: &[u8],
         takes: &mut Vec<Take>,
     ) -> Result<(), NoMemory>
-        requires { AreKept (arrived (unmarked person.nick.now person.user.now person.host.now)) takes.old.items }
-        ensures kept { AreKept (arrived (unmarked person.entry.nick.now person.entry.user.now person.entry.host.now)) takes.new.items }
+        requires { AreKept (arrived mapping (unmarked person.nick.now person.user.now person.host.now)) takes.old.items }
+        ensures kept { AreKept (arrived mapping (unmarked person.entry.nick.now person.entry.user.now person.entry.host.now)) takes.new.items }
         ensures back { given false takes.new.items self.new ≡ given false takes.old.items self.old }
         ensures done { OnOk result (given true takes.new.items self.new
-            ≡ came_each (unmarked person.entry.nick.now person.entry.user.now person.entry.host.now) (filter is_channel_name (piece.now ∷ []))
+            ≡ came_each mapping (unmarked person.entry.nick.now person.entry.user.now person.entry.host.now) (filter is_channel_name (piece.now ∷ []))
             (given true takes.old.items self.old)) }
         ensures named { OnErr result (is_channel_name piece.now ≡ true) }
-        ensures held { OnErr result (is_held piece.now self.old ≡ true) }
+        ensures held { OnErr result (is_held mapping piece.now self.old ≡ true) }
     {
         if !is_channel_name(piece) {
             return Ok(());
         }
-        let Some(at) = self.place(piece) else {
+        let Some(at) = self.place(mapping, piece) else {
             return Ok(());
         };
         if is_taken(takes.as_slice(), at) {
             return Ok(());
         }
-        let task = Task::arrive(alloc, person)?;
-        self.take(alloc, at, task, takes)?;
+        let task = Task::arrive(alloc, mapping, person)?;
+        self.take(alloc, mapping, at, task, takes)?;
         Ok(())
     }
 
@@ -60,17 +62,18 @@ impl Channels {
     pub(crate) fn ready_arrivals(
         &mut self,
         alloc: Global,
+        mapping: Casemapping,
         person: Person<'_>,
         list: &[u8],
     ) -> Result<Vec<Take>, NoMemory>
-        ensures memory { OnErr result (list_any (λ name. is_held name self.old) (channels_in list.now) ≡ true) }
+        ensures memory { OnErr result (list_any (λ name. is_held mapping name self.old) (channels_in list.now) ≡ true) }
         ensures ready { MatchResult result (λ takes. IsTaken
-            (came_each (unmarked person.entry.nick.now person.entry.user.now person.entry.host.now) (channels_in list.now)) takes.items self.new self.old)
+            (came_each mapping (unmarked person.entry.nick.now person.entry.user.now person.entry.host.now) (channels_in list.now)) takes.items self.new self.old)
             (λ _. self.new ≡ self.old) }
     {
         let mut takes = Vec::new(alloc);
         for piece in list.split(|byte| *byte == b',') {
-            match self.ready_arrival(alloc, person, piece, &mut takes) {
+            match self.ready_arrival(alloc, mapping, person, piece, &mut takes) {
                 Ok(()) => {}
                 Err(refused) => {
                     self.give(takes, false);
@@ -90,13 +93,17 @@ impl ChanState {
         person: Person<'_>,
         list: &[u8],
     ) -> Result<MessagePlan, NoMemory>
-        requires { is_same person.nick.now self.old.nick ≡ true }
+        requires { is_same_by (mapping_of self.old) person.nick.now self.old.nick ≡ true }
         ensures memory { OnErr result (any_adds (joins_in person.entry list.now) self.old ≡ true) }
         ensures ready { MatchResult result (λ plan. IsPlanFor (joins_in person.entry list.now) plan self.new self.old) (λ _. self.new ≡ self.old) }
     {
-        let opened = opened_each(alloc, person, list)?;
-        let opening = self.channels.ready_opening(alloc, opened)?;
-        Ok(MessagePlan::Open(opening))
+        let opened = opened_each(alloc, self.casemapping(), person, list)?;
+        let mapping = self.casemapping();
+        let opening = self.channels.ready_opening(alloc, mapping, opened)?;
+        Ok(MessagePlan::Open {
+            joined: names_channel(list),
+            opening,
+        })
     }
 
     // Prepares the joins of a person on the channels of a list.
@@ -109,23 +116,44 @@ impl ChanState {
         ensures memory { OnErr result (any_adds (joins_in person.entry list.now) self.old ≡ true) }
         ensures ready { MatchResult result (λ plan. IsPlanFor (joins_in person.entry list.now) plan self.new self.old) (λ _. self.new ≡ self.old) }
     {
-        if is_same(person.nick, self.nick.as_bytes()) {
+        if is_same(self.casemapping(), person.nick, self.nick.as_bytes()) {
             return self.ready_own_join(alloc, person, list);
         }
-        let takes = self.channels.ready_arrivals(alloc, person, list)?;
-        Ok(MessagePlan::Seat { own: None, takes })
+        let mapping = self.casemapping();
+        let takes = self.channels.ready_arrivals(alloc, mapping, person, list)?;
+        Ok(MessagePlan::Come {
+            joined: names_channel(list),
+            takes,
+        })
     }
 }
 
+// Returns whether a piece of `list` is the name of a channel.
+pub(crate) fn names_channel(list: &[u8]) -> bool
+    ensures { result ≡ any_named (channels_in list.now) }
+{
+    for piece in list.split(|byte| *byte == b',') {
+        if is_channel_name(piece) {
+            return true;
+        }
+    }
+    false
+}
+
 // Creates the channels of `list`, as the bot has just joined them.
-fn opened_each(alloc: Global, person: Person<'_>, list: &[u8]) -> Result<Vec<Channel>, NoMemory>
+fn opened_each(
+    alloc: Global,
+    mapping: Casemapping,
+    person: Person<'_>,
+    list: &[u8],
+) -> Result<Vec<Channel>, NoMemory>
     ensures opened { IfOk result (λ channels. channels.items
         ≡ map (λ name. opened name (unmarked person.entry.nick.now person.entry.user.now person.entry.host.now)) (channels_in list.now)) }
     ensures memory { OnErr result (0 < length (channels_in list.now)) }
 {
     let mut channels = Vec::new(alloc);
     for piece in list.split(|byte| *byte == b',') {
-        open_piece(&mut channels, alloc, person, piece)?;
+        open_piece(&mut channels, alloc, mapping, person, piece)?;
     }
     Ok(channels)
 }
@@ -134,6 +162,7 @@ fn opened_each(alloc: Global, person: Person<'_>, list: &[u8]) -> Result<Vec<Cha
 fn open_piece(
     channels: &mut Vec<Channel>,
     alloc: Global,
+    mapping: Casemapping,
     person: Person<'_>,
     piece: &[u8],
 ) -> Result<(), NoMemory>
@@ -143,7 +172,7 @@ fn open_piece(
 {
     if is_channel_name(piece) {
         let bot = Member::new(alloc, person.nick, person.user, person.host)?;
-        channels.push(Channel::open(alloc, piece, bot)?)?;
+        channels.push(Channel::open(alloc, mapping, piece, bot)?)?;
     }
     Ok(())
 }

@@ -13,10 +13,11 @@ impl ChanState {
     pub(crate) fn leave(&mut self, nick: &[u8], channel: &[u8])
         ensures { self.new ≡ left nick.now channel.now self.old }
     {
-        if is_same(nick, self.nick.as_bytes()) {
-            self.channels.remove(channel);
+        let mapping = self.casemapping();
+        if is_same(mapping, nick, self.nick.as_bytes()) {
+            self.channels.remove(mapping, channel);
         } else {
-            self.channels.leave(channel, nick);
+            self.channels.leave(mapping, channel, nick);
         }
     }
 
@@ -42,10 +43,11 @@ impl ChanState {
     pub(crate) fn depart(&mut self, nick: &[u8])
         ensures { self.new ≡ departed nick.now self.old }
     {
-        if is_same(nick, self.nick.as_bytes()) {
+        let mapping = self.casemapping();
+        if is_same(mapping, nick, self.nick.as_bytes()) {
             self.channels.clear();
         } else {
-            self.channels.depart(nick);
+            self.channels.depart(mapping, nick);
         }
     }
 }

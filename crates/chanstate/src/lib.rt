@@ -2,9 +2,13 @@
 //!
 //! A [`ChanState`] begins with the nick under which the bot connects. [`ChanState::apply`] takes in each message. Then
 //! callers can look up the channels that the bot is on, in the order in which it joined them, and for each channel its
-//! topic and its members, in the order in which they came, with their marks and addresses. Names compare by
-//! casemapping. A message that lacks a needed parameter changes nothing, and if memory runs out the state stays as it
-//! was.
+//! topic and its members, in the order in which they came, with their marks and addresses. A message that lacks a
+//! needed parameter changes nothing, and if memory runs out the state stays as it was.
+//!
+//! Nicks and names of channels compare by the casemapping that the server announces (RPL_ISUPPORT, numeric 005, its
+//! token CASEMAPPING), and by RFC 1459 until it does. [`ChanState::casemapping`] returns it. Servers announce it before
+//! the bot can join a channel. Once a JOIN has been read, another casemapping is ignored until the next welcome, which
+//! sets it back to RFC 1459: two people who are held never become one by an announcement.
 //!
 //! Members are looked up by their nicks. A message costs a walk over the names of the held channels, and a look-up on
 //! each channel that it concerns (for QUIT and NICK on every held channel). This doesn't grow with the number of
@@ -12,7 +16,7 @@
 //! it then makes room for as many again.
 //!
 //! The server announces which modes have an argument, and which signs stand before a nick in a list of names
-//! (RPL_ISUPPORT, numeric 005, its tokens PREFIX and CHANMODES). Until it does, RFC 2812 applies. The state keeps this
+//! (numeric 005, its tokens PREFIX and CHANMODES). Until it does, RFC 2812 applies. The state keeps this
 //! in tables of a fixed size, and a welcome resets them. Code that reads a mode string byte by byte asks [`modes`]
 //! whether a byte is a single mode (`is_mode`), which argument it has (`argument`), and what is left for the bytes
 //! after it (`next_sign`, `next_arguments`). At the start of the string modes are set, and all arguments are left.

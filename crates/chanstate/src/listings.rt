@@ -22,12 +22,17 @@ impl ChanState {
         ensures memory { OnErr result (any_adds (NamesTold channel.now names.now ∷ []) self.old ≡ true) }
         ensures ready { MatchResult result (λ plan. IsPlanFor (NamesTold channel.now names.now ∷ []) plan self.new self.old) (λ _. self.new ≡ self.old) }
     {
-        let Some(at) = self.channels.place_lacking(&self.support, channel, names) else {
+        let mapping = self.casemapping();
+        let Some(at) = self
+            .channels
+            .place_lacking(mapping, &self.support, channel, names)
+        else {
             return Ok(MessagePlan::Plain);
         };
-        let ones = named_by(alloc, &self.support, names)?;
+        let ones = named_by(alloc, mapping, &self.support, names)?;
         let mut takes = Vec::new(alloc);
-        self.channels.take(alloc, at, Task::List(ones), &mut takes)?;
+        self.channels
+            .take(alloc, mapping, at, Task::List(ones), &mut takes)?;
         Ok(MessagePlan::Seat { own: None, takes })
     }
 }

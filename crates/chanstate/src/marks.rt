@@ -17,7 +17,8 @@ impl ChanState {
     {
         if let Some(mark) = mark_in(&self.support, byte) {
             let nick = argument(&self.support, on, byte, arguments);
-            self.channels.mark(channel, nick, mark, on);
+            let mapping = self.casemapping();
+            self.channels.mark(mapping, channel, nick, mark, on);
         }
     }
 

@@ -9,6 +9,7 @@ use crate::state::ChanState;
 use crate::support::Support;
 use crate::take::Take;
 use bytetext::Text;
+use rfccase::Casemapping;
 use std::marker::Model;
 
 /// What is prepared for a message, by what the message changes.
@@ -30,8 +31,16 @@ pub enum MessagePlan {
         user: Text,
         host: Text,
     },
-    // The bot has joined channels.
-    Open(Opening),
+    // The bot has joined channels. `joined` says whether the JOIN names any.
+    Open {
+        joined: bool,
+        opening: Opening,
+    },
+    // Another person has joined channels. `joined` says whether the JOIN names any.
+    Come {
+        joined: bool,
+        takes: Vec<Take>,
+    },
     // The members of channels change, and so does the bot's nick if `own` has one.
     Seat {
         own: Option<Text>,
@@ -43,6 +52,7 @@ pub enum MessagePlan {
 /// are, and as they will be.
 #[derive(Drop)]
 pub struct Opening {
+    pub(crate) mapping: Casemapping,
     pub(crate) held: Vec<Channel>,
     pub(crate) opened: Vec<Channel>,
 }
@@ -55,7 +65,7 @@ impl Model for Opening {
 
     ghost Value = { List Channel × List Channel };
 
-    ghost view = { λ o. (o.held.items, put_each_last o.opened.items o.held.items) };
+    ghost view = { λ o. (o.held.items, put_each_last o.mapping o.opened.items o.held.items) };
 
     ghost invariant = { λ o. vec_len o.held + length o.opened.items ≤ vec_capacity o.held };
 }
@@ -65,9 +75,13 @@ impl Opening {
     fn into_channels(self, done: bool) -> Channels
         ensures { result ≡ (if done then self.1 else self.0) }
     {
-        let Opening { mut held, opened } = self;
+        let Opening {
+            mapping,
+            mut held,
+            opened,
+        } = self;
         if done {
-            put_each(&mut held, opened);
+            put_each(mapping, &mut held, opened);
         }
         Channels { items: held }
     }
@@ -98,7 +112,8 @@ impl ChanState {
             }
             MessagePlan::Title { channel, topic } => {
                 if done {
-                    self.channels.set_topic(channel.as_bytes(), topic);
+                    let mapping = self.casemapping();
+                    self.channels.set_topic(mapping, channel.as_bytes(), topic);
                 }
             }
             MessagePlan::Address {
@@ -108,11 +123,19 @@ impl ChanState {
                 host,
             } => {
                 if done {
+                    let mapping = self.casemapping();
                     self.channels
-                        .place_at(channel.as_bytes(), nick.as_bytes(), user, host);
+                        .place_at(mapping, channel.as_bytes(), nick.as_bytes(), user, host);
                 }
             }
-            MessagePlan::Open(opening) => self.channels = opening.into_channels(done),
+            MessagePlan::Open { joined, opening } => {
+                self.channels = opening.into_channels(done);
+                self.note_join(done && joined);
+            }
+            MessagePlan::Come { joined, takes } => {
+                self.channels.give(takes, done);
+                self.note_join(done && joined);
+            }
             MessagePlan::Seat { own, takes } => {
                 self.channels.give(takes, done);
                 if done {

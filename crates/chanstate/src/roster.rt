@@ -13,16 +13,22 @@ use crate::copies::{copies_of, seats_of};
 use crate::member::{Mark, Member};
 use crate::member_edit::MemberEdit;
 use crate::seating::Seating;
-use crate::seats::{Seats, add, edit_at, index_taken, make_room, member_of, place_of, vacate};
+use crate::seats::{
+    Seats, add, compare_by, edit_called, index_taken, is_one, make_room, member_of, vacate,
+    walk_for,
+};
 use crate::support::Support;
 use crate::task::Task;
 use crate::words::{shown, split_signs};
 use bytetext::{NoMemory, Text, TryCopy};
+use rfccase::Casemapping;
 use std::alloc::Global;
 use std::marker::Model;
 use std::mem;
 
-/// The members, on their seats. Contracts see the list of them.
+/// The members, on their seats. Contracts see the list of them. Each call that looks for a nick takes the casemapping by
+/// which nicks compare. A roster keeps its index for one casemapping; a call with another one finds nicks by a walk over
+/// the seats.
 #[derive(Debug, Drop)]
 pub struct Roster {
     pub(crate) seats: Seats,
@@ -31,21 +37,25 @@ pub struct Roster {
 impl Model for Roster {
     ghost use Rattle.std.specs.Prelude.{List};
     ghost use Rattle.chanstate.specs.declared.member.Member.{Member};
-    ghost use Rattle.chanstate.specs.Seats.{AreIndexed, seated};
+    ghost use Rattle.chanstate.specs.Seats.{AreSeated, seated};
 
     ghost Value = { List Member };
 
     ghost view = { λ r. seated r.seats.places.items };
 
-    ghost invariant = { λ r. AreIndexed r.seats.places.items r.seats.index.entries };
+    ghost invariant = { λ r. AreSeated r.seats };
 }
 
 impl Roster {
-    // Creates a roster of one member.
-    pub(crate) fn one(alloc: Global, member: Member) -> Result<Roster, NoMemory>
+    // Creates a roster of one member, whose nicks are indexed by `mapping`.
+    pub(crate) fn one(
+        alloc: Global,
+        mapping: Casemapping,
+        member: Member,
+    ) -> Result<Roster, NoMemory>
         ensures { IfOk result (λ r. r ≡ member ∷ []) }
     {
-        let mut seats = Seats::new(alloc);
+        let mut seats = Seats::new(alloc, mapping);
         add(&mut seats, alloc, member)?;
         Ok(Roster { seats })
     }
@@ -59,83 +69,87 @@ impl Roster {
     }
 
     // Returns the member called `nick`.
-    pub(crate) fn find(&self, nick: &[u8]) -> Option<&Member>
-        ensures { option_copied result ≡ find (is_called nick.now) self.now }
+    pub(crate) fn find(&self, mapping: Casemapping, nick: &[u8]) -> Option<&Member>
+        ensures { option_copied result ≡ find (is_called mapping nick.now) self.now }
     {
-        member_of(&self.seats, nick)
+        if is_one(self.seats.mapping, mapping) {
+            member_of(&self.seats, nick)
+        } else {
+            walk_for(mapping, self.seats.places.as_slice(), nick)
+        }
     }
 
     // Returns whether a member is called `nick`.
-    pub(crate) fn holds(&self, nick: &[u8]) -> bool
-        ensures { result ≡ has_member nick.now self.now }
+    pub(crate) fn holds(&self, mapping: Casemapping, nick: &[u8]) -> bool
+        ensures { result ≡ has_member mapping nick.now self.now }
     {
-        self.find(nick).is_some()
+        self.find(mapping, nick).is_some()
     }
 
     // Returns whether a member is called `old`, and its nick is not spelled as `new`.
-    pub(crate) fn respells(&self, old: &[u8], new: &[u8]) -> bool
-        ensures { result ≡ respells new.now (find (is_called old.now) self.now) }
+    pub(crate) fn respells(&self, mapping: Casemapping, old: &[u8], new: &[u8]) -> bool
+        ensures { result ≡ respells new.now (find (is_called mapping old.now) self.now) }
     {
-        match self.find(old) {
+        match self.find(mapping, old) {
             Some(member) => member.nick.as_bytes() != new,
             None => false,
         }
     }
 
     // Returns whether the member called `nick` is a channel operator.
-    pub(crate) fn is_op(&self, nick: &[u8]) -> bool
-        ensures { result ≡ is_op (find (is_called nick.now) self.now) }
+    pub(crate) fn is_op(&self, mapping: Casemapping, nick: &[u8]) -> bool
+        ensures { result ≡ is_op (find (is_called mapping nick.now) self.now) }
     {
-        match self.find(nick) {
+        match self.find(mapping, nick) {
             Some(member) => member.op,
             None => false,
         }
     }
 
     // Removes the member called `nick`.
-    pub(crate) fn remove(&mut self, nick: &[u8])
-        ensures { self.new ≡ first_removed (is_called nick.now) self.old }
+    pub(crate) fn remove(&mut self, mapping: Casemapping, nick: &[u8])
+        ensures { self.new ≡ first_removed (is_called mapping nick.now) self.old }
     {
+        compare_by(&mut self.seats, mapping);
         vacate(&mut self.seats, nick);
     }
 
     // Changes what is known of the member called `nick`.
-    fn edit(&mut self, nick: &[u8], edit: MemberEdit)
-        ensures { self.new ≡ first_changed (is_called nick.now) (edited edit) self.old }
+    fn edit(&mut self, mapping: Casemapping, nick: &[u8], edit: MemberEdit)
+        ensures { self.new ≡ first_changed (is_called mapping nick.now) (edited edit) self.old }
     {
-        if let Some(at) = place_of(&self.seats, nick) {
-            edit_at(&mut self.seats, at, edit);
-        }
+        compare_by(&mut self.seats, mapping);
+        edit_called(&mut self.seats, nick, edit);
     }
 
     // Sets or clears a mark.
-    pub(crate) fn mark(&mut self, nick: &[u8], mark: Mark, on: bool)
-        ensures { self.new ≡ first_changed (is_called nick.now) (with_mark mark on) self.old }
+    pub(crate) fn mark(&mut self, mapping: Casemapping, nick: &[u8], mark: Mark, on: bool)
+        ensures { self.new ≡ first_changed (is_called mapping nick.now) (with_mark mark on) self.old }
     {
-        self.edit(nick, MemberEdit::Marked(mark, on));
+        self.edit(mapping, nick, MemberEdit::Marked(mark, on));
     }
 
     // Sets the user and host of the member called `nick`.
-    pub(crate) fn place_at(&mut self, nick: &[u8], user: Text, host: Text)
-        ensures { self.new ≡ first_changed (is_called nick.now) (with_address user host) self.old }
+    pub(crate) fn place_at(&mut self, mapping: Casemapping, nick: &[u8], user: Text, host: Text)
+        ensures { self.new ≡ first_changed (is_called mapping nick.now) (with_address user host) self.old }
     {
-        self.edit(nick, MemberEdit::Addressed(user, host));
+        self.edit(mapping, nick, MemberEdit::Addressed(user, host));
     }
 
     // Returns whether `word` of a list of names names someone who is not a member.
-    fn lacks(&self, support: &Support, word: &[u8]) -> bool
-        ensures { result ≡ list_any (λ one. not (has_member one.nick self.now)) (option_to_list (named support.now word.now)) }
+    fn lacks(&self, mapping: Casemapping, support: &Support, word: &[u8]) -> bool
+        ensures { result ≡ list_any (λ one. not (has_member mapping one.nick self.now)) (option_to_list (named support.now word.now)) }
     {
         let (_, nick) = split_signs(support, word);
-        !nick.is_empty() && !self.holds(nick)
+        !nick.is_empty() && !self.holds(mapping, nick)
     }
 
     // Returns whether the list of names `names` names someone who is not a member.
-    pub(crate) fn lacks_any(&self, support: &Support, names: &[u8]) -> bool
-        ensures { result ≡ list_any (λ one. not (has_member one.nick self.now)) (names_in support.now names.now) }
+    pub(crate) fn lacks_any(&self, mapping: Casemapping, support: &Support, names: &[u8]) -> bool
+        ensures { result ≡ list_any (λ one. not (has_member mapping one.nick self.now)) (names_in support.now names.now) }
     {
         for word in names.split(|byte| *byte == b' ') {
-            if self.lacks(support, word) {
+            if self.lacks(mapping, support, word) {
                 return true;
             }
         }
@@ -143,33 +157,45 @@ impl Roster {
     }
 
     // Gives the member that `word` names, if there is one, the marks whose signs stand before the nick.
-    fn show(&mut self, alloc: Global, support: &Support, word: &[u8])
-        ensures { self.new ≡ shown_each (option_to_list (named support.now word.now)) self.old }
+    fn show(&mut self, alloc: Global, mapping: Casemapping, support: &Support, word: &[u8])
+        ensures { self.new ≡ shown_each mapping (option_to_list (named support.now word.now)) self.old }
     {
         let (signs, nick) = split_signs(support, word);
         if !nick.is_empty() {
             let one = shown(alloc, signs, Text::empty(alloc));
-            self.edit(nick, MemberEdit::Listed(one));
+            self.edit(mapping, nick, MemberEdit::Listed(one));
         }
     }
 
     // Does the same for each word of the list of names `names`, in order.
-    pub(crate) fn show_all(&mut self, alloc: Global, support: &Support, names: &[u8])
-        ensures { self.new ≡ shown_each (names_in support.now names.now) self.old }
+    pub(crate) fn show_all(
+        &mut self,
+        alloc: Global,
+        mapping: Casemapping,
+        support: &Support,
+        names: &[u8],
+    )
+        ensures { self.new ≡ shown_each mapping (names_in support.now names.now) self.old }
     {
         for word in names.split(|byte| *byte == b' ') {
-            self.show(alloc, support, word);
+            self.show(alloc, mapping, support, word);
         }
     }
 
     // Takes the members out, with room for `task`. The roster is then empty.
-    pub(crate) fn take(&mut self, alloc: Global, task: Task) -> Result<Seating, NoMemory>
-        requires { IsKeyed task }
-        ensures ok { IfOk result (λ seating. seating ≡ (self.old, done_by task self.old)) }
+    pub(crate) fn take(
+        &mut self,
+        alloc: Global,
+        mapping: Casemapping,
+        task: Task,
+    ) -> Result<Seating, NoMemory>
+        requires { IsKeyed mapping task }
+        ensures ok { IfOk result (λ seating. seating ≡ (self.old, done_by mapping task self.old)) }
         ensures err { OnErr result (self.new ≡ self.old) }
     {
+        compare_by(&mut self.seats, mapping);
         make_room(&mut self.seats, alloc, task.places())?;
-        let seats = mem::replace(&mut self.seats, Seats::new(alloc));
+        let seats = mem::replace(&mut self.seats, Seats::new(alloc, mapping));
         Ok(Seating { seats, task })
     }
 }
@@ -180,7 +206,12 @@ impl TryCopy for Roster {
         let members = copies_of(alloc, self.seats.places.as_slice())?;
         let places = seats_of(alloc, members)?;
         Ok(Roster {
-            seats: Seats { places, index },
+            seats: Seats {
+                places,
+                index,
+                mapping: self.seats.mapping,
+                indexed: self.seats.indexed,
+            },
         })
     }
 }

@@ -3,7 +3,7 @@ ghost use Rattle.std.specs.Prelude.{◌≡◌, ◌+◌, ◌<◌, ◌≤◌};
 ghost use Rattle.std.specs.Vec.{vec_len, vec_capacity};
 ghost use Rattle.indexmap.specs.IndexMap.{spare};
 ghost use Rattle.chanstate.specs.Members.{arrived};
-ghost use Rattle.chanstate.specs.Seats.{AreIndexed, IsUnder, seated};
+ghost use Rattle.chanstate.specs.Seats.{AreSeated, IsUnder, seated};
 ghost use Rattle.chanstate.specs.Takes.{pick};
 ghost use Rattle.chanstate.specs.Tasks.{done_by, IsKeyed, places_for};
 
@@ -28,14 +28,14 @@ impl Model for Seating {
     ghost use Rattle.std.specs.Vec.{vec_len, vec_capacity};
     ghost use Rattle.indexmap.specs.IndexMap.{spare};
     ghost use Rattle.chanstate.specs.declared.member.Member.{Member};
-    ghost use Rattle.chanstate.specs.Seats.{AreIndexed, seated};
+    ghost use Rattle.chanstate.specs.Seats.{AreSeated, seated};
     ghost use Rattle.chanstate.specs.Tasks.{done_by, IsKeyed, places_for};
 
     ghost Value = { List Member × List Member };
 
-    ghost view = { λ s. (seated s.seats.places.items, done_by s.task (seated s.seats.places.items)) };
+    ghost view = { λ s. (seated s.seats.places.items, done_by s.seats.mapping s.task (seated s.seats.places.items)) };
 
-    ghost invariant = { λ s. AreIndexed s.seats.places.items s.seats.index.entries × IsKeyed s.task
+    ghost invariant = { λ s. AreSeated s.seats × IsKeyed s.seats.mapping s.task
         × (vec_len s.seats.places + places_for s.task ≤ vec_capacity s.seats.places) × (places_for s.task ≤ spare s.seats.index) };
 }
 
@@ -54,12 +54,12 @@ impl Seating {
 
 // Carries out `task`. There must be room for it.
 fn carry_out(seats: &mut Seats, task: Task)
-    requires indexed { AreIndexed seats.old.places.items seats.old.index.entries }
-    requires keyed { IsKeyed task }
+    requires indexed { AreSeated seats.old }
+    requires keyed { IsKeyed seats.old.mapping task }
     requires places { vec_len seats.old.places + places_for task ≤ vec_capacity seats.old.places }
     requires entries { places_for task ≤ spare seats.old.index }
-    ensures indexed { AreIndexed seats.new.places.items seats.new.index.entries }
-    ensures done { seated seats.new.places.items ≡ done_by task (seated seats.old.places.items) }
+    ensures indexed { AreSeated seats.new }
+    ensures done { seated seats.new.places.items ≡ done_by seats.old.mapping task (seated seats.old.places.items) }
 {
     match task {
         Task::Arrive { key, one } => arrive(seats, key, one),
@@ -70,12 +70,12 @@ fn carry_out(seats: &mut Seats, task: Task)
 
 // Takes in someone who joins; someone who is a member already gets the new address. There must be room for one more.
 fn arrive(seats: &mut Seats, key: Vec<u8>, one: Member)
-    requires indexed { AreIndexed seats.old.places.items seats.old.index.entries }
-    requires key { IsUnder key one }
+    requires indexed { AreSeated seats.old }
+    requires key { IsUnder seats.old.mapping key one }
     requires place { vec_len seats.old.places < vec_capacity seats.old.places }
     requires entry { 0 < spare seats.old.index }
-    ensures indexed { AreIndexed seats.new.places.items seats.new.index.entries }
-    ensures arrived { seated seats.new.places.items ≡ arrived one (seated seats.old.places.items) }
+    ensures indexed { AreSeated seats.new }
+    ensures arrived { seated seats.new.places.items ≡ arrived seats.old.mapping one (seated seats.old.places.items) }
 {
     match place_of(seats, one.nick.as_bytes()) {
         Some(at) => {

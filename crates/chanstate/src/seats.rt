@@ -6,18 +6,17 @@ ghost use Rattle.std.specs.Option.{option_copied};
 ghost use Rattle.std.specs.Vec.{vec_len, vec_capacity};
 ghost use Rattle.std.specs.Map.{values_of};
 ghost use Rattle.indexmap.specs.IndexMap.{spare, index_map_len};
-ghost use Rattle.rfccase.specs.Casemapping.{folded};
-ghost use Rattle.chanstate.specs.Seats.{AreIndexed, IsUnder, IsIndexedNext, is_seat_of, place_under, seated, taken};
+ghost use Rattle.rfccase.specs.Casemapping.{folded_by, is_same_by};
+ghost use Rattle.chanstate.specs.Seats.{AreIndexed, AreSeated, IsUnder, IsIndexedNext, is_seat_of, place_under, seated, taken};
 ghost use Rattle.chanstate.specs.Members.{is_called, has_member, edited, renamed, with_nick};
 ghost use Rattle.chanstate.specs.Firsts.{first_removed, first_changed};
-ghost use Rattle.rfccase.specs.Casemapping.{is_same};
 
 use crate::member::Member;
 use crate::member_edit::MemberEdit;
 use crate::names::is_same;
 use bytetext::{NoMemory, Text};
 use indexmap::IndexMap;
-use rfccase::{ShortFold, fold_slice, fold_text};
+use rfccase::{Casemapping, ShortFold, fold_slice_by, fold_text_by};
 use std::alloc::Global;
 use std::mem;
 
@@ -29,6 +28,10 @@ pub type Index = IndexMap<Vec<u8>, usize>;
 pub struct Seats {
     pub places: Vec<Option<Member>>,
     pub index: Index,
+    // How nicks compare.
+    pub mapping: Casemapping,
+    // Whether nicks are found by the index. If not, they are found by a walk over the seats.
+    pub indexed: bool,
 }
 
 // The longest nick that is looked up by its lower case. A line has at most 510 bytes, so a longer nick comes only from
@@ -36,62 +39,115 @@ pub struct Seats {
 const LONGEST_KEY: usize = 512;
 
 impl Seats {
-    // Creates an empty list of seats. Allocates nothing.
-    pub(crate) fn new(alloc: Global) -> Seats
-        ensures indexed { AreIndexed result.places.items result.index.entries }
+    // Creates an empty list of seats, whose nicks are indexed by `mapping`. Allocates nothing.
+    pub(crate) fn new(alloc: Global, mapping: Casemapping) -> Seats
+        ensures indexed { AreSeated result }
+        ensures mapping { result.mapping ≡ mapping }
         ensures none { seated result.places.items ≡ [] }
     {
         Seats {
             places: Vec::new(alloc),
             index: IndexMap::new(alloc),
+            mapping,
+            indexed: true,
         }
     }
 }
 
+// Returns whether two casemappings are one.
+pub(crate) fn is_one(a: Casemapping, b: Casemapping) -> bool
+    ensures { result ≡ true → a ≡ b }
+{
+    a == b
+}
+
+// Compares nicks by `mapping` from now on. If they were compared by another casemapping before, the index is no longer
+// used: two members whom that one tells apart may be the same by this one. A `ChanState` never changes the casemapping
+// of a roster that it holds.
+pub(crate) fn compare_by(seats: &mut Seats, mapping: Casemapping)
+    requires { AreSeated seats.old }
+    ensures indexed { AreSeated seats.new }
+    ensures mapping { seats.new.mapping ≡ mapping }
+    ensures places { seats.new.places ≡ seats.old.places }
+{
+    if !is_one(seats.mapping, mapping) {
+        seats.mapping = mapping;
+        seats.indexed = false;
+    }
+}
+
 // Returns the lower case of `nick`, in its own bytes. Allocates nothing.
-fn lower_case(nick: Text) -> Vec<u8>
-    ensures { result.items ≡ folded nick }
+fn lower_case(mapping: Casemapping, nick: Text) -> Vec<u8>
+    ensures { result.items ≡ folded_by mapping nick }
 {
     let mut lower = nick.into_vec();
-    fold_slice(&mut lower);
+    fold_slice_by(mapping, &mut lower);
     lower
 }
 
 // Returns whether someone called `nick` sits at `place`.
-fn is_seat(nick: &[u8], place: &Option<Member>) -> bool
-    ensures { result ≡ is_seat_of nick.now place.now }
+fn is_seat(mapping: Casemapping, nick: &[u8], place: &Option<Member>) -> bool
+    ensures { result ≡ is_seat_of mapping nick.now place.now }
 {
     match place {
-        Some(member) => is_same(nick, member.nick.as_bytes()),
+        Some(member) => is_same(mapping, nick, member.nick.as_bytes()),
         None => false,
     }
 }
 
 // Returns the first seat of someone called `nick`.
-fn walk_to(places: &[Option<Member>], nick: &[u8]) -> Option<usize>
-    ensures { result ≡ position (is_seat_of nick.now) places.now }
+fn walk_to(mapping: Casemapping, places: &[Option<Member>], nick: &[u8]) -> Option<usize>
+    ensures { result ≡ position (is_seat_of mapping nick.now) places.now }
 {
-    places.iter().position(|place| is_seat(nick, place))
+    places
+        .iter()
+        .position(|place| is_seat(mapping, nick, place))
+}
+
+// Returns the first member called `nick`, by a walk over the seats.
+pub(crate) fn walk_for<'a>(
+    mapping: Casemapping,
+    places: &'a [Option<Member>],
+    nick: &[u8],
+) -> Option<&'a Member>
+    ensures { option_copied result ≡ find (is_called mapping nick.now) (seated places.now) }
+{
+    match walk_to(mapping, places, nick) {
+        Some(at) => places[at].as_ref(),
+        None => None,
+    }
 }
 
 // Returns the seat of the member called `nick`.
 pub(crate) fn place_of(seats: &Seats, nick: &[u8]) -> Option<usize>
-    requires { AreIndexed seats.now.places.items seats.now.index.entries }
-    ensures { result ≡ place_under (folded nick.now) seats.now.index.entries }
+    requires { AreSeated seats.now }
+    ensures { result ≡ position (is_seat_of seats.now.mapping nick.now) seats.now.places.items }
 {
-    match ShortFold::<LONGEST_KEY>::new(nick) {
+    if seats.indexed {
+        place_in_index(seats, nick)
+    } else {
+        walk_to(seats.mapping, seats.places.as_slice(), nick)
+    }
+}
+
+// Returns the seat of the member called `nick`, by the index.
+fn place_in_index(seats: &Seats, nick: &[u8]) -> Option<usize>
+    requires { AreIndexed seats.now.mapping seats.now.places.items seats.now.index.entries }
+    ensures { result ≡ place_under (folded_by seats.now.mapping nick.now) seats.now.index.entries }
+{
+    match ShortFold::<LONGEST_KEY>::by(seats.mapping, nick) {
         Some(lower) => match seats.index.get(lower.as_bytes()) {
             Some(at) => Some(*at),
             None => None,
         },
-        None => walk_to(seats.places.as_slice(), nick),
+        None => walk_to(seats.mapping, seats.places.as_slice(), nick),
     }
 }
 
 // Returns the member called `nick`.
 pub(crate) fn member_of<'a>(seats: &'a Seats, nick: &[u8]) -> Option<&'a Member>
-    requires { AreIndexed seats.now.places.items seats.now.index.entries }
-    ensures { option_copied result ≡ find (is_called nick.now) (seated seats.now.places.items) }
+    requires { AreSeated seats.now }
+    ensures { option_copied result ≡ find (is_called seats.now.mapping nick.now) (seated seats.now.places.items) }
 {
     match place_of(seats, nick) {
         Some(at) => seats.places[at].as_ref(),
@@ -102,12 +158,11 @@ pub(crate) fn member_of<'a>(seats: &'a Seats, nick: &[u8]) -> Option<&'a Member>
 // Changes what is known of the member on the seat `at`.
 pub(crate) fn edit_at(seats: &mut Seats, at: usize, edit: MemberEdit)
     requires { at < vec_len seats.old.places }
+    ensures mapping { seats.new.mapping ≡ seats.old.mapping }
     ensures index { seats.new.index ≡ seats.old.index }
-    ensures indexed { AreIndexed seats.old.places.items seats.old.index.entries
-        → AreIndexed seats.new.places.items seats.old.index.entries }
-    ensures edited { (nick : List ℕ) → AreIndexed seats.old.places.items seats.old.index.entries
-        → place_under (folded nick) seats.old.index.entries ≡ Some at
-        → seated seats.new.places.items ≡ first_changed (is_called nick) (edited edit) (seated seats.old.places.items) }
+    ensures indexed { AreSeated seats.old → AreSeated seats.new }
+    ensures edited { (nick : List ℕ) → position (is_seat_of seats.old.mapping nick) seats.old.places.items ≡ Some at
+        → seated seats.new.places.items ≡ first_changed (is_called seats.old.mapping nick) (edited edit) (seated seats.old.places.items) }
     ensures len { vec_len seats.new.places ≡ vec_len seats.old.places }
     ensures capacity { vec_capacity seats.new.places ≡ vec_capacity seats.old.places }
 {
@@ -116,12 +171,26 @@ pub(crate) fn edit_at(seats: &mut Seats, at: usize, edit: MemberEdit)
     }
 }
 
+// Changes what is known of the member called `nick`.
+pub(crate) fn edit_called(seats: &mut Seats, nick: &[u8], edit: MemberEdit)
+    requires { AreSeated seats.old }
+    ensures indexed { AreSeated seats.new }
+    ensures edited { seated seats.new.places.items
+        ≡ first_changed (is_called seats.old.mapping nick.now) (edited edit) (seated seats.old.places.items) }
+{
+    if let Some(at) = place_of(seats, nick) {
+        edit_at(seats, at, edit);
+    }
+}
+
 // Empties the seat of the member called `nick`.
 pub(crate) fn vacate(seats: &mut Seats, nick: &[u8])
-    requires { AreIndexed seats.old.places.items seats.old.index.entries }
-    ensures indexed { AreIndexed seats.new.places.items seats.new.index.entries }
-    ensures gone { place_under (folded nick.now) seats.new.index.entries ≡ None }
-    ensures removed { seated seats.new.places.items ≡ first_removed (is_called nick.now) (seated seats.old.places.items) }
+    requires { AreSeated seats.old }
+    ensures indexed { AreSeated seats.new }
+    ensures mapping { seats.new.mapping ≡ seats.old.mapping }
+    ensures by_index { seats.new.indexed ≡ seats.old.indexed }
+    ensures gone { seats.old.indexed ≡ true → place_under (folded_by seats.old.mapping nick.now) seats.new.index.entries ≡ None }
+    ensures removed { seated seats.new.places.items ≡ first_removed (is_called seats.old.mapping nick.now) (seated seats.old.places.items) }
     ensures room { spare seats.old.index ≤ spare seats.new.index }
 {
     let Some(at) = place_of(seats, nick) else {
@@ -131,18 +200,19 @@ pub(crate) fn vacate(seats: &mut Seats, nick: &[u8])
         return;
     };
     let Member { nick, .. } = member;
-    let lower = lower_case(nick);
+    let lower = lower_case(seats.mapping, nick);
     let _place = seats.index.swap_remove(lower.as_slice());
 }
 
 // Puts a member whose nick nobody has on a new last seat. There must be room for one more.
 pub(crate) fn seat_last(seats: &mut Seats, key: Vec<u8>, one: Member)
-    requires indexed { AreIndexed seats.old.places.items seats.old.index.entries }
-    requires key { IsUnder key one }
-    requires absent { place_under (folded one.nick) seats.old.index.entries ≡ None }
+    requires indexed { AreSeated seats.old }
+    requires key { IsUnder seats.old.mapping key one }
+    requires absent { position (is_seat_of seats.old.mapping one.nick) seats.old.places.items ≡ None }
     requires place { vec_len seats.old.places < vec_capacity seats.old.places }
     requires entry { 0 < spare seats.old.index }
-    ensures indexed { AreIndexed seats.new.places.items seats.new.index.entries }
+    ensures indexed { AreSeated seats.new }
+    ensures mapping { seats.new.mapping ≡ seats.old.mapping }
     ensures seated { seated seats.new.places.items ≡ seated seats.old.places.items ++ one ∷ [] }
     ensures len { vec_len seats.new.places ≡ vec_len seats.old.places + 1 }
     ensures capacity { vec_capacity seats.new.places ≡ vec_capacity seats.old.places }
@@ -156,8 +226,9 @@ pub(crate) fn seat_last(seats: &mut Seats, key: Vec<u8>, one: Member)
 // Makes room for `more` members. If room is short and more than half of the seats are empty, it first removes the empty
 // ones. A growth makes room for at least as many again.
 pub(crate) fn make_room(seats: &mut Seats, alloc: Global, more: usize) -> Result<(), NoMemory>
-    requires { AreIndexed seats.old.places.items seats.old.index.entries }
-    ensures indexed { AreIndexed seats.new.places.items seats.new.index.entries }
+    requires { AreSeated seats.old }
+    ensures indexed { AreSeated seats.new }
+    ensures mapping { seats.new.mapping ≡ seats.old.mapping }
     ensures same { seated seats.new.places.items ≡ seated seats.old.places.items }
     ensures places { OnOk result (vec_len seats.new.places + more ≤ vec_capacity seats.new.places) }
     ensures entries { OnOk result (more ≤ spare seats.new.index) }
@@ -193,8 +264,9 @@ fn reserve_entries(index: &mut Index, more: usize) -> Result<(), NoMemory>
 
 // Removes the empty seats.
 fn drop_empty(seats: &mut Seats, alloc: Global) -> Result<(), NoMemory>
-    requires { AreIndexed seats.old.places.items seats.old.index.entries }
-    ensures indexed { AreIndexed seats.new.places.items seats.new.index.entries }
+    requires { AreSeated seats.old }
+    ensures indexed { AreSeated seats.new }
+    ensures mapping { seats.new.mapping ≡ seats.old.mapping }
     ensures same { seated seats.new.places.items ≡ seated seats.old.places.items }
 {
     let index = index_taken(alloc, seats)?;
@@ -211,22 +283,28 @@ fn keep_taken(places: &mut Vec<Option<Member>>)
 
 // Indexes the members by the seats that they have once the empty ones are removed.
 pub(crate) fn index_taken(alloc: Global, seats: &Seats) -> Result<Index, NoMemory>
-    requires { AreIndexed seats.now.places.items seats.now.index.entries }
-    ensures { IfOk result (λ index. AreIndexed (taken seats.now.places.items) index.entries) }
+    requires { AreSeated seats.now }
+    ensures { IfOk result (λ index. seats.now.indexed ≡ true
+        → AreIndexed seats.now.mapping (taken seats.now.places.items) index.entries) }
 {
     let mut index = IndexMap::with_capacity(alloc, seats.index.len())?;
     for place in seats.places.as_slice() {
-        index_next(&mut index, alloc, place)?;
+        index_next(&mut index, alloc, seats.mapping, place)?;
     }
     Ok(index)
 }
 
 // Adds the member at `place`, if any, to the index under the next number.
-fn index_next(index: &mut Index, alloc: Global, place: &Option<Member>) -> Result<(), NoMemory>
-    ensures { OnOk result (IsIndexedNext place.now (index_map_len index.old) index.old.entries (index_map_len index.new) index.new.entries) }
+fn index_next(
+    index: &mut Index,
+    alloc: Global,
+    mapping: Casemapping,
+    place: &Option<Member>,
+) -> Result<(), NoMemory>
+    ensures { OnOk result (IsIndexedNext mapping place.now (index_map_len index.old) index.old.entries (index_map_len index.new) index.new.entries) }
 {
     if let Some(member) = place {
-        let key = fold_text(alloc, member.nick.as_bytes())?;
+        let key = fold_text_by(alloc, mapping, member.nick.as_bytes())?;
         let at = index.len();
         index.insert(key, at)?;
     }
@@ -235,13 +313,13 @@ fn index_next(index: &mut Index, alloc: Global, place: &Option<Member>) -> Resul
 
 // Puts a member whose nick nobody has on a new last seat.
 pub(crate) fn add(seats: &mut Seats, alloc: Global, one: Member) -> Result<(), NoMemory>
-    requires indexed { AreIndexed seats.old.places.items seats.old.index.entries }
-    requires absent { has_member one.nick (seated seats.old.places.items) ≡ false }
-    ensures indexed { AreIndexed seats.new.places.items seats.new.index.entries }
+    requires indexed { AreSeated seats.old }
+    requires absent { has_member seats.old.mapping one.nick (seated seats.old.places.items) ≡ false }
+    ensures indexed { AreSeated seats.new }
     ensures ok { OnOk result (seated seats.new.places.items ≡ seated seats.old.places.items ++ one ∷ []) }
     ensures err { OnErr result (seated seats.new.places.items ≡ seated seats.old.places.items) }
 {
-    let key = fold_text(alloc, one.nick.as_bytes())?;
+    let key = fold_text_by(alloc, seats.mapping, one.nick.as_bytes())?;
     make_room(seats, alloc, 1)?;
     seat_last(seats, key, one);
     Ok(())
@@ -250,16 +328,16 @@ pub(crate) fn add(seats: &mut Seats, alloc: Global, one: Member) -> Result<(), N
 // Gives the member called `old`, if there is one, the nick `nick` on the same seat. Another member who had that nick is
 // removed first. There must be room for one more.
 pub(crate) fn rename_in(seats: &mut Seats, old: &[u8], key: Vec<u8>, nick: Text)
-    requires indexed { AreIndexed seats.old.places.items seats.old.index.entries }
-    requires key { key.items ≡ folded nick }
+    requires indexed { AreSeated seats.old }
+    requires key { key.items ≡ folded_by seats.old.mapping nick }
     requires entry { 0 < spare seats.old.index }
-    ensures indexed { AreIndexed seats.new.places.items seats.new.index.entries }
-    ensures renamed { seated seats.new.places.items ≡ renamed old.now nick (seated seats.old.places.items) }
+    ensures indexed { AreSeated seats.new }
+    ensures renamed { seated seats.new.places.items ≡ renamed seats.old.mapping old.now nick (seated seats.old.places.items) }
 {
     if place_of(seats, old).is_none() {
         return;
     }
-    if is_same(old, nick.as_bytes()) {
+    if is_same(seats.mapping, old, nick.as_bytes()) {
         respell(seats, old, key, nick);
         return;
     }
@@ -270,12 +348,13 @@ pub(crate) fn rename_in(seats: &mut Seats, old: &[u8], key: Vec<u8>, nick: Text)
 // Gives the member called `old`, if there is one, the nick `nick` on the same seat. Nobody else may have it, and there
 // must be room for one more.
 fn respell(seats: &mut Seats, old: &[u8], key: Vec<u8>, nick: Text)
-    requires indexed { AreIndexed seats.old.places.items seats.old.index.entries }
-    requires key { key.items ≡ folded nick }
+    requires indexed { AreSeated seats.old }
+    requires key { key.items ≡ folded_by seats.old.mapping nick }
     requires entry { 0 < spare seats.old.index }
-    requires apart { (i : ℕ) → place_under (folded nick) seats.old.index.entries ≡ Some i → is_same old.now nick ≡ true }
-    ensures indexed { AreIndexed seats.new.places.items seats.new.index.entries }
-    ensures renamed { seated seats.new.places.items ≡ first_changed (is_called old.now) (with_nick nick) (seated seats.old.places.items) }
+    requires apart { seats.old.indexed ≡ true → (i : ℕ) → place_under (folded_by seats.old.mapping nick) seats.old.index.entries ≡ Some i
+        → is_same_by seats.old.mapping old.now nick ≡ true }
+    ensures indexed { AreSeated seats.new }
+    ensures renamed { seated seats.new.places.items ≡ first_changed (is_called seats.old.mapping old.now) (with_nick nick) (seated seats.old.places.items) }
 {
     let Some(at) = place_of(seats, old) else {
         return;
@@ -283,7 +362,7 @@ fn respell(seats: &mut Seats, old: &[u8], key: Vec<u8>, nick: Text)
     let Some(mut member) = seats.places[at].take() else {
         return;
     };
-    let lower = lower_case(mem::replace(&mut member.nick, nick));
+    let lower = lower_case(seats.mapping, mem::replace(&mut member.nick, nick));
     let _place = seats.index.swap_remove(lower.as_slice());
     seats.places[at] = Some(member);
     seats.index.insert(key, at).unwrap();

@@ -103,7 +103,7 @@ pub(crate) fn say(
     if is_for_programs(text) {
         return Ok(Vec::new(alloc));
     }
-    if is_same(target, state.own_nick()) {
+    if is_same(state.casemapping(), target, state.own_nick()) {
         return say_to_bot(alloc, by, text);
     }
     match state.held(target) {
@@ -130,7 +130,7 @@ pub(crate) fn notice(
     if is_for_programs(text) {
         return Ok(Vec::new(alloc));
     }
-    if is_same(target, state.own_nick()) {
+    if is_same(state.casemapping(), target, state.own_nick()) {
         return note(alloc, by, None, text, target);
     }
     match state.held(target) {

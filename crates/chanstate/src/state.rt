@@ -2,13 +2,14 @@
 ghost use Rattle.std.specs.Prelude.{◌≡◌, ◌<◌, true, false, length, is_some, IfOk, IfErr, OnErr, MatchResult};
 ghost use Rattle.std.specs.Option.{option_copied, option_map};
 ghost use Rattle.chanstate.specs.Channels.{is_held};
-ghost use Rattle.chanstate.specs.Views.{connected, channel_in, topic_in, members_in, member_in, is_op, is_voice, channels_with};
+ghost use Rattle.chanstate.specs.Views.{mapping_of, connected, channel_in, topic_in, members_in, member_in, is_op, is_voice, channels_with};
 ghost use Rattle.chanstate.specs.Steps.{after};
 ghost use Rattle.chanstate.specs.Memory.{takes_memory};
 ghost use Rattle.chanstate.specs.Items.{items_of};
-ghost use Rattle.chanstate.specs.Plans.{IsPlanFor};
+ghost use Rattle.chanstate.specs.Plans.{IsPlanFor, joined_if};
 
 use crate::channels::Channels;
+use crate::joins::names_channel;
 use crate::member::Member;
 use crate::members::Members;
 use crate::message_parts::{MessageParts, change_of};
@@ -16,6 +17,7 @@ use crate::message_plan::MessagePlan;
 use crate::support::Support;
 use bytetext::{NoMemory, Text, Texts, TryCopy};
 use ircline::Message;
+use rfccase::Casemapping;
 use std::alloc::Global;
 
 /// What a bot knows of the channels that it is on, from the lines that it has read since it connected.
@@ -58,18 +60,26 @@ impl ChanState {
         &self.support
     }
 
+    /// Returns how the server compares the names of channels and people: as it has announced before the first JOIN,
+    /// else by RFC 1459. Every name and nick that this state is asked for is compared so. Allocates nothing.
+    pub fn casemapping(&self) -> Casemapping
+        ensures { result ≡ mapping_of self.now }
+    {
+        self.support.casemapping()
+    }
+
     /// Returns whether the bot is on `channel`.
     pub fn holds(&self, channel: &[u8]) -> bool
-        ensures { result ≡ is_held channel.now self.now.channels }
+        ensures { result ≡ is_held (mapping_of self.now) channel.now self.now.channels }
     {
-        self.channels.holds(channel)
+        self.channels.holds(self.casemapping(), channel)
     }
 
     /// Returns the name of `channel` as the bot spells it; `None` if the bot isn't on it. Allocates nothing.
     pub fn held(&self, channel: &[u8]) -> Option<&[u8]>
         ensures { option_copied result ≡ option_map (λ c. c.name) (channel_in channel.now self.now) }
     {
-        match self.channels.find(channel) {
+        match self.channels.find(self.casemapping(), channel) {
             Some(held) => Some(held.name.as_bytes()),
             None => None,
         }
@@ -79,7 +89,7 @@ impl ChanState {
     pub fn topic(&self, channel: &[u8]) -> Option<&[u8]>
         ensures { option_copied result ≡ topic_in channel.now self.now }
     {
-        match self.channels.find(channel) {
+        match self.channels.find(self.casemapping(), channel) {
             Some(held) => Some(held.topic.as_bytes()),
             None => None,
         }
@@ -90,8 +100,8 @@ impl ChanState {
     pub fn member(&self, channel: &[u8], nick: &[u8]) -> Option<&Member>
         ensures { option_copied result ≡ member_in channel.now nick.now self.now }
     {
-        match self.channels.find(channel) {
-            Some(held) => held.members.find(nick),
+        match self.channels.find(self.casemapping(), channel) {
+            Some(held) => held.members.find(self.casemapping(), nick),
             None => None,
         }
     }
@@ -108,8 +118,8 @@ impl ChanState {
     pub fn is_op(&self, channel: &[u8], nick: &[u8]) -> bool
         ensures { result ≡ is_op (member_in channel.now nick.now self.now) }
     {
-        match self.channels.find(channel) {
-            Some(held) => held.members.is_op(nick),
+        match self.channels.find(self.casemapping(), channel) {
+            Some(held) => held.members.is_op(self.casemapping(), nick),
             None => false,
         }
     }
@@ -132,7 +142,7 @@ impl ChanState {
         ensures members { IfOk result (λ m. m ≡ members_in channel.now self.now) }
         ensures memory { IfErr result (λ _. 0 < length (members_in channel.now self.now)) }
     {
-        match self.channels.find(channel) {
+        match self.channels.find(self.casemapping(), channel) {
             Some(held) => Members::copied(alloc, &held.members),
             None => Ok(Members::new(alloc)),
         }
@@ -147,7 +157,7 @@ impl ChanState {
         ensures names { IfOk result (λ names. names ≡ channels_with nick.now self.now) }
         ensures memory { IfErr result (λ _. 0 < length (channels_with nick.now self.now)) }
     {
-        let names = self.channels.names_with(alloc, nick)?;
+        let names = self.channels.names_with(alloc, self.casemapping(), nick)?;
         Ok(Texts::new(names))
     }
 
@@ -193,6 +203,15 @@ impl ChanState {
         }
     }
 
+    // Takes in that a JOIN has been read, if `joined`.
+    pub(crate) fn note_join(&mut self, joined: bool)
+        ensures { self.new ≡ record self.old { support = joined_if joined self.old.support } }
+    {
+        if joined {
+            self.support.note_join();
+        }
+    }
+
     // Takes in a message that allocates nothing.
     pub(crate) fn take_in(&mut self, alloc: Global, message: &Message)
         requires { takes_memory message.now self.old ≡ false }
@@ -202,11 +221,11 @@ impl ChanState {
             MessageParts::Nothing => {}
             // These would allocate if they changed anything, so here they change nothing.
             MessageParts::Welcome(_) => {}
-            MessageParts::Join { .. } => {}
             MessageParts::Nick { .. } => {}
             MessageParts::Topic { .. } => {}
             MessageParts::Address { .. } => {}
             MessageParts::Announce(tokens) => self.support.announce(tokens),
+            MessageParts::Join { list, .. } => self.note_join(names_channel(list)),
             MessageParts::Part { nick, list } => self.leave_all(nick, list),
             MessageParts::Kick { channel, target } => self.leave(target, channel),
             MessageParts::Quit(nick) => self.depart(nick),
@@ -216,7 +235,9 @@ impl ChanState {
                 arguments,
             } => self.mode(channel, modes, arguments),
             MessageParts::Names { channel, names } => {
-                self.channels.show(alloc, &self.support, channel, names);
+                let mapping = self.casemapping();
+                self.channels
+                    .show(alloc, mapping, &self.support, channel, names);
             }
         }
     }

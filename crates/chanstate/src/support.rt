@@ -1,12 +1,14 @@
 // What a server announces (RPL_ISUPPORT, numeric 005).
 ghost use Rattle.std.specs.Prelude.{◌≡◌, ◌≤◌, length, MatchOption, None, Some};
 ghost use Rattle.chanstate.specs.Announced.{front_len, cut, key_and_value, with_prefix, with_types, with_token, announced, unannounced, takes_argument};
-ghost use Rattle.chanstate.specs.Announced.{is_sign, is_in};
+ghost use Rattle.chanstate.specs.Announced.{is_sign, is_in, with_casemapping, with_join};
 
 use crate::letters::Letters;
 use bytetext::Text;
+use rfccase::Casemapping;
 
-/// The channel modes of a server, as far as they are needed to read a MODE or a list of names. Allocates nothing.
+/// What a server announces: its channel modes, as far as they are needed to read a MODE or a list of names, and how it
+/// compares names. Allocates nothing.
 #[derive(Clone, Copy, Debug)]
 pub struct Support {
     // The modes that mark a member, and the signs that stand for them before a nick.
@@ -15,6 +17,10 @@ pub struct Support {
     // Of the other modes, those that always have an argument, and those that have one only when they are set.
     always: Letters,
     when_set: Letters,
+    // How the server compares names.
+    casemapping: Casemapping,
+    // Whether a JOIN has been read since the welcome. From then on the casemapping stays.
+    join_read: bool,
 }
 
 impl Support {
@@ -29,6 +35,8 @@ impl Support {
             signs: Letters::of(b"@%+&~"),
             always: Letters::of(b"beIk"),
             when_set: Letters::of(b"l"),
+            casemapping: Casemapping::Rfc1459,
+            join_read: false,
         }
     }
 
@@ -44,6 +52,13 @@ impl Support {
         ensures { result ≡ is_in letter self.now.ranks }
     {
         self.ranks.holds(letter)
+    }
+
+    /// Returns how the server compares names: as it has announced before the first JOIN, else by RFC 1459.
+    pub fn casemapping(&self) -> Casemapping
+        ensures { result ≡ self.now.casemapping }
+    {
+        self.casemapping
     }
 
     /// Returns whether `byte` is a sign that stands before a nick.
@@ -70,6 +85,25 @@ impl Support {
             self.set_ranks(value);
         } else if key == b"CHANMODES".as_slice() {
             self.set_types(value);
+        } else if key == b"CASEMAPPING".as_slice() {
+            self.set_casemapping(value);
+        }
+    }
+
+    // Takes in that a JOIN has been read.
+    pub(crate) fn note_join(&mut self)
+        ensures { self.new ≡ with_join self.old }
+    {
+        self.join_read = true;
+    }
+
+    // Takes in the name of a casemapping, unless a JOIN has been read: channels and members are held then, which were
+    // found by the casemapping before it.
+    fn set_casemapping(&mut self, value: &[u8])
+        ensures { self.new ≡ with_casemapping value.now self.old }
+    {
+        if !self.join_read {
+            self.casemapping = Casemapping::named(value);
         }
     }
 

@@ -6,7 +6,7 @@ ghost use Rattle.chanstate.specs.Members.{arrived, unmarked, renamed};
 use crate::member::Member;
 use bytetext::{NoMemory, Text};
 use ircline::Person;
-use rfccase::fold_text;
+use rfccase::{Casemapping, fold_text_by};
 use std::alloc::Global;
 
 /// What is to be done with the members of a channel.
@@ -22,21 +22,31 @@ pub enum Task {
 
 impl Task {
     // Prepares the join of `person`.
-    pub(crate) fn arrive(alloc: Global, person: Person<'_>) -> Result<Task, NoMemory>
-        ensures keyed { IfOk result (λ task. IsKeyed task) }
-        ensures done { IfOk result (λ task. done_by task ≡ arrived (unmarked person.entry.nick.now person.entry.user.now person.entry.host.now)) }
+    pub(crate) fn arrive(
+        alloc: Global,
+        mapping: Casemapping,
+        person: Person<'_>,
+    ) -> Result<Task, NoMemory>
+        ensures keyed { IfOk result (λ task. IsKeyed mapping task) }
+        ensures done { IfOk result (λ task. done_by mapping task
+            ≡ arrived mapping (unmarked person.entry.nick.now person.entry.user.now person.entry.host.now)) }
     {
-        let key = fold_text(alloc, person.nick)?;
+        let key = fold_text_by(alloc, mapping, person.nick)?;
         let one = Member::new(alloc, person.nick, person.user, person.host)?;
         Ok(Task::Arrive { key, one })
     }
 
     // Prepares the change of nick from `old` to `new`.
-    pub(crate) fn rename(alloc: Global, old: &[u8], new: &[u8]) -> Result<Task, NoMemory>
-        ensures keyed { IfOk result (λ task. IsKeyed task) }
-        ensures done { IfOk result (λ task. done_by task ≡ renamed old.now new.now) }
+    pub(crate) fn rename(
+        alloc: Global,
+        mapping: Casemapping,
+        old: &[u8],
+        new: &[u8],
+    ) -> Result<Task, NoMemory>
+        ensures keyed { IfOk result (λ task. IsKeyed mapping task) }
+        ensures done { IfOk result (λ task. done_by mapping task ≡ renamed mapping old.now new.now) }
     {
-        let key = fold_text(alloc, new)?;
+        let key = fold_text_by(alloc, mapping, new)?;
         Ok(Task::Rename {
             old: Text::from_slice(alloc, old)?,
             key,

@@ -15,7 +15,7 @@ impl ChanState {
     fn retitles(&self, channel: &[u8], topic: &[u8]) -> bool
         ensures { result ≡ retitles topic.now (channel_in channel.now self.now) }
     {
-        match self.channels.find(channel) {
+        match self.channels.find(self.casemapping(), channel) {
             Some(held) => held.topic.as_bytes() != topic,
             None => false,
         }
@@ -44,10 +44,10 @@ impl ChanState {
     fn readdresses(&self, channel: &[u8], nick: &[u8], user: &[u8], host: &[u8]) -> bool
         ensures { result ≡ readdresses user.now host.now (member_in channel.now nick.now self.now) }
     {
-        let Some(held) = self.channels.find(channel) else {
+        let Some(held) = self.channels.find(self.casemapping(), channel) else {
             return false;
         };
-        match held.members.find(nick) {
+        match held.members.find(self.casemapping(), nick) {
             Some(member) => member.user.as_bytes() != user || member.host.as_bytes() != host,
             None => false,
         }

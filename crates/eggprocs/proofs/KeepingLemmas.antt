@@ -18,10 +18,9 @@ use Rattle.eggprocs.specs.declared.rights.TheConstants.{FRIEND}
 use Rattle.eggprocs.specs.declared.proc_name.ProcName.TheVariants as which
 use Rattle.eggprocs.specs.Everyone.{flags_of_member}
 use Rattle.eggprocs.specs.Args.{nick_of, channel_of, mode_argument}
-use Rattle.rfccase.specs.Casemapping.{is_same}
 use Rattle.eggprocs.specs.Channel.{put}
 use Rattle.eggprocs.specs.Keeping.{is_change_here, is_by_bot, is_by_server, is_by_trusted, is_change_by_others, is_change_by_untrusted}
-use Rattle.eggprocs.specs.Keeping.{mode_back, flags_named, names_bot, takes_op, gives_op, op_again, op_undone}
+use Rattle.eggprocs.specs.Keeping.{mode_back, flags_named, names_bot, names_caller, takes_op, gives_op, op_again, op_undone}
 use Rattle.eggprocs.specs.Keeping.{is_hit, is_self, is_spared, is_guarded, hits_guarded, hits_itself, ban_undone, kick_for}
 use Rattle.eggprocs.specs.Laws.{IsOnlyByOps, IsOnlyForOthers, LeavesTrusted, LeavesServers, DoesOnly, DoesOnlyForTrusted, is_line, is_line_in_turn, has_op_flag, lacks_op_flag, is_bot_or_known}
 use Rattle.eggprocs.specs.Laws.{is_op_of_known, is_deop_of_unknown, is_end_of_ban, is_end_of_ban_on_bot, is_kick_of, is_kick_of_banned}
@@ -68,7 +67,7 @@ protectops-none : (call : Call) (seen : Seen) → is_change_by_untrusted (codes 
 unfolding wanted_by
 protectops-none call seen none =
     nothing-if (takes_op call seen) (op_again call (flags_named call seen))
-    (false-and (is_change_by_untrusted (codes "-o") call seen) (not (names_bot call seen) && not (is_same (mode_argument call) (nick_of call))) none)
+    (false-and (is_change_by_untrusted (codes "-o") call seen) (not (names_bot call seen) && not (names_caller call seen)) none)
 
 bitch-none : (call : Call) (seen : Seen) → gives_op call seen ≡ false → wanted_by which.Bitch call seen ≡ []
 unfolding wanted_by
@@ -214,12 +213,12 @@ guarded-self call seen trusted member is =
 hits-some : (call : Call) (seen : Seen) (is_right : Member → Bool)
     → ((member : Member) → is_guarded call seen member ≡ true → is_right member ≡ true)
     → (members : List Member) → list_any (hits_guarded (mode_argument call) call seen) members ≡ true
-    → list_any (λ member. is_hit (mode_argument call) member && is_right member) members ≡ true
+    → list_any (λ member. is_hit (mode_argument call) seen member && is_right member) members ≡ true
 hits-some call seen is_right right [] is = is
 hits-some call seen is_right right (member ∷ members) is =
-    either (hits_guarded (mode_argument call) call seen member) (is_hit (mode_argument call) member && is_right member)
-    (list_any (hits_guarded (mode_argument call) call seen) members) (list_any (λ one. is_hit (mode_argument call) one && is_right one) members)
-    (both (is_hit (mode_argument call) member) (is_guarded call seen member) (is_right member) (right member))
+    either (hits_guarded (mode_argument call) call seen member) (is_hit (mode_argument call) seen member && is_right member)
+    (list_any (hits_guarded (mode_argument call) call seen) members) (list_any (λ one. is_hit (mode_argument call) seen one && is_right one) members)
+    (both (is_hit (mode_argument call) seen member) (is_guarded call seen member) (is_right member) (right member))
     (hits-some call seen is_right right members) is
   where
     both : (hit a b : Bool) → (a ≡ true → b ≡ true) → (hit && a) ≡ true → (hit && b) ≡ true
@@ -254,14 +253,14 @@ unbanned-only true true right line actions is lines =
 
 guard-hits : (call : Call) (seen : Seen) (is_right : Member → Bool)
     → ((member : Member) → is_guarded call seen member ≡ true → is_right member ≡ true)
-    → list_all (λ action. list_any (λ member. is_hit (mode_argument call) member && is_right member) (members_in (channel_of call) seen.sight.channels)
+    → list_all (λ action. list_any (λ member. is_hit (mode_argument call) seen member && is_right member) (members_in (channel_of call) seen.sight.channels)
     && is_line (mode (channel_of call) (codes "-b") (mode_argument call)) action) (wanted_by which.Guard call seen) ≡ true
 unfolding wanted_by
 guard-hits call seen is_right right =
     let members = members_in (channel_of call) seen.sight.channels in
     unbanned-only (is_change_by_others (codes "+b") call seen && is_hostmask (mode_argument call))
     (list_any (hits_guarded (mode_argument call) call seen) members)
-    (list_any (λ member. is_hit (mode_argument call) member && is_right member) members)
+    (list_any (λ member. is_hit (mode_argument call) seen member && is_right member) members)
     (mode (channel_of call) (codes "-b") (mode_argument call)) (ban_undone (mode_argument call) call seen) (hits-some call seen is_right right members)
     (undone-only call seen (mode_argument call) (mode (channel_of call) (codes "-b") (mode_argument call)) refl)
 
@@ -289,8 +288,8 @@ kick-given : (call : Call) (seen : Seen) (member : Member) (action : Action) →
     → is_kick_of call seen action member ≡ true
 kick-given call seen member action is =
     let line = kick (channel_of call) member.nick (codes "banned") in
-    ap (λ (known : Bool). (is_hit (mode_argument call) member && not known) && is_line_in_turn line action) (known-spared call seen member)
-    ∙ kick-by (is_hit (mode_argument call) member && not (is_spared call seen member)) line action is
+    ap (λ (known : Bool). (is_hit (mode_argument call) seen member && not known) && is_line_in_turn line action) (known-spared call seen member)
+    ∙ kick-by (is_hit (mode_argument call) seen member && not (is_spared call seen member)) line action is
 
 kicks-only : (may : Bool) (call : Call) (seen : Seen) → list_all (is_kick_of_banned call seen)
     (if may then take MAX_ACTIONS (filter_map (kick_for (mode_argument call) call seen) (members_in (channel_of call) seen.sight.channels)) else []) ≡ true
@@ -307,7 +306,7 @@ kicks-only true call seen =
 kick-kept : (call : Call) (seen : Seen) → KeepsLooks call seen (is_kick_of_banned call seen)
 kick-kept call seen turn action look is right =
     any-more (is_kick_of call seen action) (is_kick_of call seen look) (members_in (channel_of call) seen.sight.channels)
-    (λ member. test-kept call seen (is_hit (mode_argument call) member && not (is_bot_or_known call seen member))
+    (λ member. test-kept call seen (is_hit (mode_argument call) seen member && not (is_bot_or_known call seen member))
     (kick (channel_of call) member.nick (codes "banned")) turn action look is) right
 
 pub enforcebans-only : DoesOnly is_kick_of_banned (codes "enforcebans")

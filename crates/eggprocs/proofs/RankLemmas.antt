@@ -7,13 +7,14 @@ use Rattle.std.specs.Cmp.Lexicographic.{slice_cmp, nat_list_cmp_total, nat_list_
 use Rattle.std.specs.Ordering.{nat_cmp, is_lt, is_eq, ordering_reverse}
 use Rattle.std.proofs.lemmas.Bool.{and_from, and_parts, and_right}
 use Rattle.std.proofs.lemmas.List.Sorted.{sum_by-IsPermutation, IsPermutation-sym}
-use Rattle.rfccase.specs.Casemapping.{folded, is_same, IsSame}
+use Rattle.rfccase.specs.declared.casemappings.Casemapping.{Casemapping}
+use Rattle.rfccase.specs.Casemapping.{folded_by, is_same_by, IsSameBy}
 use Rattle.flagexpr.specs.Letters.{has_letter}
 use Rattle.userfile.specs.Records.{Records}
 use Rattle.userfile.specs.Persons.{flags_of, handle_of}
 use Rattle.chanstate.specs.declared.member.Member.{Member}
 use Rattle.chanstate.specs.Members.{is_called}
-use Rattle.chanstate.specs.Views.{member_in, members_in}
+use Rattle.chanstate.specs.Views.{mapping_of, member_in, members_in}
 use Rattle.procs.specs.declared.call.Call.{Call}
 use Rattle.procs.specs.Seen.{Seen}
 use Rattle.eggprocs.specs.declared.rights.TheConstants.{BOT}
@@ -33,45 +34,59 @@ less-is Equal e = cc
 less-is Greater e = cc
 
 -- nothing comes before itself
-not-before-itself : (nick other : List ℕ) → IsSame nick other → comes_before nick other ≡ false
-not-before-itself nick other same =
-    ap (λ (text : List ℕ). is_lt (slice_cmp nat_cmp text (folded other))) same ∙ ap is_lt (tied_itself nat_list_cmp_total (folded other))
+not-before-itself : (mapping : Casemapping) (nick other : List ℕ) → IsSameBy mapping nick other → comes_before mapping nick other ≡ false
+not-before-itself mapping nick other same =
+    ap (λ (text : List ℕ). is_lt (slice_cmp nat_cmp text (folded_by mapping other))) same
+    ∙ ap is_lt (tied_itself nat_list_cmp_total (folded_by mapping other))
 
-onward : (a b c : List ℕ) → comes_before a b ≡ true → comes_before b c ≡ true → comes_before a c ≡ true
-onward a b c first second =
-    ap is_lt (nat_list_cmp_total.trans (folded a) (folded b) (folded c) (less-is (slice_cmp nat_cmp (folded a) (folded b)) first)
-    (less-is (slice_cmp nat_cmp (folded b) (folded c)) second))
+onward : (mapping : Casemapping) (a b c : List ℕ) → comes_before mapping a b ≡ true → comes_before mapping b c ≡ true
+    → comes_before mapping a c ≡ true
+onward mapping a b c first second =
+    ap is_lt (nat_list_cmp_total.trans (folded_by mapping a) (folded_by mapping b) (folded_by mapping c)
+    (less-is (slice_cmp nat_cmp (folded_by mapping a) (folded_by mapping b)) first)
+    (less-is (slice_cmp nat_cmp (folded_by mapping b) (folded_by mapping c)) second))
 
-same-is : (a b : List ℕ) → is_same a b ≡ true → IsSame a b
-same-is a b = (bytes_decides (folded a) (folded b)).0
+same-is : (mapping : Casemapping) (a b : List ℕ) → is_same_by mapping a b ≡ true → IsSameBy mapping a b
+same-is mapping a b = (bytes_decides (folded_by mapping a) (folded_by mapping b)).0
 
 -- ---- records
 
--- whether a hand comes before a nick depends on the records alone
+-- whether a member is a hand, by the casemapping and the records
+abbrev hand-by : Bool → Call → Casemapping → Records → Member → Bool
+hand-by needs_op call mapping records member =
+    (not needs_op || member.op) && has_letter
+    (flags_of records.users (handle_of mapping records.users (address_of member)) (channel_of call)).global BOT
+
+-- whether a hand comes before a nick depends on the records and the casemapping alone
 ahead-alike : (needs_op : Bool) (call : Call) (one other : Seen) (nick : List ℕ) (members : List Member) → one.sight.records ≡ other.sight.records
+    → mapping_of one.sight.channels ≡ mapping_of other.sight.channels
     → count_by (is_ahead needs_op call one nick) members ≡ count_by (is_ahead needs_op call other nick) members
-ahead-alike needs_op call one other nick members same = ap (λ (records : Records). count_by (λ (member : Member). comes_before member.nick nick
-    && ((not needs_op || member.op) && has_letter
-    (flags_of records.users (handle_of records.users (address_of member)) (channel_of call)).global BOT)) members) same
+ahead-alike needs_op call one other nick members same mappings =
+    ap (λ (records : Records). count_by (λ (member : Member).
+    comes_before (mapping_of one.sight.channels) member.nick nick && hand-by needs_op call (mapping_of one.sight.channels) records member) members) same
+    ∙ ap (λ (mapping : Casemapping). count_by (λ (member : Member).
+    comes_before mapping member.nick nick && hand-by needs_op call mapping other.sight.records member) members) mappings
 
 hand-alike : (needs_op : Bool) (call : Call) (one other : Seen) (member : Option Member) → one.sight.records ≡ other.sight.records
+    → mapping_of one.sight.channels ≡ mapping_of other.sight.channels
     → is_hand_if needs_op call one member ≡ is_hand_if needs_op call other member
-hand-alike needs_op call one other None same = refl
-hand-alike needs_op call one other (Some member) same = ap (λ (records : Records).
-    (not needs_op || member.op) && has_letter (flags_of records.users (handle_of records.users (address_of member)) (channel_of call)).global BOT) same
+hand-alike needs_op call one other None same mappings = refl
+hand-alike needs_op call one other (Some member) same mappings =
+    ap (λ (records : Records). hand-by needs_op call (mapping_of one.sight.channels) records member) same
+    ∙ ap (λ (mapping : Casemapping). hand-by needs_op call mapping other.sight.records member) mappings
 
 -- the bot itself is among the hands
 itself-among : (needs_op : Bool) (call : Call) (seen : Seen) → is_hand_itself needs_op call seen ≡ true
-    → list_any (λ member. is_called seen.sight.channels.nick member && is_hand needs_op call seen member)
+    → list_any (λ member. is_called (mapping_of seen.sight.channels) seen.sight.channels.nick member && is_hand needs_op call seen member)
     (members_in (channel_of call) seen.sight.channels) ≡ true
 itself-among needs_op call seen itself = by (member_in (channel_of call) seen.sight.channels.nick seen.sight.channels) refl itself
   where
     by : (found : Option Member) → member_in (channel_of call) seen.sight.channels.nick seen.sight.channels ≡ found → is_hand_if needs_op call seen found ≡ true
-        → list_any (λ member. is_called seen.sight.channels.nick member && is_hand needs_op call seen member)
+        → list_any (λ member. is_called (mapping_of seen.sight.channels) seen.sight.channels.nick member && is_hand needs_op call seen member)
         (members_in (channel_of call) seen.sight.channels) ≡ true
     by None is hand = cc
     by (Some member) is hand =
-        found-among (is_called seen.sight.channels.nick) (is_hand needs_op call seen) (members_in (channel_of call) seen.sight.channels) member is hand
+        found-among (is_called (mapping_of seen.sight.channels) seen.sight.channels.nick) (is_hand needs_op call seen) (members_in (channel_of call) seen.sight.channels) member is hand
 
 -- the rank of a hand
 rank-itself : (needs_op : Bool) (call : Call) (seen : Seen) → is_hand_itself needs_op call seen ≡ true
@@ -81,37 +96,41 @@ rank-itself needs_op call seen itself = ap (λ (b : Bool). if b then hands_ahead
 -- ---- ranks
 
 -- fewer hands come before a hand than before a nick that it comes before
-ranks-apart : (needs_op : Bool) (call : Call) (seen : Seen) (nick other : List ℕ) → comes_before nick other ≡ true
-    → list_any (λ member. is_called nick member && is_hand needs_op call seen member) (members_in (channel_of call) seen.sight.channels) ≡ true
+ranks-apart : (needs_op : Bool) (call : Call) (seen : Seen) (nick other : List ℕ) → comes_before (mapping_of seen.sight.channels) nick other ≡ true
+    → list_any (λ member. is_called (mapping_of seen.sight.channels) nick member && is_hand needs_op call seen member) (members_in (channel_of call) seen.sight.channels) ≡ true
     → hands_ahead needs_op call seen nick < hands_ahead needs_op call seen other
 ranks-apart needs_op call seen nick other before there =
     fewer (is_ahead needs_op call seen nick) (is_ahead needs_op call seen other) wider members
-    (any-more (λ member. is_called nick member && is_hand needs_op call seen member)
+    (any-more (λ member. is_called (mapping_of seen.sight.channels) nick member && is_hand needs_op call seen member)
     (λ member. is_ahead needs_op call seen other member && not (is_ahead needs_op call seen nick member)) members between there)
   where
     members : List Member
     members = members_in (channel_of call) seen.sight.channels
 
+    mapping : Casemapping
+    mapping = mapping_of seen.sight.channels
+
     wider : (member : Member) → is_ahead needs_op call seen nick member ≡ true → is_ahead needs_op call seen other member ≡ true
     wider member ahead =
-        let parts = and_parts (comes_before member.nick nick) (is_hand needs_op call seen member) ahead in
-        and_from (comes_before member.nick other) (is_hand needs_op call seen member) (onward member.nick nick other parts.0 before) parts.1
+        let parts = and_parts (comes_before mapping member.nick nick) (is_hand needs_op call seen member) ahead in
+        and_from (comes_before mapping member.nick other) (is_hand needs_op call seen member)
+        (onward mapping member.nick nick other parts.0 before) parts.1
 
-    between : (member : Member) → (is_called nick member && is_hand needs_op call seen member) ≡ true
+    between : (member : Member) → (is_called mapping nick member && is_hand needs_op call seen member) ≡ true
         → (is_ahead needs_op call seen other member && not (is_ahead needs_op call seen nick member)) ≡ true
     between member is =
-        let parts = and_parts (is_called nick member) (is_hand needs_op call seen member) is in
-        let same : IsSame member.nick nick = sym (same-is nick member.nick parts.0) in
+        let parts = and_parts (is_called mapping nick member) (is_hand needs_op call seen member) is in
+        let same : IsSameBy mapping member.nick nick = sym (same-is mapping nick member.nick parts.0) in
         and_from (is_ahead needs_op call seen other member) (not (is_ahead needs_op call seen nick member))
-        (and_from (comes_before member.nick other) (is_hand needs_op call seen member)
-        (ap (λ (text : List ℕ). is_lt (slice_cmp nat_cmp text (folded other))) same ∙ before) parts.1)
-        (ap (λ (b : Bool). not (b && is_hand needs_op call seen member)) (not-before-itself member.nick nick same))
+        (and_from (comes_before mapping member.nick other) (is_hand needs_op call seen member)
+        (ap (λ (text : List ℕ). is_lt (slice_cmp nat_cmp text (folded_by mapping other))) same ∙ before) parts.1)
+        (ap (λ (b : Bool). not (b && is_hand needs_op call seen member)) (not-before-itself mapping member.nick nick same))
 
 -- the count is the same for another who sees the same
 ahead-same : (needs_op : Bool) (call : Call) (one other : Seen) (nick : List ℕ) → SeeTheSame call one other
     → hands_ahead needs_op call other nick ≡ hands_ahead needs_op call one nick
 ahead-same needs_op call one other nick same =
-    ahead-alike needs_op call other one nick (members_in (channel_of call) other.sight.channels) (sym same.records)
+    ahead-alike needs_op call other one nick (members_in (channel_of call) other.sight.channels) (sym same.records) (sym same.mappings)
     ∙ sum_by-IsPermutation (λ member. cond (is_ahead needs_op call one nick member) 1 0)
     (members_in (channel_of call) one.sight.channels) (members_in (channel_of call) other.sight.channels) same.members
 
@@ -125,23 +144,30 @@ ranks-rise needs_op call one other same mine theirs before =
 same-back : (call : Call) (one other : Seen) → SeeTheSame call one other → SeeTheSame call other one
 same-back call one other same = record {
   records = sym same.records;
+  mappings = sym same.mappings;
   members = IsPermutation-sym (members_in (channel_of call) one.sight.channels) (members_in (channel_of call) other.sight.channels) same.members;
 }
 
 pub ranks-differ : (needs_op : Bool) → RanksDiffer needs_op
 ranks-differ needs_op call one other same mine theirs equal =
-    by (slice_cmp nat_cmp (folded one.sight.channels.nick) (folded other.sight.channels.nick)) refl
+    by (slice_cmp nat_cmp (lower one) (lower other)) refl
   where
-    by : (o : Ordering) → slice_cmp nat_cmp (folded one.sight.channels.nick) (folded other.sight.channels.nick) ≡ o
-        → IsSame one.sight.channels.nick other.sight.channels.nick
+    mapping : Casemapping
+    mapping = mapping_of one.sight.channels
+
+    lower : Seen → List ℕ
+    lower seen = folded_by mapping seen.sight.channels.nick
+
+    by : (o : Ordering) → slice_cmp nat_cmp (lower one) (lower other) ≡ o
+        → IsSameBy mapping one.sight.channels.nick other.sight.channels.nick
     by Less is =
         let less = ranks-rise needs_op call one other same mine theirs (ap is_lt is) in
         absurd (omega (arith, less, equal))
-    by Equal is = (bytes_decides (folded one.sight.channels.nick) (folded other.sight.channels.nick)).0
-        (texts_ties (folded one.sight.channels.nick) (folded other.sight.channels.nick) ∙ ap is_eq is)
+    by Equal is = (bytes_decides (lower one) (lower other)).0 (texts_ties (lower one) (lower other) ∙ ap is_eq is)
     by Greater is =
-        let back = nat_list_cmp_total.antisymm (folded other.sight.channels.nick) (folded one.sight.channels.nick) ∙ ap ordering_reverse is in
-        let less = ranks-rise needs_op call other one (same-back call one other same) theirs mine (ap is_lt back) in
+        let back = nat_list_cmp_total.antisymm (lower other) (lower one) ∙ ap ordering_reverse is in
+        let before = ap (λ (m : Casemapping). comes_before m other.sight.channels.nick one.sight.channels.nick) (sym same.mappings) ∙ ap is_lt back in
+        let less = ranks-rise needs_op call other one (same-back call one other same) theirs mine before in
         absurd (omega (arith, less, equal))
 
 -- ---- the first
@@ -167,19 +193,19 @@ module _ (needs_op : Bool) (call : Call) (seen : Seen) where
           (ap (λ (n : ℕ). n == 0) (none-counted (is_ahead needs_op call seen member.nick) (members_in (channel_of call) seen.sight.channels) none)))
       by from-next true some =
           let next = among (is_ahead needs_op call seen member.nick) (members_in (channel_of call) seen.sight.channels) some in
-          let parts = and_parts (comes_before next.one.nick member.nick) (is_hand needs_op call seen next.one) next.passes in
+          let parts = and_parts (comes_before (mapping_of seen.sight.channels) next.one.nick member.nick) (is_hand needs_op call seen next.one) next.passes in
           let less = ranks-apart needs_op call seen next.one.nick member.nick parts.0
-          (next.any (λ one. is_called next.one.nick one && is_hand needs_op call seen one)
-          (and_from (is_called next.one.nick next.one) (is_hand needs_op call seen next.one)
-          ((bytes_decides (folded next.one.nick) (folded next.one.nick)).1 refl) parts.1)) in
+          (next.any (λ one. is_called (mapping_of seen.sight.channels) next.one.nick one && is_hand needs_op call seen one)
+          (and_from (is_called (mapping_of seen.sight.channels) next.one.nick next.one) (is_hand needs_op call seen next.one)
+          ((bytes_decides (folded_by (mapping_of seen.sight.channels) next.one.nick) (folded_by (mapping_of seen.sight.channels) next.one.nick)).1 refl) parts.1)) in
           from-next next.one parts.1 next.any (omega (arith, less, few))
 
 pub someone-first : (needs_op : Bool) → SomeoneIsFirst needs_op
 someone-first needs_op call seen itself =
-    let one = among (λ member. is_called seen.sight.channels.nick member && is_hand needs_op call seen member)
+    let one = among (λ member. is_called (mapping_of seen.sight.channels) seen.sight.channels.nick member && is_hand needs_op call seen member)
     (members_in (channel_of call) seen.sight.channels) (itself-among needs_op call seen itself) in
     first-from needs_op call seen (suc (hands_ahead needs_op call seen one.one.nick)) one.one
-    (and_parts (is_called seen.sight.channels.nick one.one) (is_hand needs_op call seen one.one) one.passes).1 one.any (omega arith)
+    (and_parts (is_called (mapping_of seen.sight.channels) seen.sight.channels.nick one.one) (is_hand needs_op call seen one.one) one.passes).1 one.any (omega arith)
 
 pub lone-first : (needs_op : Bool) → LoneIsFirst needs_op
 lone-first needs_op call seen lone = by (is_hand_itself needs_op call seen)
@@ -190,14 +216,17 @@ lone-first needs_op call seen lone = by (is_hand_itself needs_op call seen)
     nick : List ℕ
     nick = seen.sight.channels.nick
 
+    mapping : Casemapping
+    mapping = mapping_of seen.sight.channels
+
     other : (member : Member) → is_ahead needs_op call seen nick member ≡ true → (not (is_self seen member) && is_hand needs_op call seen member) ≡ true
     other member ahead =
-        let parts = and_parts (comes_before member.nick nick) (is_hand needs_op call seen member) ahead in
+        let parts = and_parts (comes_before mapping member.nick nick) (is_hand needs_op call seen member) ahead in
         and_from (not (is_self seen member)) (is_hand needs_op call seen member) (another (is_self seen member) refl parts.0) parts.1
       where
-        another : (self : Bool) → is_self seen member ≡ self → comes_before member.nick nick ≡ true → not self ≡ true
+        another : (self : Bool) → is_self seen member ≡ self → comes_before mapping member.nick nick ≡ true → not self ≡ true
         another false is before = refl
-        another true is before = sym (not-before-itself member.nick nick (same-is member.nick nick is)) ∙ before
+        another true is before = sym (not-before-itself mapping member.nick nick (same-is mapping member.nick nick is)) ∙ before
 
     by : (itself : Bool) → (if itself then hands_ahead needs_op call seen nick else 0) ≡ 0
     by false = refl
@@ -212,35 +241,41 @@ unknown-first needs_op call seen unknown = ap (λ (b : Bool). if b then hands_ah
 -- the rank by its parts
 abbrev rank-by : Bool → Call → Seen → List ℕ → List Member → ℕ
 rank-by needs_op call seen nick members =
-    if is_hand_if needs_op call seen (find (is_called nick) members) then count_by (is_ahead needs_op call seen nick) members else 0
+    if is_hand_if needs_op call seen (find (is_called (mapping_of seen.sight.channels) nick) members) then count_by (is_ahead needs_op call seen nick) members else 0
 
 rank-by-is : (needs_op : Bool) (call : Call) (seen : Seen)
     → rank needs_op call seen ≡ rank-by needs_op call seen seen.sight.channels.nick (members_in (channel_of call) seen.sight.channels)
 rank-by-is needs_op call seen = refl
 
 rank-by-alike : (needs_op : Bool) (call : Call) (one other : Seen) (nick : List ℕ) (members : List Member) → one.sight.records ≡ other.sight.records
+    → mapping_of one.sight.channels ≡ mapping_of other.sight.channels
     → rank-by needs_op call one nick members ≡ rank-by needs_op call other nick members
-rank-by-alike needs_op call one other nick members same =
-    ap (λ (b : Bool). if b then count_by (is_ahead needs_op call one nick) members else 0)
-    (hand-alike needs_op call one other (find (is_called nick) members) same)
-    ∙ ap (λ (n : ℕ). if is_hand_if needs_op call other (find (is_called nick) members) then n else 0) (ahead-alike needs_op call one other nick members same)
+rank-by-alike needs_op call one other nick members same mappings =
+    let found : Casemapping → Option Member = λ mapping. find (is_called mapping nick) members in
+    ap (λ (mapping : Casemapping). if is_hand_if needs_op call one (found mapping) then count_by (is_ahead needs_op call one nick) members else 0) mappings
+    ∙ ap (λ (b : Bool). if b then count_by (is_ahead needs_op call one nick) members else 0)
+    (hand-alike needs_op call one other (found (mapping_of other.sight.channels)) same mappings)
+    ∙ ap (λ (n : ℕ). if is_hand_if needs_op call other (found (mapping_of other.sight.channels)) then n else 0)
+    (ahead-alike needs_op call one other nick members same mappings)
 
 rank-by-without : (needs_op : Bool) (call : Call) (seen : Seen) (nick : List ℕ) (before after : List Member) (stranger : Member)
-    → is_called nick stranger ≡ false → is_hand needs_op call seen stranger ≡ false
+    → is_called (mapping_of seen.sight.channels) nick stranger ≡ false → is_hand needs_op call seen stranger ≡ false
     → rank-by needs_op call seen nick (before ++ stranger ∷ after) ≡ rank-by needs_op call seen nick (before ++ after)
 rank-by-without needs_op call seen nick before after stranger another no_hand =
+    let called : Member → Bool = is_called (mapping_of seen.sight.channels) nick in
     ap (λ (found : Option Member). if is_hand_if needs_op call seen found then count_by (is_ahead needs_op call seen nick) (before ++ stranger ∷ after) else 0)
-    (find-without (is_called nick) before after stranger another)
-    ∙ ap (λ (n : ℕ). if is_hand_if needs_op call seen (find (is_called nick) (before ++ after)) then n else 0)
+    (find-without called before after stranger another)
+    ∙ ap (λ (n : ℕ). if is_hand_if needs_op call seen (find called (before ++ after)) then n else 0)
     (count-without (is_ahead needs_op call seen nick) before after stranger
-    (and_right (comes_before stranger.nick nick) (is_hand needs_op call seen stranger) no_hand))
+    (and_right (comes_before (mapping_of seen.sight.channels) stranger.nick nick) (is_hand needs_op call seen stranger) no_hand))
 
 pub strangers-none : (needs_op : Bool) → StrangersCountNot needs_op
-strangers-none needs_op call without with_one before after stranger records nicks are are_too another no_bot =
+strangers-none needs_op call without with_one before after stranger records mappings nicks are are_too another no_bot =
+    let lower : List ℕ → List ℕ = folded_by (mapping_of with_one.sight.channels) in
     ap (rank-by needs_op call with_one with_one.sight.channels.nick) are_too
     ∙ rank-by-without needs_op call with_one with_one.sight.channels.nick before after stranger
-    (nat_list_eq_equiv.symm (folded with_one.sight.channels.nick) (folded stranger.nick) ∙ another)
+    (nat_list_eq_equiv.symm (lower with_one.sight.channels.nick) (lower stranger.nick) ∙ another)
     (and_right (not needs_op || stranger.op) (has_bot (flags_of_member call with_one stranger)) no_bot)
-    ∙ rank-by-alike needs_op call with_one without with_one.sight.channels.nick (before ++ after) (sym records)
+    ∙ rank-by-alike needs_op call with_one without with_one.sight.channels.nick (before ++ after) (sym records) (sym mappings)
     ∙ ap (λ (nick : List ℕ). rank-by needs_op call without nick (before ++ after)) (sym nicks)
     ∙ ap (rank-by needs_op call without without.sight.channels.nick) (sym are)

@@ -3,11 +3,11 @@
 use Rattle.std.specs.Prelude.{ℕ, not, ◌&&◌, ◌||◌, List, [], ◌∷◌, ◌++◌, take, Bool, if◌then◌else◌, codes, Option, Some, None}
 use Rattle.std.specs.List.{filter_map}
 use Rattle.std.specs.Option.{option_map}
-use Rattle.rfccase.specs.Casemapping.{is_same}
+use Rattle.rfccase.specs.Casemapping.{is_same_by}
 use Rattle.userfile.specs.declared.flags.PersonFlags.{PersonFlags}
 use Rattle.userfile.specs.Persons.{flags_of, handle_of}
 use Rattle.chanstate.specs.declared.member.Member.{Member}
-use Rattle.chanstate.specs.Views.{members_in}
+use Rattle.chanstate.specs.Views.{mapping_of, members_in}
 use Rattle.outqueue.specs.declared.queue.Queue.TheVariants.{Mode as mode_queue, Server}
 use Rattle.procs.specs.declared.action.Action.{Action}
 use Rattle.procs.specs.declared.call.Call.{Call}
@@ -21,13 +21,17 @@ use Rattle.eggprocs.specs.Rights.{has_flag, is_change, is_join}
 
 -- ---- the events that call it
 
+-- whether a nick is the bot's own, by the casemapping of its server
+abbrev pub is_own_nick : Seen → List ℕ → Bool
+is_own_nick seen nick = is_same_by (mapping_of seen.sight.channels) nick seen.sight.channels.nick
+
 -- the bot's own join
 abbrev pub is_own_join : Call → Seen → Bool
-is_own_join call seen = is_join call.kind && is_same (nick_of call) seen.sight.channels.nick
+is_own_join call seen = is_join call.kind && is_own_nick seen (nick_of call)
 
 -- a mode that gives op to the bot itself
 abbrev pub gives_bot_op : Call → Seen → Bool
-gives_bot_op call seen = is_change (codes "+o") call && is_same (mode_argument call) seen.sight.channels.nick
+gives_bot_op call seen = is_change (codes "+o") call && is_own_nick seen (mode_argument call)
 
 -- ---- members
 
@@ -38,11 +42,11 @@ address_of member = member.nick ++ codes "!" ++ member.user ++ codes "@" ++ memb
 -- the flags of a member, with those on the call's channel
 abbrev pub flags_of_member : Call → Seen → Member → PersonFlags
 flags_of_member call seen member =
-    flags_of seen.sight.records.users (handle_of seen.sight.records.users (address_of member)) (channel_of call)
+    flags_of seen.sight.records.users (handle_of (mapping_of seen.sight.channels) seen.sight.records.users (address_of member)) (channel_of call)
 
 -- whether a member gets no mode: the bot itself, which the mode makes op, and a member who is op already
 abbrev pub is_left : Seen → Member → Bool
-is_left seen member = member.op || is_same member.nick seen.sight.channels.nick
+is_left seen member = member.op || is_own_nick seen member.nick
 
 -- op for the flag a, else voice for the flag g unless the member has it
 abbrev pub change_lacked : Bool → PersonFlags → Option (List ℕ)

@@ -5,12 +5,12 @@
 use Rattle.std.specs.Prelude.{ℕ, ◌==◌, length, not, ◌&&◌, ◌||◌, List, [], ◌∷◌, take, Bool, false, if◌then◌else◌, codes, Option, Some, None}
 use Rattle.std.specs.List.{filter_map, list_any}
 use Rattle.std.specs.Option.{option_map}
-use Rattle.rfccase.specs.Casemapping.{is_same}
+use Rattle.rfccase.specs.Casemapping.{is_same_by}
 use Rattle.userfile.specs.declared.flags.PersonFlags.{PersonFlags}
 use Rattle.userfile.specs.Hostmasks.{is_match}
 use Rattle.userfile.specs.Shapes.{is_hostmask}
 use Rattle.chanstate.specs.declared.member.Member.{Member}
-use Rattle.chanstate.specs.Views.{member_in, members_in}
+use Rattle.chanstate.specs.Views.{mapping_of, member_in, members_in}
 use Rattle.outqueue.specs.declared.queue.Queue.TheVariants.{Mode as mode_queue}
 use Rattle.procs.specs.declared.action.Action.{Action}
 use Rattle.procs.specs.declared.call.Call.{Call}
@@ -19,7 +19,7 @@ use Rattle.procs.specs.Seen.{Seen}
 use Rattle.eggprocs.specs.declared.duties.Duty.TheVariants.{FirstOp}
 use Rattle.eggprocs.specs.Args.{nick_of, channel_of, mode_argument}
 use Rattle.eggprocs.specs.Channel.{put}
-use Rattle.eggprocs.specs.Everyone.{address_of, flags_of_member}
+use Rattle.eggprocs.specs.Everyone.{is_own_nick, address_of, flags_of_member}
 use Rattle.eggprocs.specs.Lines.{mode, kick}
 use Rattle.eggprocs.specs.Rights.{has_master, has_op, has_bot, is_protected, is_change, is_bot_op, flags_by}
 use Rattle.eggprocs.specs.Turns.{share_out}
@@ -32,7 +32,7 @@ is_change_here change call seen = is_change change call && is_bot_op call seen
 
 -- whether the bot itself made the change
 abbrev pub is_by_bot : Call → Seen → Bool
-is_by_bot call seen = is_same (nick_of call) seen.sight.channels.nick
+is_by_bot call seen = is_own_nick seen (nick_of call)
 
 -- whether a server made the change: the events of a server have no nick (chanstate, by_anyone)
 abbrev pub is_by_server : Call → Bool
@@ -63,12 +63,15 @@ flags_named call seen = option_map (flags_of_member call seen) (member_in (chann
 
 -- whether the change names the bot
 abbrev pub names_bot : Call → Seen → Bool
-names_bot call seen = is_same (mode_argument call) seen.sight.channels.nick
+names_bot call seen = is_own_nick seen (mode_argument call)
+
+-- whether the change names the person who makes it
+abbrev pub names_caller : Call → Seen → Bool
+names_caller call seen = is_same_by (mapping_of seen.sight.channels) (mode_argument call) (nick_of call)
 
 -- somebody who is no master and no bot takes op from another person, who is not the bot itself
 abbrev pub takes_op : Call → Seen → Bool
-takes_op call seen =
-    is_change_by_untrusted (codes "-o") call seen && (not (names_bot call seen) && not (is_same (mode_argument call) (nick_of call)))
+takes_op call seen = is_change_by_untrusted (codes "-o") call seen && (not (names_bot call seen) && not (names_caller call seen))
 
 -- a person who is no master and no bot gives op to somebody, who is not the bot itself
 abbrev pub gives_op : Call → Seen → Bool
@@ -94,13 +97,13 @@ asked_by_bitch call seen = if gives_op call seen then op_undone call (flags_name
 
 -- ---- bans
 
--- whether a ban's mask matches a member
-abbrev pub is_hit : List ℕ → Member → Bool
-is_hit mask member = is_match mask (address_of member)
+-- whether a ban's mask matches a member, by the casemapping of the server
+abbrev pub is_hit : List ℕ → Seen → Member → Bool
+is_hit mask seen member = is_match (mapping_of seen.sight.channels) mask (address_of member)
 
 -- whether a member is the bot itself
 abbrev pub is_self : Seen → Member → Bool
-is_self seen member = is_same member.nick seen.sight.channels.nick
+is_self seen member = is_own_nick seen member.nick
 
 -- whether bans spare a member: the bot itself, and an operator or friend by the userfile
 abbrev pub is_spared : Call → Seen → Member → Bool
@@ -113,22 +116,22 @@ is_guarded call seen member = if is_by_trusted call seen then is_self seen membe
 
 -- whether a ban's mask matches such a member
 abbrev pub hits_guarded : List ℕ → Call → Seen → Member → Bool
-hits_guarded mask call seen member = is_hit mask member && is_guarded call seen member
+hits_guarded mask call seen member = is_hit mask seen member && is_guarded call seen member
 
 -- a kick of a member whom the mask matches, unless bans spare that member
 abbrev pub kick_for : List ℕ → Call → Seen → Member → Option Action
 kick_for mask call seen member =
-    if is_hit mask member && not (is_spared call seen member)
+    if is_hit mask seen member && not (is_spared call seen member)
     then Some (put mode_queue (kick (channel_of call) member.nick (codes "banned")))
     else None
 
 -- whether a ban's mask matches the bot itself
-abbrev pub is_hit_if : List ℕ → Option Member → Bool
-is_hit_if mask None = false
-is_hit_if mask (Some member) = is_hit mask member
+abbrev pub is_hit_if : List ℕ → Seen → Option Member → Bool
+is_hit_if mask seen None = false
+is_hit_if mask seen (Some member) = is_hit mask seen member
 
 abbrev pub hits_itself : List ℕ → Call → Seen → Bool
-hits_itself mask call seen = is_hit_if mask (member_in (channel_of call) seen.sight.channels.nick seen.sight.channels)
+hits_itself mask call seen = is_hit_if mask seen (member_in (channel_of call) seen.sight.channels.nick seen.sight.channels)
 
 -- The end of a ban. A bot that the ban hits does not wait for another one, which may see no reason to remove it. For
 -- other members the first bot acts alone.

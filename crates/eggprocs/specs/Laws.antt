@@ -224,19 +224,19 @@ is_bot_or_known call seen member = is_self seen member || has_one_of spared_lett
 -- the end of the ban that the change sets, whose mask matches such a member
 abbrev pub is_end_of_ban : Call → Seen → Action → Bool
 is_end_of_ban call seen action =
-    list_any (λ member. is_hit (mode_argument call) member && is_bot_or_known call seen member) (members_in (channel_of call) seen.sight.channels)
+    list_any (λ member. is_hit (mode_argument call) seen member && is_bot_or_known call seen member) (members_in (channel_of call) seen.sight.channels)
     && is_line (mode (channel_of call) (codes "-b") (mode_argument call)) action
 
 -- the end of the ban that the change sets, whose mask matches the bot itself
 abbrev pub is_end_of_ban_on_bot : Call → Seen → Action → Bool
 is_end_of_ban_on_bot call seen action =
-    list_any (λ member. is_hit (mode_argument call) member && is_self seen member) (members_in (channel_of call) seen.sight.channels)
+    list_any (λ member. is_hit (mode_argument call) seen member && is_self seen member) (members_in (channel_of call) seen.sight.channels)
     && is_line (mode (channel_of call) (codes "-b") (mode_argument call)) action
 
 -- a kick of a member whom the ban's mask matches, and who is neither the bot nor has one of these flags
 abbrev pub is_kick_of : Call → Seen → Action → Member → Bool
 is_kick_of call seen action member =
-    (is_hit (mode_argument call) member && not (is_bot_or_known call seen member))
+    (is_hit (mode_argument call) seen member && not (is_bot_or_known call seen member))
     && is_line_in_turn (kick (channel_of call) member.nick (codes "banned")) action
 
 -- the same for some member of the call's channel

@@ -3,9 +3,9 @@ use Rattle.std.specs.Prelude.{◌≡◌, ◌⊎◌, ◌<◌, ◌*◌, ◌==◌, 
 use Rattle.std.specs.List.{list_all, list_any}
 use Rattle.std.specs.List.Sorted.{IsPermutation}
 use Rattle.std.specs.Str.{bytes_eq}
-use Rattle.rfccase.specs.Casemapping.{IsSame}
+use Rattle.rfccase.specs.Casemapping.{IsSameBy}
 use Rattle.chanstate.specs.declared.member.Member.{Member}
-use Rattle.chanstate.specs.Views.{member_in, members_in}
+use Rattle.chanstate.specs.Views.{mapping_of, member_in, members_in}
 use Rattle.procs.specs.declared.action.Action.{Action}
 use Rattle.procs.specs.declared.action.Action.TheVariants.{Ask, Timer, Utimer, KillTimer, SendBot, Put}
 use Rattle.procs.specs.declared.call.Call.{Call}
@@ -32,10 +32,11 @@ use Rattle.bytetext.specs.Words.{first_word}
 
 -- ---- ranks
 
--- two bots see the same of a call's channel: equal records, and the same members with the same marks and addresses, in
--- whatever order each bot has them
+-- two bots see the same of a call's channel: equal records, the same casemapping of the server, and the same members with
+-- the same marks and addresses, in whatever order each bot has them
 pub record SeeTheSame (call : Call) (one other : Seen) : Type 0 where
   pub records : one.sight.records ≡ other.sight.records
+  pub mappings : mapping_of one.sight.channels ≡ mapping_of other.sight.channels
   pub members : IsPermutation (members_in (channel_of call) one.sight.channels) (members_in (channel_of call) other.sight.channels)
 
 -- of two bots that see the same, and are both hands, the one whose nick comes before the other's has the lower rank
@@ -43,7 +44,7 @@ abbrev pub RanksRise : Bool → Type 0
 RanksRise needs_op =
     (call : Call) (one other : Seen) → SeeTheSame call one other
     → is_hand_itself needs_op call one ≡ true → is_hand_itself needs_op call other ≡ true
-    → comes_before one.sight.channels.nick other.sight.channels.nick ≡ true
+    → comes_before (mapping_of one.sight.channels) one.sight.channels.nick other.sight.channels.nick ≡ true
     → rank needs_op call one < rank needs_op call other
 
 -- such bots have the same rank only if they have the same nick, so no two have rank 0, and no two look at one second
@@ -52,7 +53,7 @@ RanksDiffer needs_op =
     (call : Call) (one other : Seen) → SeeTheSame call one other
     → is_hand_itself needs_op call one ≡ true → is_hand_itself needs_op call other ≡ true
     → rank needs_op call one ≡ rank needs_op call other
-    → IsSame one.sight.channels.nick other.sight.channels.nick
+    → IsSameBy (mapping_of one.sight.channels) one.sight.channels.nick other.sight.channels.nick
 
 -- a hand that no hand comes before
 abbrev pub is_first_hand : Bool → Call → Seen → Member → Bool
@@ -80,7 +81,8 @@ UnknownIsFirst needs_op = (call : Call) (seen : Seen) → is_hand_itself needs_o
 abbrev pub StrangersCountNot : Bool → Type 0
 StrangersCountNot needs_op =
     (call : Call) (without with_one : Seen) (before after : List Member) (stranger : Member)
-    → without.sight.records ≡ with_one.sight.records → without.sight.channels.nick ≡ with_one.sight.channels.nick
+    → without.sight.records ≡ with_one.sight.records → mapping_of without.sight.channels ≡ mapping_of with_one.sight.channels
+    → without.sight.channels.nick ≡ with_one.sight.channels.nick
     → members_in (channel_of call) without.sight.channels ≡ before ++ after
     → members_in (channel_of call) with_one.sight.channels ≡ before ++ stranger ∷ after
     → is_self with_one stranger ≡ false → has_bot (flags_of_member call with_one stranger) ≡ false
@@ -130,7 +132,7 @@ OneActs which =
     (call : Call) (one other : Seen) → SeeTheSame call one other
     → is_each (duty_of which) ≡ false → is_heard_by_all call.kind ≡ true
     → is_hand_itself (needs_op (duty_of which)) call one ≡ true → is_hand_itself (needs_op (duty_of which)) call other ≡ true
-    → (IsSame one.sight.channels.nick other.sight.channels.nick → ⊥)
+    → (IsSameBy (mapping_of one.sight.channels) one.sight.channels.nick other.sight.channels.nick → ⊥)
     → (a b : ProcReply) → IsKept ours (name_of which) call one a → IsKept ours (name_of which) call other b
     → (list_all is_wait a.actions ≡ true) ⊎ (list_all is_wait b.actions ≡ true)
 

@@ -3,7 +3,7 @@ ghost use Rattle.std.specs.Prelude.{◌≡◌, ◌<◌, ◌≤◌, ◌++◌, len
 ghost use Rattle.std.specs.List.{filter_map};
 ghost use Rattle.std.specs.Option.{option_copied, option_to_list};
 ghost use Rattle.procs.specs.declared.limits.TheConstants.{MAX_ACTIONS};
-ghost use Rattle.eggprocs.specs.Everyone.{is_own_join, gives_bot_op, address_of, flags_of_member, is_left, change_lacked, change_of, mode_for, asked_by_opall};
+ghost use Rattle.eggprocs.specs.Everyone.{is_own_nick, is_own_join, gives_bot_op, address_of, flags_of_member, is_left, change_lacked, change_of, mode_for, asked_by_opall};
 
 use crate::args::{channel_of, mode_argument, nick_of};
 use crate::channel::one_line;
@@ -13,7 +13,7 @@ use bytetext::{Failure, NoMemory, Text};
 use chanstate::Member;
 use outqueue::Queue;
 use procs::{Action, Actions, ActionsFault, Call, PutWish, View};
-use rfccase::same;
+use rfccase::same_by;
 use std::alloc::Global;
 use userfile::PersonFlags;
 
@@ -36,18 +36,29 @@ pub(crate) fn asked_by_opall(
     modes_for(alloc, call, view, members.as_slice())
 }
 
+// Whether a nick is the bot's own, by the casemapping of its server.
+pub(crate) fn is_own_nick(view: &View<'_>, nick: &[u8]) -> bool
+    ensures { result ≡ is_own_nick view.now nick.now }
+{
+    same_by(
+        view.channels().casemapping(),
+        nick,
+        view.channels().own_nick(),
+    )
+}
+
 // Whether the bot itself joins.
 fn is_own_join(call: &Call, view: &View<'_>) -> bool
     ensures { result ≡ is_own_join call.now view.now }
 {
-    is_join(call.kind) && same(nick_of(call), view.channels().own_nick())
+    is_join(call.kind) && is_own_nick(view, nick_of(call))
 }
 
 // Whether a mode gives op to the bot itself.
 fn gives_bot_op(call: &Call, view: &View<'_>) -> bool
     ensures { result ≡ gives_bot_op call.now view.now }
 {
-    is_change(b"+o", call) && same(mode_argument(call), view.channels().own_nick())
+    is_change(b"+o", call) && is_own_nick(view, mode_argument(call))
 }
 
 // Modes for the first members that lack one.
@@ -116,7 +127,7 @@ fn change_of(
 fn is_left(view: &View<'_>, member: &Member) -> bool
     ensures { result ≡ is_left view.now member.now }
 {
-    member.op || same(member.nick.as_bytes(), view.channels().own_nick())
+    member.op || is_own_nick(view, member.nick.as_bytes())
 }
 
 // The flags of a member, with those on the call's channel.
@@ -130,7 +141,7 @@ pub(crate) fn flags_of_member(
 {
     let who = address_of(alloc, member)?;
     let userfile = view.userfile();
-    let handle = userfile.handle_of(who.as_bytes());
+    let handle = userfile.handle_of(view.channels().casemapping(), who.as_bytes());
     Ok(userfile.flags_of(handle, channel_of(call)))
 }
 

@@ -9,7 +9,7 @@ use crate::rights::has_bot;
 use bytetext::NoMemory;
 use chanstate::Member;
 use procs::{Call, View};
-use rfccase::FoldKey;
+use rfccase::{Casemapping, FoldKey};
 use std::alloc::Global;
 
 // How many hands come before the bot itself. None if the bot is no hand.
@@ -73,7 +73,13 @@ fn is_ahead(
 ) -> Result<bool, NoMemory>
     ensures { IfOk result (λ ahead. ahead ≡ is_ahead needs_op call.now view.now view.now.sight.channels.nick member.now) }
 {
-    if !comes_before(alloc, member.nick.as_bytes(), view.channels().own_nick())? {
+    let mapping = view.channels().casemapping();
+    if !comes_before(
+        alloc,
+        mapping,
+        member.nick.as_bytes(),
+        view.channels().own_nick(),
+    )? {
         return Ok(false);
     }
     is_hand(alloc, needs_op, call, view, member)
@@ -98,10 +104,15 @@ fn is_hand(
 }
 
 // Whether a nick comes before another, by their lower cases as lists of bytes.
-fn comes_before(alloc: Global, nick: &[u8], other: &[u8]) -> Result<bool, NoMemory>
-    ensures { IfOk result (λ before. before ≡ comes_before nick.now other.now) }
+fn comes_before(
+    alloc: Global,
+    mapping: Casemapping,
+    nick: &[u8],
+    other: &[u8],
+) -> Result<bool, NoMemory>
+    ensures { IfOk result (λ before. before ≡ comes_before mapping nick.now other.now) }
 {
-    let nick = FoldKey::new(alloc, nick)?;
-    let other = FoldKey::new(alloc, other)?;
+    let nick = FoldKey::by(alloc, mapping, nick)?;
+    let other = FoldKey::by(alloc, mapping, other)?;
     Ok(nick < other)
 }

@@ -3,14 +3,14 @@ ghost use Rattle.std.specs.Prelude.{◌≡◌, take, IfOk};
 ghost use Rattle.std.specs.List.{filter_map, list_any};
 ghost use Rattle.procs.specs.declared.limits.TheConstants.{MAX_ACTIONS};
 ghost use Rattle.eggprocs.specs.Keeping.{is_change_here, is_by_bot, is_by_server, is_by_trusted, is_change_by_others, is_change_by_untrusted};
-ghost use Rattle.eggprocs.specs.Keeping.{mode_back, flags_named, names_bot, takes_op, gives_op};
+ghost use Rattle.eggprocs.specs.Keeping.{mode_back, flags_named, names_bot, names_caller, takes_op, gives_op};
 ghost use Rattle.eggprocs.specs.Keeping.{is_hit, is_self, is_spared, is_guarded, hits_guarded, hits_itself, ban_undone, kick_for};
 ghost use Rattle.eggprocs.specs.Keeping.{asked_by_protectops, asked_by_bitch, asked_by_guard, asked_by_enforcebans};
 
 use crate::args::{channel_of, mode_argument, nick_of};
 use crate::channel::one_line;
 use crate::duties::Duty;
-use crate::everyone::{address_of, flags_of_member, push_if_room};
+use crate::everyone::{address_of, flags_of_member, is_own_nick, push_if_room};
 use crate::lines::{kick, mode};
 use crate::rights::{flags_by, has_bot, has_master, has_op, is_bot_op, is_change, is_protected};
 use crate::turns::share_out;
@@ -18,7 +18,7 @@ use bytetext::NoMemory;
 use chanstate::Member;
 use outqueue::Queue;
 use procs::{Action, Actions, Call, PutWish, View};
-use rfccase::same;
+use rfccase::same_by;
 use std::alloc::Global;
 use userfile::{Hostmask, PersonFlags, is_hostmask};
 
@@ -104,7 +104,7 @@ fn is_change_here(change: &[u8], call: &Call, view: &View<'_>) -> bool
 fn is_by_bot(call: &Call, view: &View<'_>) -> bool
     ensures { result ≡ is_by_bot call.now view.now }
 {
-    same(nick_of(call), view.channels().own_nick())
+    is_own_nick(view, nick_of(call))
 }
 
 // Whether a server made the change. A server has no nick.
@@ -148,16 +148,25 @@ fn mode_back(alloc: Global, change: &[u8], call: &Call) -> Result<Actions, NoMem
 fn names_bot(call: &Call, view: &View<'_>) -> bool
     ensures { result ≡ names_bot call.now view.now }
 {
-    same(mode_argument(call), view.channels().own_nick())
+    is_own_nick(view, mode_argument(call))
+}
+
+// Whether the change names the person who makes it.
+fn names_caller(call: &Call, view: &View<'_>) -> bool
+    ensures { result ≡ names_caller call.now view.now }
+{
+    same_by(
+        view.channels().casemapping(),
+        mode_argument(call),
+        nick_of(call),
+    )
 }
 
 // Whether somebody who is no master and no bot takes op from another person, who is not the bot itself.
 fn takes_op(call: &Call, view: &View<'_>) -> bool
     ensures { result ≡ takes_op call.now view.now }
 {
-    is_change_by_untrusted(b"-o", call, view)
-        && !names_bot(call, view)
-        && !same(mode_argument(call), nick_of(call))
+    is_change_by_untrusted(b"-o", call, view) && !names_bot(call, view) && !names_caller(call, view)
 }
 
 // Whether a person who is no master and no bot gives op to somebody, who is not the bot itself.
@@ -191,18 +200,23 @@ fn hostmask(alloc: Global, text: &[u8]) -> Result<Hostmask, NoMemory>
 }
 
 // Whether a ban's mask matches a member.
-fn is_hit(alloc: Global, mask: &Hostmask, member: &Member) -> Result<bool, NoMemory>
-    ensures { IfOk result (λ hit. hit ≡ is_hit mask.now member.now) }
+fn is_hit(
+    alloc: Global,
+    mask: &Hostmask,
+    view: &View<'_>,
+    member: &Member,
+) -> Result<bool, NoMemory>
+    ensures { IfOk result (λ hit. hit ≡ is_hit mask.now view.now member.now) }
 {
     let who = address_of(alloc, member)?;
-    Ok(mask.matches(who.as_bytes()))
+    Ok(mask.matches(view.channels().casemapping(), who.as_bytes()))
 }
 
 // Whether a member is the bot itself.
 fn is_self(view: &View<'_>, member: &Member) -> bool
     ensures { result ≡ is_self view.now member.now }
 {
-    same(member.nick.as_bytes(), view.channels().own_nick())
+    is_own_nick(view, member.nick.as_bytes())
 }
 
 // Whether bans spare a member: the bot itself, and an operator or friend by the userfile.
@@ -243,7 +257,7 @@ fn hits_guarded(
 ) -> Result<bool, NoMemory>
     ensures { IfOk result (λ hits. hits ≡ hits_guarded mask.now call.now view.now member.now) }
 {
-    if !is_hit(alloc, mask, member)? {
+    if !is_hit(alloc, mask, view, member)? {
         return Ok(false);
     }
     is_guarded(alloc, call, view, member)
@@ -294,7 +308,7 @@ fn hits_itself(
 {
     let channels = view.channels();
     match channels.member(channel_of(call), channels.own_nick()) {
-        Some(member) => is_hit(alloc, mask, member),
+        Some(member) => is_hit(alloc, mask, view, member),
         None => Ok(false),
     }
 }
@@ -327,7 +341,7 @@ fn kick_for(
 ) -> Result<Option<Action>, NoMemory>
     ensures { IfOk result (λ wish. wish ≡ kick_for mask.now call.now view.now member.now) }
 {
-    if !is_hit(alloc, mask, member)? {
+    if !is_hit(alloc, mask, view, member)? {
         return Ok(None);
     }
     if is_spared(alloc, call, view, member)? {

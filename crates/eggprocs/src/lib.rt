@@ -110,9 +110,9 @@
 //!
 //! If several bots of a net are on one channel, all of them get the same calls there, and one acts
 //! ([`one_bot_acts`]). A *hand* is a member whom the userfile knows with the flag `b` everywhere. The *rank* of a bot is
-//! how many hands have a nick that comes before its own: nicks are compared in lower case, byte by byte. For some procs
-//! only hands that are op count. A bot that is no hand itself has rank 0, so a lone bot needs no record
-//! ([`bots_take_turns`]):
+//! how many hands have a nick that comes before its own: nicks are compared in lower case by the server's casemapping,
+//! byte by byte. For some procs only hands that are op count. A bot that is no hand itself has rank 0, so a lone bot
+//! needs no record ([`bots_take_turns`]):
 //!
 //! | Procs | Hands that count | At rank 0 | At rank 1 and above |
 //! |---|---|---|---|

@@ -8,11 +8,11 @@ ghost use Rattle.eggprocs.specs.TurnLaws.{RanksRise, RanksDiffer, SomeoneIsFirst
 ghost use Rattle.eggprocs.specs.TurnLaws.{OneActs, ActsAtOnce, OnlyLooks, LeavesItToTheFirst, LeavesOthersBansToTheFirst};
 ghost use Rattle.eggprocs.specs.TurnLaws.{WantsSomebody, WantsTheSamePerson, WantsItUndone, WantsOp, is_own_line, ReadsModes, ReadsKicks};
 
-/// A law; calling it does nothing. Two bots may see the same of a channel: equal records, and the same members with the
-/// same marks and addresses, in whatever order. If both are hands and their nicks differ, their ranks differ too, and the
-/// one whose nick comes first has the lower rank. So no two bots act at once, and no two look at one second. This holds
-/// whether only operators count or all do. Of two such bots, one does nothing but wait, whatever both answer to a call
-/// that all bots on a channel get.
+/// A law; calling it does nothing. Two bots may see the same of a channel: equal records, the same casemapping of the
+/// server, and the same members with the same marks and addresses, in whatever order. If both are hands and their nicks
+/// differ by that casemapping, their ranks differ too, and the one whose nick comes first has the lower rank. So no two
+/// bots act at once, and no two look at one second. This holds whether only operators count or all do. Of two such bots,
+/// one does nothing but wait, whatever both answer to a call that all bots on a channel get.
 pub fn one_bot_acts()
     ensures rise { (needs_op : Bool) → RanksRise needs_op }
     ensures differ { (needs_op : Bool) → RanksDiffer needs_op }

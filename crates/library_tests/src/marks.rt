@@ -1,6 +1,7 @@
 // Info texts and sticky bans: `userfile`.
 use crate::users::{EIGHTY_ONE, adding, answer};
 use bytetext::Text;
+use rfccase::Casemapping;
 use std::alloc::Global;
 use userfile::{Change, Userfile};
 
@@ -89,7 +90,7 @@ fn three_bans(alloc: Global) -> Userfile {
 
 // Returns the mask of the ban that comes back, or the empty text if none does.
 fn back<'a>(bans: &'a Userfile, channel: &[u8], mask: &[u8], now: u64) -> &'a [u8] {
-    match bans.sticky_ban(channel, mask, now) {
+    match bans.sticky_ban(Casemapping::Rfc1459, channel, mask, now) {
         Some(ban) => ban.mask.as_bytes(),
         None => b"",
     }

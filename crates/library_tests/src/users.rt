@@ -1,6 +1,7 @@
 // Users, bans and changes: `userfile`.
 use bytetext::{Text, TryCopy};
 use flagexpr::Flags;
+use rfccase::Casemapping;
 use std::alloc::Global;
 use userfile::{
     Ban, Change, ChangeError, ChannelEntries, ChannelFlags, Hostmask, Hostmasks, User, Userfile,
@@ -118,11 +119,11 @@ fn is_full(userfile: &Userfile) -> bool {
         && userfile.ban_at(0).is_some_and(is_the_ban)
         && userfile.user_at(1).is_none()
         && userfile.ban_at(1).is_none()
-        && userfile.handle_of(b"x!y@a.NET") == b"Alice".as_slice()
+        && userfile.handle_of(Casemapping::Rfc1459, b"x!y@a.NET") == b"Alice".as_slice()
         && userfile.flags_of(b"alice", b"#EGG").chan == letters(b"v")
         && userfile.info_of(b"aLICE") == b"likes  tea".as_slice()
         && userfile
-            .ban_for(b"#Egg", b"x!y@bad.net", 6)
+            .ban_for(Casemapping::Rfc1459, b"#Egg", b"x!y@bad.net", 6)
             .is_some_and(is_the_ban)
 }
 

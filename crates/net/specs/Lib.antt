@@ -7,4 +7,5 @@ pub mod Lookups
 pub mod Addresses
 pub mod Turns
 pub mod LogForms
+pub mod Tails
 pub mod Logs

@@ -1,6 +1,7 @@
 -- The log of a process: what waits to be written.
 use Rattle.std.specs.Prelude.{◌≡◌, ℕ, ◌+◌, ◌-◌, ◌^◌, ◌≤◌, ◌<◌, ◌⊎◌, ◌==◌, if◌then◌else◌, min, nat_le, List, [], ◌++◌, length, take, drop, Option, IfSome, codes, decimal}
 use Rattle.net.specs.LogForms.{line_in}
+use Rattle.net.specs.Tails.{Tail, no_tail, tail_after}
 use Rattle.net.specs.declared.log_form.LogForm.{LogForm}
 use Rattle.net.specs.declared.log_form.LogForm.TheVariants.{Text}
 use Rattle.net.specs.declared.log_lines.TheConstants.{MAX_LOG_LINE}
@@ -13,10 +14,11 @@ pub record Logged : Type 0 where
   pub waiting : List ℕ  -- the bytes of the lines that wait
   pub dropped : ℕ  -- how many lines did not fit, since the last one that was kept
   pub unmade : ℕ  -- for how many no memory was left, since the last one that was kept
+  pub tail : Tail  -- the last lines that were kept
 
 -- a log of no line yet
 abbrev pub nothing_yet : Logged
-nothing_yet = record { form = Text; waiting = []; dropped = 0; unmade = 0 }
+nothing_yet = record { form = Text; waiting = []; dropped = 0; unmade = 0; tail = no_tail }
 
 -- the line that tells that so many lines were dropped, and why, if some were
 abbrev pub gap_line : LogForm → List ℕ → ℕ → ℕ → List ℕ
@@ -48,9 +50,9 @@ pub record AreLines (form : LogForm) (dropped unmade now : ℕ) (shown : Option 
   pub is_line : IsLineOf form now happened line
   pub all : lines ≡ gap_lines form dropped unmade now ++ line
 
--- the lines wait after all that waited
+-- the lines wait after all that waited, and are the last
 abbrev pub with_lines : List ℕ → Logged → Logged
-with_lines lines log = record { form = log.form; waiting = log.waiting ++ lines; dropped = 0; unmade = 0 }
+with_lines lines log = record { form = log.form; waiting = log.waiting ++ lines; dropped = 0; unmade = 0; tail = tail_after lines log.tail }
 
 -- one more; the count stays at the greatest u64
 abbrev pub one_more : ℕ → ℕ
@@ -88,4 +90,4 @@ EndsWith all end = (count : ℕ) × (end ≡ drop count all)
 
 -- what is queued or written leaves the rest of a log as it was
 abbrev pub SameCounts : Logged → Logged → Type 0
-SameCounts old new = (new.form ≡ old.form) × (new.dropped ≡ old.dropped) × (new.unmade ≡ old.unmade)
+SameCounts old new = (new.form ≡ old.form) × (new.dropped ≡ old.dropped) × (new.unmade ≡ old.unmade) × (new.tail ≡ old.tail)

@@ -92,7 +92,7 @@
 //! A log can go to a file instead ([`Log::open_file`]). A write to it that fails, as on a full disk, leaves what waits, and
 //! the next [`flush`](Log::flush) tries it again. After the file was renamed, [`Log::reopen`] opens a new one at its path.
 //! A line is text, or a JSON object ([`LogForm`]). In both, control characters are escaped
-//! ([`law_of_shown_lines`]).
+//! ([`law_of_shown_lines`]). A log that is asked to ([`Log::keep_tail`]) keeps its last lines in memory.
 #![tactic(auto)]
 
 mod address;
@@ -104,6 +104,7 @@ mod log_file;
 mod log_form;
 mod log_lines;
 mod log_piece;
+mod log_tail;
 mod logging;
 mod lookup;
 mod redial;
@@ -120,6 +121,7 @@ pub use crate::dialling::{DialTokens, Dialled, Dialling, law_of_turns};
 pub use crate::door::DoorFault;
 pub use crate::log_form::{LogForm, law_of_shown_lines};
 pub use crate::log_lines::MAX_LOG_LINE;
+pub use crate::log_tail::MAX_LOG_TAIL;
 pub use crate::logging::{Log, MAX_LOG_WAITING};
 pub use crate::redial::{FIRST_WAIT, Redial};
 pub use crate::socket::Socket;

@@ -6,6 +6,7 @@ use crate::log_file::LogFile;
 use crate::log_form::LogForm;
 use crate::log_lines::{Gap, lines_of};
 use crate::log_piece::{write_out, write_to_file};
+use crate::log_tail::LogTail;
 use crate::standard_output::StandardOutput;
 use bytetext::NoMemory;
 use std::alloc::Global;
@@ -39,6 +40,8 @@ pub struct Log {
     waiting: Vec<u8>,
     // How many lines were dropped since the last one that was kept.
     gap: Gap,
+    // The last lines that were kept.
+    tail: LogTail,
     ghost fits: { vec_len waiting ≤ MAX_LOG_WAITING },
 }
 
@@ -66,6 +69,7 @@ impl Drop for Log {
             form: _,
             waiting: _,
             gap: _,
+            tail: _,
         } = self;
     }
 }
@@ -75,13 +79,14 @@ impl Model for Log {
 
     ghost Value = { Logged };
 
-    ghost view = { λ log. record { form = log.form; waiting = log.waiting.items; dropped = log.gap.dropped; unmade = log.gap.unmade } };
+    ghost view = { λ log. record { form = log.form; waiting = log.waiting.items; dropped = log.gap.dropped; unmade = log.gap.unmade; tail = log.tail } };
 }
 
 impl Log {
-    ghost use Rattle.std.specs.Prelude.{◌≡◌, ◌≤◌, ◌==◌, ◌⊎◌, [], length, IfOk};
+    ghost use Rattle.std.specs.Prelude.{◌≡◌, ◌≤◌, ◌==◌, ◌⊎◌, [], length, IfOk, OnErr, OnOk};
     ghost use Rattle.net.specs.Connections.{Grows};
     ghost use Rattle.net.specs.Logs.{EndsWith, Notes, SameCounts, nothing_yet, queued, without_memory};
+    ghost use Rattle.net.specs.Tails.{empty_tail};
     ghost use Rattle.net.specs.declared.logging.TheConstants.{MAX_LOG_WAITING};
 
     /// Creates a log of no line yet, and has the system watch standard output. The system can't watch a regular file,
@@ -127,6 +132,7 @@ impl Log {
                 dropped: 0,
                 unmade: 0,
             },
+            tail: LogTail::none(alloc),
         }
     }
 
@@ -161,6 +167,7 @@ impl Log {
         if lines.len() > MAX_LOG_WAITING - self.waiting.len() {
             self.gap.dropped = self.gap.dropped.saturating_add(1);
         } else if self.waiting.extend_from_slice(lines).is_ok() {
+            self.tail.keep(lines);
             self.gap = Gap {
                 dropped: 0,
                 unmade: 0,
@@ -206,6 +213,38 @@ impl Log {
             LogOutput::Standard(_) => Ok(()),
             LogOutput::File(log_file) => log_file.reopen(rt),
         }
+    }
+
+    /// From now on, keeps the last lines in memory too, for a reader of this process ([`latest_lines`](Log::latest_lines)).
+    /// The lines that were kept before are forgotten.
+    ///
+    /// # Errors
+    /// `NoMemory` if an allocation fails. The log is then as before.
+    pub fn keep_tail(&mut self) -> Result<(), NoMemory>
+        ensures kept { OnOk result (self.new ≡ record self.old { tail = empty_tail }) }
+        ensures same { OnErr result (self.new ≡ self.old) }
+    {
+        self.tail = LogTail::empty(self.alloc)?;
+        Ok(())
+    }
+
+    /// Returns the latest lines that were queued since [`keep_tail`](Log::keep_tail), each with its LF: at most
+    /// [`MAX_LOG_TAIL`](crate::MAX_LOG_TAIL) bytes. [`earlier_lines`](Log::earlier_lines) are those before them.
+    pub fn latest_lines(&self) -> &[u8]
+        ensures lines { result.now ≡ self.now.tail.latest }
+        ensures bound { length result.now ≤ self.now.tail.most }
+    {
+        self.tail.latest()
+    }
+
+    /// Returns the lines just before [`latest_lines`](Log::latest_lines): at most [`MAX_LOG_TAIL`](crate::MAX_LOG_TAIL)
+    /// bytes. If there are none, fewer than `MAX_LOG_TAIL` bytes of lines were queued since
+    /// [`keep_tail`](Log::keep_tail).
+    pub fn earlier_lines(&self) -> &[u8]
+        ensures lines { result.now ≡ self.now.tail.earlier }
+        ensures bound { length result.now ≤ self.now.tail.most }
+    {
+        self.tail.earlier()
     }
 
     /// Returns how many bytes wait, at most [`MAX_LOG_WAITING`].

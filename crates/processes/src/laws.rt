@@ -63,7 +63,8 @@ pub fn laws_of_processes<P: Promise, D: Disk>()
         → (i j one other : ℕ) (s t : Step) (a b : Calling)
         → slice_get deeds i ≡ Some (Made one s) → slice_get deeds j ≡ Some (Made other t) → s.names ≡ t.names
         → calling_of s ≡ Some a → calling_of t ≡ Some b → IsAlike a b → a.calls ≡ b.calls }
-    // So do bots that are alike except for their channels, if the promised codes ignore the channels.
+    // So do bots that are alike except for their channels, on servers that compare names alike, if the promised codes
+    // ignore the channels.
     ensures same_calls_ignoring_channels { IgnoresChannels P.promised → (count : ℕ) (w : Net) (deeds : List Deed)
         → IsFirst count w → Run P.promised w deeds
         → (i j one other : ℕ) (s t : Step) (a b : Calling)

@@ -1,5 +1,6 @@
 -- What an event of a message by itself comes to.
 use Rattle.std.proofs.Common.{◌≡◌, ◌∙◌, ℕ, List, [], ◌∷◌, Some, None, drop, Bool, ap, slice_get}
+use Rattle.rfccase.specs.declared.casemappings.Casemapping.{Casemapping}
 use Rattle.userfile.specs.declared.user.User.{User}
 use Rattle.userfile.specs.declared.flags.PersonFlags.{PersonFlags}
 use Rattle.chanstate.specs.declared.event.IrcEvent.{IrcEvent}
@@ -19,11 +20,11 @@ first_and_rest [] rest b first next = cc
 first_and_rest (x ∷ xs) rest b first next = let here : b ≡ x = cc in let after : rest ≡ xs = next in cc
 
 -- the binds that were found by what the event was seen as are those that it calls
-pub called-seen : (users : List User) (binds found : List Bind) (event : IrcEvent) (flags : PersonFlags) (kind : BindKind) (subject : List ℕ)
-    → flags ≡ (person_of users event).flags → kind ≡ kind_of event.kind → subject ≡ event.subject
+pub called-seen : (mapping : Casemapping) (users : List User) (binds found : List Bind) (event : IrcEvent) (flags : PersonFlags) (kind : BindKind) (subject : List ℕ)
+    → flags ≡ (person_of mapping users event).flags → kind ≡ kind_of event.kind → subject ≡ event.subject
     → found ≡ called (record { kind = kind; subject = subject; minute = None; global = flags.global; channel = flags.chan; bot = flags.bot }) binds
-    → found ≡ called (occurrence_of event (person_of users event)) binds
-called-seen users binds found event flags kind subject same_flags same_kind same_subject is =
+    → found ≡ called (occurrence_of event (person_of mapping users event)) binds
+called-seen mapping users binds found event flags kind subject same_flags same_kind same_subject is =
     is
     ∙ ap (λ (k : BindKind). called (record { kind = k; subject = subject; minute = None; global = flags.global; channel = flags.chan; bot = flags.bot }) binds) same_kind
     ∙ ap (λ (s : List ℕ). called (record { kind = kind_of event.kind; subject = s; minute = None; global = flags.global; channel = flags.chan; bot = flags.bot }) binds)
@@ -33,14 +34,14 @@ called-seen users binds found event flags kind subject same_flags same_kind same
     same_flags
 
 -- and what they come to is what the event comes to
-pub told_heard-found : (code_of : List ℕ → Call → Code) (names : List (List ℕ)) (users : List User) (binds found : List Bind)
+pub told_heard-found : (code_of : List ℕ → Call → Code) (names : List (List ℕ)) (mapping : Casemapping) (users : List User) (binds found : List Bind)
     (exclusive : Bool) (event : IrcEvent) (handle : List ℕ) (call : Call)
-    → handle ≡ (person_of users event).handle → call ≡ call_by handle event
-    → found ≡ called (occurrence_of event (person_of users event)) binds
-    → told_all code_of names call found ≡ told_heard (setting_of code_of names users binds exclusive) event
-told_heard-found code_of names users binds found exclusive event handle call same_handle same_call is =
+    → handle ≡ (person_of mapping users event).handle → call ≡ call_by handle event
+    → found ≡ called (occurrence_of event (person_of mapping users event)) binds
+    → told_all code_of names call found ≡ told_heard (setting_of code_of names mapping users binds exclusive) event
+told_heard-found code_of names mapping users binds found exclusive event handle call same_handle same_call is =
     ap (told_all code_of names call) is
-    ∙ ap (λ (c : Call). told_all code_of names c (called (occurrence_of event (person_of users event)) binds))
+    ∙ ap (λ (c : Call). told_all code_of names c (called (occurrence_of event (person_of mapping users event)) binds))
     (same_call ∙ ap (λ (h : List ℕ). call_by h event) same_handle)
 
 -- what is seen and called alike comes to the same

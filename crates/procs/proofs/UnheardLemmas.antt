@@ -80,7 +80,7 @@ called-silent event kind is (b ∷ binds) none =
 module _ (setting : Setting) (none : hear_messages setting.binds ≡ false) where
   heard-silent : (event : IrcEvent) → told_heard setting event ≡ []
   heard-silent event =
-      let person = person_of setting.users event in
+      let person = person_of setting.mapping setting.users event in
       ap (λ (bs : List Bind). told_all setting.code_of setting.names (call_by person.handle event) bs)
       (called-silent (occurrence_of event person) event.kind refl setting.binds none)
 

@@ -5,6 +5,7 @@
 -- the first word of a text calls nothing if a proc was called for the whole of that text.
 use Rattle.std.specs.Prelude.{ℕ, None, Bool, true, false, not, ◌&&◌, ◌||◌, if◌then◌else◌, List, [], ◌∷◌, ◌++◌, length, ◌==◌}
 use Rattle.std.specs.List.{list_any}
+use Rattle.rfccase.specs.declared.casemappings.Casemapping.{Casemapping}
 use Rattle.userfile.specs.declared.user.User.{User}
 use Rattle.chanstate.specs.declared.event.IrcEvent.{IrcEvent}
 use Rattle.procs.specs.declared.call.Call.{Call}
@@ -28,6 +29,8 @@ pub record Setting : Type 0 where
   pub code_of : List ℕ → Call → Code
   -- the names of the store's procs
   pub names : List (List ℕ)
+  -- the casemapping of the bot's server, by which hostmasks match
+  pub mapping : Casemapping
   pub users : List User
   pub binds : List Bind
   pub exclusive : Bool
@@ -52,7 +55,7 @@ told_by_person setting event person =
     told_all setting.code_of setting.names (call_by person.handle event) (called (occurrence_of event person) setting.binds)
 
 abbrev pub told_heard : Setting → IrcEvent → List Telling
-told_heard setting event = told_by_person setting event (person_of setting.users event)
+told_heard setting event = told_by_person setting event (person_of setting.mapping setting.users event)
 
 -- the results of the binds that this event calls, with this call
 abbrev pub told_seen : Setting → Occurrence → Call → List Telling

@@ -1,9 +1,11 @@
 -- What binds and procs see of an event of a message.
 use Rattle.std.specs.Prelude.{ℕ, nat_le, List, [], ◌∷◌, ◌++◌, length, slice_get, Option, Some, None, unwrap_or, Bool, true, false, if◌then◌else◌}
 use Rattle.std.specs.List.{insert}
+use Rattle.rfccase.specs.declared.casemappings.Casemapping.{Casemapping}
 use Rattle.userfile.specs.declared.user.User.{User}
 use Rattle.userfile.specs.declared.flags.PersonFlags.{PersonFlags}
 use Rattle.userfile.specs.Persons.{handle_of, flags_of}
+use Rattle.chanstate.specs.Views.{mapping_of}
 use Rattle.chanstate.specs.declared.event.IrcEvent.{IrcEvent}
 use Rattle.chanstate.specs.declared.event.EventKind.{EventKind}
 use Rattle.chanstate.specs.declared.event.EventKind.TheVariants.{Raw as raw_event, Msg as msg_event, Msgm as msgm_event, Notc as notc_event}
@@ -14,6 +16,7 @@ use Rattle.procs.specs.declared.call.Call.{Call}
 use Rattle.procs.specs.declared.bind_kind.BindKind.{BindKind}
 use Rattle.procs.specs.declared.bind_kind.BindKind.TheVariants.{Raw, Msg, Msgm, Notc, Pub, Pubm, Join, Part, Sign, Kick, Nick, Mode, Topc}
 use Rattle.procs.specs.Kinds.{call_kind_of}
+use Rattle.procs.specs.Seen.{Sight}
 
 -- the kind under which binds know an event
 abbrev pub kind_of : EventKind → BindKind
@@ -75,12 +78,21 @@ person_by users handle channel = record { handle = handle; flags = flags_on user
 abbrev pub nobody : Person
 nobody = record { handle = []; flags = record { global = 0; chan = 0; bot = 0 } }
 
-abbrev pub person_if : Bool → List User → IrcEvent → Person
-person_if false users event = nobody
-person_if true users event = person_by users (handle_of users (who_of event.arguments)) event.channel
+-- the hostmask that decides who somebody is matches by the casemapping of the server
+abbrev pub person_if : Bool → Casemapping → List User → IrcEvent → Person
+person_if false mapping users event = nobody
+person_if true mapping users event = person_by users (handle_of mapping users (who_of event.arguments)) event.channel
 
-abbrev pub person_of : List User → IrcEvent → Person
-person_of users event = person_if (is_personal event.kind) users event
+abbrev pub person_of : Casemapping → List User → IrcEvent → Person
+person_of mapping users event = person_if (is_personal event.kind) mapping users event
+
+-- the people that a bot knows: its users, and the casemapping by which its server compares names
+pub record KnownPeople : Type 0 where
+  pub mapping : Casemapping
+  pub users : List User
+
+abbrev pub people_in : Sight → KnownPeople
+people_in sight = record { mapping = mapping_of sight.channels; users = sight.records.users }
 
 -- the arguments of a call
 abbrev pub arguments_if : Bool → List ℕ → List (List ℕ) → List (List ℕ)

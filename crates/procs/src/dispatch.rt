@@ -53,6 +53,7 @@ impl Dispatch {
     ghost use Rattle.procs.specs.declared.trigger.Trigger.TheVariants.{Heard};
     ghost use Rattle.procs.specs.Dispatching.{told, told_heard, told_seen, told_due, takes_memory};
     ghost use Rattle.procs.specs.Dispatched.{setting_in};
+    ghost use Rattle.procs.specs.Heard.{people_in};
 
     /// Creates a dispatch without calls and without left-out binds. Does not allocate.
     pub fn new(alloc: Global) -> Dispatch
@@ -247,7 +248,7 @@ impl Dispatch {
         people: &mut People<'_>,
         event: &IrcEvent,
     ) -> Result<(), NoMemory>
-        requires { people.old ≡ scene.now.view.now.sight.records.users }
+        requires { people.old ≡ people_in scene.now.view.now.sight }
         ensures ok { OnOk result (Adds P.promised scene.now.view.now self.old
             (told_heard (setting_in P.promised scene.now) event.now) self.new) }
         ensures err { OnErr result (AddsFront P.promised scene.now.view.now self.old
@@ -294,7 +295,7 @@ impl Dispatch {
         occasion: &Trigger,
         taken: bool,
     ) -> Result<(), NoMemory>
-        requires { people.old ≡ scene.now.view.now.sight.records.users }
+        requires { people.old ≡ people_in scene.now.view.now.sight }
         ensures ok { OnOk result (Adds P.promised scene.now.view.now self.old
             (told (setting_in P.promised scene.now) taken occasion.now) self.new) }
         ensures err { OnErr result (AddsFront P.promised scene.now.view.now self.old
@@ -351,7 +352,7 @@ pub fn call_procs<P: Promise, B: Run>(
     ensures memory { OnErr result (list_any (takes_memory (setting_in P.promised scene.now)) occasions.now ≡ true) }
 {
     let mut made = Dispatch::new(alloc);
-    let mut people = People::new(scene.view.userfile());
+    let mut people = People::new(scene.view);
     let mut next = Next::Go { taken: false };
     let mut rest = occasions;
     while let Some((occasion, behind)) = rest.split_first() {

@@ -6,9 +6,11 @@ ghost use Rattle.std.specs.Prelude.{◌≡◌, [], IfOk};
 ghost use Rattle.procs.specs.Heard.{text_at, who_of};
 
 use crate::heard::is_personal;
+use crate::view::View;
 use bytetext::{NoMemory, Text};
 use chanstate::IrcEvent;
 use flagexpr::Flags;
+use rfccase::Casemapping;
 use std::alloc::Global;
 use std::marker::Model;
 use userfile::{PersonFlags, Userfile};
@@ -21,9 +23,11 @@ pub(crate) struct Person<'a> {
     pub(crate) flags: PersonFlags,
 }
 
-// The users of a scene, and the person who was looked up last. Contracts see the users.
+// The users of a scene, and the person who was looked up last. Contracts see the users and the casemapping by which
+// their hostmasks match.
 #[derive(Drop)]
 pub(crate) struct People<'a> {
+    mapping: Casemapping,
     userfile: &'a Userfile,
     last: Option<Known<'a>>,
 }
@@ -36,28 +40,29 @@ struct Known<'a> {
 }
 
 impl<'a> Model for People<'a> {
-    ghost use Rattle.std.specs.Prelude.{◌≡◌, List, IfSome};
-    ghost use Rattle.userfile.specs.declared.user.User.{User};
+    ghost use Rattle.std.specs.Prelude.{◌≡◌, IfSome};
     ghost use Rattle.userfile.specs.Persons.{handle_of};
+    ghost use Rattle.procs.specs.Heard.{KnownPeople};
 
-    ghost Value = { List User };
+    ghost Value = { KnownPeople };
 
-    ghost view = { λ p. p.userfile.now.users };
+    ghost view = { λ p. record { mapping = p.mapping; users = p.userfile.now.users } };
 
-    ghost invariant = { λ p. IfSome p.last (λ known. known.handle.now ≡ handle_of p.userfile.now.users known.who) };
+    ghost invariant = { λ p. IfSome p.last (λ known. known.handle.now ≡ handle_of p.mapping p.userfile.now.users known.who) };
 }
 
 impl<'a> People<'a> {
     ghost use Rattle.std.specs.Prelude.{◌≡◌, true, IfOk, OnErr};
     ghost use Rattle.std.specs.Option.{option_copied};
-    ghost use Rattle.procs.specs.Heard.{is_personal, flags_on, person_of};
+    ghost use Rattle.procs.specs.Heard.{is_personal, flags_on, person_of, people_in};
 
-    // Starts with these users and nobody looked up. Does not allocate.
-    pub(crate) fn new(userfile: &'a Userfile) -> People<'a>
-        ensures { result ≡ userfile.now.users }
+    // Starts with the people of a bot that shows this `view`, and nobody looked up. Does not allocate.
+    pub(crate) fn new(view: &'a View<'_>) -> People<'a>
+        ensures { result ≡ people_in view.now.sight }
     {
         People {
-            userfile,
+            mapping: view.channels().casemapping(),
+            userfile: view.userfile(),
             last: None,
         }
     }
@@ -68,8 +73,8 @@ impl<'a> People<'a> {
         alloc: Global,
         event: &IrcEvent,
     ) -> Result<Person<'a>, NoMemory>
-        ensures handle { IfOk result (λ person. person.handle.now ≡ (person_of self.old event.now).handle) }
-        ensures flags { IfOk result (λ person. person.flags ≡ (person_of self.old event.now).flags) }
+        ensures handle { IfOk result (λ person. person.handle.now ≡ (person_of self.old.mapping self.old.users event.now).handle) }
+        ensures flags { IfOk result (λ person. person.flags ≡ (person_of self.old.mapping self.old.users event.now).flags) }
         ensures users { self.new ≡ self.old }
         ensures memory { OnErr result (is_personal event.now.kind ≡ true) }
     {
@@ -85,7 +90,7 @@ impl<'a> People<'a> {
                 Ok(Person { handle, flags })
             }
             Some(_) | None => {
-                let handle = self.userfile.handle_of(who.as_bytes());
+                let handle = self.userfile.handle_of(self.mapping, who.as_bytes());
                 self.last = Some(Known { who, handle });
                 let flags = self.flags_on(handle, channel);
                 Ok(Person { handle, flags })
@@ -95,7 +100,7 @@ impl<'a> People<'a> {
 
     // Returns the flags of a handle for an event on this channel, or on none.
     fn flags_on(&self, handle: &[u8], channel: Option<&[u8]>) -> PersonFlags
-        ensures { result ≡ flags_on self.now handle.now (option_copied channel.entry) }
+        ensures { result ≡ flags_on self.now.users handle.now (option_copied channel.entry) }
     {
         match channel {
             Some(channel) => self.userfile.flags_of(handle, channel),

@@ -1,8 +1,9 @@
 // The lower case of a byte and of a text.
 ghost use Rattle.std.specs.Prelude.{◌≡◌, ◌<◌, ◌↔◌, IsTrue, MatchResult, length, slice_index};
-ghost use Rattle.rfccase.specs.Casemapping.{low, folded, IsSame};
+ghost use Rattle.rfccase.specs.Casemapping.{low, folded, IsSame, low_by, folded_by, IsSameBy};
 ghost use Rattle.rfccase.specs.Table.{lower_cases};
 
+use crate::casemappings::Casemapping;
 use bytetext::{NoMemory, bytes_of};
 use std::alloc::Global;
 
@@ -51,5 +52,53 @@ pub fn fold_text(alloc: Global, text: &[u8]) -> Result<Vec<u8>, NoMemory>
 {
     let mut lower = bytes_of(alloc, text)?;
     fold_slice(&mut lower);
+    Ok(lower)
+}
+
+/// The lower case of a byte by a server's casemapping.
+pub fn fold_by(mapping: Casemapping, byte: u8) -> u8
+    ensures { result ≡ low_by mapping byte }
+{
+    match byte {
+        b'A'..=b'Z' => byte + 32,
+        b'['..=b']' if mapping.folds_brackets() => byte + 32,
+        b'~' if mapping.folds_tilde() => b'^',
+        _ => byte,
+    }
+}
+
+/// Whether two texts are the same by a server's casemapping.
+pub fn same_by(mapping: Casemapping, a: &[u8], b: &[u8]) -> bool
+    ensures { IsTrue result ↔ IsSameBy mapping a.now b.now }
+{
+    if a.len() != b.len() {
+        return false;
+    }
+    for (i, byte) in a.iter().enumerate() {
+        if fold_by(mapping, *byte) != fold_by(mapping, b[i]) {
+            return false;
+        }
+    }
+    true
+}
+
+/// Puts the lower case of each byte by a server's casemapping in its place.
+pub fn fold_slice_by(mapping: Casemapping, text: &mut [u8])
+    ensures { text.new ≡ folded_by mapping text.old }
+{
+    for byte in text.iter_mut() {
+        *byte = fold_by(mapping, *byte);
+    }
+}
+
+/// The lower case of a text by a server's casemapping.
+///
+/// # Errors
+/// `NoMemory` where room for the copy is refused: never where the text is empty.
+pub fn fold_text_by(alloc: Global, mapping: Casemapping, text: &[u8]) -> Result<Vec<u8>, NoMemory>
+    ensures { MatchResult result (λ lower. lower.items ≡ folded_by mapping text.now) (λ _. 0 < length text.now) }
+{
+    let mut lower = bytes_of(alloc, text)?;
+    fold_slice_by(mapping, &mut lower);
     Ok(lower)
 }

@@ -6,9 +6,10 @@ ghost use Rattle.std.specs.Cmp.Lexicographic.{pointwise, slice_cmp, nat_list_eq_
 ghost use Rattle.std.specs.Cmp.{partial_equiv_from_equiv};
 ghost use Rattle.std.specs.Cmp.Rules.{hashing};
 ghost use Rattle.std.proofs.Common.{rules};
-ghost use Rattle.rfccase.specs.Casemapping.{folded, IsSame};
+ghost use Rattle.rfccase.specs.Casemapping.{folded, IsSame, folded_by, IsSameBy};
 
-use crate::folds::fold_text;
+use crate::casemappings::Casemapping;
+use crate::folds::{fold_text, fold_text_by};
 use bytetext::{NoMemory, TryCopy};
 use std::alloc::Global;
 use std::cmp::Ordering;
@@ -41,6 +42,17 @@ impl FoldKey {
         ensures { MatchResult result (λ key. key ≡ folded text.now) (λ _. 0 < length text.now) }
     {
         let lower = fold_text(alloc, text)?;
+        Ok(FoldKey { lower })
+    }
+
+    /// The key of this text by a server's casemapping.
+    ///
+    /// # Errors
+    /// `NoMemory` where room for the key is refused: never where the text is empty.
+    pub fn by(alloc: Global, mapping: Casemapping, text: &[u8]) -> Result<FoldKey, NoMemory>
+        ensures { MatchResult result (λ key. key ≡ folded_by mapping text.now) (λ _. 0 < length text.now) }
+    {
+        let lower = fold_text_by(alloc, mapping, text)?;
         Ok(FoldKey { lower })
     }
 

@@ -14,12 +14,16 @@
 //! ```
 #![tactic(auto)]
 
+mod casemappings;
 mod channels;
 mod folds;
 mod keys;
 mod shorts;
 
+pub use crate::casemappings::Casemapping;
 pub use crate::channels::{MAX_CHANNEL_NAME, is_channel_name};
-pub use crate::folds::{fold, fold_slice, fold_text, same};
+pub use crate::folds::{
+    fold, fold_by, fold_slice, fold_slice_by, fold_text, fold_text_by, same, same_by,
+};
 pub use crate::keys::FoldKey;
 pub use crate::shorts::ShortFold;

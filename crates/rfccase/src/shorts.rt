@@ -1,8 +1,9 @@
 // The lower case of a short text, on the stack.
 ghost use Rattle.std.specs.Prelude.{◌≡◌, ◌<◌, MatchOption, length};
-ghost use Rattle.rfccase.specs.Casemapping.{folded};
+ghost use Rattle.rfccase.specs.Casemapping.{folded, folded_by};
 
-use crate::folds::fold_slice;
+use crate::casemappings::Casemapping;
+use crate::folds::{fold_slice, fold_slice_by};
 use std::marker::Model;
 
 /// The lower case of a text of at most `N` bytes, held on the stack: for a look-up among folded keys in a call that
@@ -36,6 +37,21 @@ impl<const N: usize> ShortFold<N> {
         let room = &mut bytes[..len];
         room.copy_from_slice(text);
         fold_slice(room);
+        Some(ShortFold { bytes, len })
+    }
+
+    /// Creates the lower case of `text` by a server's casemapping, or returns `None` if it has more than `N` bytes.
+    pub fn by(mapping: Casemapping, text: &[u8]) -> Option<ShortFold<N>>
+        ensures { MatchOption result (N < length text.now) (λ lower. lower ≡ folded_by mapping text.now) }
+    {
+        let len = text.len();
+        if N < len {
+            return None;
+        }
+        let mut bytes = [0; N];
+        let room = &mut bytes[..len];
+        room.copy_from_slice(text);
+        fold_slice_by(mapping, room);
         Some(ShortFold { bytes, len })
     }
 

@@ -54,7 +54,8 @@ pub fn laws_of_worlds<P: Promise>()
         → slice_get (steps_in folders world) i ≡ Some (Made one s)
         → slice_get (steps_in folders world) j ≡ Some (Made other t) → s.names ≡ t.names
         → calling_of s ≡ Some a → calling_of t ≡ Some b → IsAlike a b → a.calls ≡ b.calls }
-    // So do bots that are alike except for their channels, if the promised codes ignore the channels.
+    // So do bots that are alike except for their channels, on servers that compare names alike, if the promised codes
+    // ignore the channels.
     ensures same_calls_ignoring_channels { IgnoresChannels P.promised
         → (folders : ℕ → Folder) (count : ℕ) (first : Net) (world : List Happening)
         → IsFirst count first → IsWorld P.promised folders count first world

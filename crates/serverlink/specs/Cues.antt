@@ -1,6 +1,7 @@
 -- What a message means for a bot's registration and its channels.
 use Rattle.std.specs.Prelude.{ℕ, ◌==◌, ◌&&◌, ◌||◌, Bool, false, List, [], length, slice_get, slice_index, unwrap_or, if◌then◌else◌, codes, Option, None, Some}
-use Rattle.rfccase.specs.Casemapping.{is_same}
+use Rattle.rfccase.specs.declared.casemappings.Casemapping.{Casemapping}
+use Rattle.rfccase.specs.Casemapping.{is_same_by}
 use Rattle.rfccase.specs.Channels.{is_channel_name}
 use Rattle.ircline.specs.declared.line.Line.{Line}
 use Rattle.ircline.specs.declared.line.Line.TheVariants.{Message as a_message, Bad as a_bad_line}
@@ -16,17 +17,17 @@ use Rattle.serverlink.specs.declared.cue.Cue.TheVariants.{Welcomed, Renamed, Joi
 abbrev pub param : Message → ℕ → List ℕ
 param message place = unwrap_or (slice_get message.params place) []
 
--- the source is a person with this nick
-abbrev pub is_from : Source → List ℕ → Bool
-is_from Nobody own = false
-is_from (Server name) own = false
-is_from (Person nick user host) own = is_same nick own
+-- the source is a person with this nick, by the casemapping of the server
+abbrev pub is_from : Casemapping → Source → List ℕ → Bool
+is_from mapping Nobody own = false
+is_from mapping (Server name) own = false
+is_from mapping (Person nick user host) own = is_same_by mapping nick own
 
-abbrev pub is_by : Message → List ℕ → Bool
-is_by message own = is_from (source_of message.prefix) own
+abbrev pub is_by : Casemapping → Message → List ℕ → Bool
+is_by mapping message own = is_from mapping (source_of message.prefix) own
 
-abbrev pub is_to : Message → List ℕ → Bool
-is_to message own = is_same (param message 1) own
+abbrev pub is_to : Casemapping → Message → List ℕ → Bool
+is_to mapping message own = is_same_by mapping (param message 1) own
 
 -- a number from 400 to 599
 abbrev pub is_numeric_fault : List ℕ → Bool
@@ -69,16 +70,16 @@ nick_by Refused message = None
 nick_by Supports message = None
 nick_by Nothing message = None
 
-abbrev pub cue_of : Message → List ℕ → Cue
-cue_of message own =
-    if is_command (codes "JOIN") message.command && is_by message own then Joined
-    else if is_command (codes "PART") message.command && is_by message own then Parted
-    else if is_command (codes "NICK") message.command && is_by message own then Renamed
-    else if is_command (codes "KICK") message.command && is_to message own then Kicked
+abbrev pub cue_of : Casemapping → Message → List ℕ → Cue
+cue_of mapping message own =
+    if is_command (codes "JOIN") message.command && is_by mapping message own then Joined
+    else if is_command (codes "PART") message.command && is_by mapping message own then Parted
+    else if is_command (codes "NICK") message.command && is_by mapping message own then Renamed
+    else if is_command (codes "KICK") message.command && is_to mapping message own then Kicked
     else if is_command (codes "ERROR") message.command then Refused
     else numeric_cue message
 
 -- the nick that the bot has after a line, if the line gives it one
-abbrev pub new_nick : Line → List ℕ → Option (List ℕ)
-new_nick (a_message message) own = nick_by (cue_of message own) message
-new_nick (a_bad_line fault) own = None
+abbrev pub new_nick : Casemapping → Line → List ℕ → Option (List ℕ)
+new_nick mapping (a_message message) own = nick_by (cue_of mapping message own) message
+new_nick mapping (a_bad_line fault) own = None

@@ -2,6 +2,7 @@ pub mod Vigils
 pub mod Paces
 pub mod Lines
 pub mod Nicks
+pub mod Casings
 pub mod Cues
 pub mod Seats
 pub mod Talks

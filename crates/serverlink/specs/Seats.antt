@@ -1,7 +1,8 @@
 -- A channel on which the bot is to be, and when the process asks to join it.
 use Rattle.std.specs.Prelude.{ℕ, ◌+◌, ◌-◌, ◌^◌, ◌&&◌, not, min, nat_le, Bool, true, false, List, Option, None, Some, if◌then◌else◌}
 use Rattle.std.specs.List.{list_any}
-use Rattle.rfccase.specs.Casemapping.{is_same}
+use Rattle.rfccase.specs.declared.casemappings.Casemapping.{Casemapping}
+use Rattle.rfccase.specs.Casemapping.{is_same_by}
 use Rattle.net.specs.declared.redial.TheConstants.{FIRST_WAIT}
 use Rattle.net.specs.Waits.{Waits, lost as lost_wait}
 use Rattle.serverlink.specs.declared.seat.TheConstants.{ASK_AGAIN, LONGEST_WAIT}
@@ -68,6 +69,6 @@ is_due seat now = not seat.on && is_past seat.asks now
 abbrev pub retried : Seated → ℕ → Seated
 retried seat now = record seat { asks = later now }
 
--- whether a channel is among these names
-abbrev pub is_named : List (List ℕ) → List ℕ → Bool
-is_named names channel = list_any (λ name. is_same name channel) names
+-- whether a channel is among these names, by the casemapping of the server
+abbrev pub is_named : Casemapping → List (List ℕ) → List ℕ → Bool
+is_named mapping names channel = list_any (λ name. is_same_by mapping name channel) names

@@ -5,12 +5,13 @@ ghost use Rattle.serverlink.specs.Seats.{is_named};
 
 use crate::seat::Seat;
 use bytetext::{NoMemory, Text, TryCopy};
-use rfccase::same;
+use rfccase::{Casemapping, same_by};
 use std::alloc::Global;
 use std::marker::Model;
 
 /// The channels on which a bot is to be, in order, and whether it is on each of them: those of its configuration, and
-/// those that an operator has added. Contracts see the channels.
+/// those that an operator has added. Their names are compared by the casemapping of the server. Contracts see the
+/// channels.
 #[derive(Drop)]
 pub struct ConfiguredChannels {
     seats: Vec<Seat>,
@@ -60,15 +61,15 @@ impl ConfiguredChannels {
     }
 
     // Whether the bot is on a channel of this name.
-    pub(crate) fn is_on(&self, name: &[u8]) -> bool {
-        self.seats
-            .iter()
-            .any(|seat| seat.is_on() && same(seat.channel(), name))
+    pub(crate) fn is_on(&self, mapping: Casemapping, name: &[u8]) -> bool {
+        self.seats.iter().any(|seat| seat.is_on() && same_by(mapping, seat.channel(), name))
     }
 
     // Whether a channel of this name is among them.
-    pub(crate) fn has(&self, name: &[u8]) -> bool {
-        self.seats.iter().any(|seat| same(seat.channel(), name))
+    pub(crate) fn has(&self, mapping: Casemapping, name: &[u8]) -> bool {
+        self.seats
+            .iter()
+            .any(|seat| same_by(mapping, seat.channel(), name))
     }
 
     // Adds a channel after the others.
@@ -80,22 +81,22 @@ impl ConfiguredChannels {
     }
 
     // Removes the channel of this name, and returns it, if it is among them.
-    pub(crate) fn remove(&mut self, name: &[u8]) -> Option<Seat> {
+    pub(crate) fn remove(&mut self, mapping: Casemapping, name: &[u8]) -> Option<Seat> {
         let place = self
             .seats
             .iter()
-            .position(|seat| same(seat.channel(), name))?;
+            .position(|seat| same_by(mapping, seat.channel(), name))?;
         Some(self.seats.remove(place))
     }
 
     // Removes the first channel that is not among `names`, and returns it. So a channel that is still named stays.
-    pub(crate) fn remove_unnamed(&mut self, names: &[Text]) -> Option<Seat>
-        ensures unnamed { IfSome result (λ seat. is_named names.now seat.channel ≡ false) }
+    pub(crate) fn remove_unnamed(&mut self, mapping: Casemapping, names: &[Text]) -> Option<Seat>
+        ensures unnamed { IfSome result (λ seat. is_named mapping names.now seat.channel ≡ false) }
     {
         let place = self
             .seats
             .iter()
-            .position(|seat| !is_named(names, seat.channel()))?;
+            .position(|seat| !is_named(mapping, names, seat.channel()))?;
         Some(self.seats.remove(place))
     }
 
@@ -107,33 +108,33 @@ impl ConfiguredChannels {
     }
 
     // Notes that the bot has joined a channel at second `now`.
-    pub(crate) fn join(&mut self, name: &[u8], now: u64) {
-        if let Some(seat) = self.seat_of(name) {
+    pub(crate) fn join(&mut self, mapping: Casemapping, name: &[u8], now: u64) {
+        if let Some(seat) = self.seat_of(mapping, name) {
             seat.join(now);
         }
     }
 
     // Notes that the bot has left a channel at second `now`.
-    pub(crate) fn part(&mut self, name: &[u8], now: u64) {
-        if let Some(seat) = self.seat_of(name) {
+    pub(crate) fn part(&mut self, mapping: Casemapping, name: &[u8], now: u64) {
+        if let Some(seat) = self.seat_of(mapping, name) {
             seat.part(now);
         }
     }
 
     // Notes that the bot was kicked off a channel at second `now`.
-    pub(crate) fn kick(&mut self, name: &[u8], now: u64)
+    pub(crate) fn kick(&mut self, mapping: Casemapping, name: &[u8], now: u64)
         requires moment { now < MOMENTS_END }
     {
-        if let Some(seat) = self.seat_of(name) {
+        if let Some(seat) = self.seat_of(mapping, name) {
             seat.kick(now);
         }
     }
 
     // Notes that the server did not let the bot onto a channel at second `now`.
-    pub(crate) fn bar(&mut self, name: &[u8], now: u64)
+    pub(crate) fn bar(&mut self, mapping: Casemapping, name: &[u8], now: u64)
         requires moment { now < MOMENTS_END }
     {
-        if let Some(seat) = self.seat_of(name) {
+        if let Some(seat) = self.seat_of(mapping, name) {
             seat.bar(now);
         }
     }
@@ -169,16 +170,18 @@ impl ConfiguredChannels {
         found
     }
 
-    fn seat_of(&mut self, name: &[u8]) -> Option<&mut Seat> {
+    fn seat_of(&mut self, mapping: Casemapping, name: &[u8]) -> Option<&mut Seat> {
         self.seats
             .iter_mut()
-            .find(|seat| same(seat.channel(), name))
+            .find(|seat| same_by(mapping, seat.channel(), name))
     }
 }
 
 // Whether a channel is among these names.
-fn is_named(names: &[Text], channel: &[u8]) -> bool
-    ensures { result ≡ is_named names.now channel.now }
+fn is_named(mapping: Casemapping, names: &[Text], channel: &[u8]) -> bool
+    ensures { result ≡ is_named mapping names.now channel.now }
 {
-    names.iter().any(|name| same(name.as_bytes(), channel))
+    names
+        .iter()
+        .any(|name| same_by(mapping, name.as_bytes(), channel))
 }

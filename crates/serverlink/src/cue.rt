@@ -3,7 +3,7 @@ ghost use Rattle.std.specs.Prelude.{◌≡◌};
 ghost use Rattle.serverlink.specs.Cues.{cue_of, is_by, is_numeric_fault, is_to, numeric_cue, other_cue, param, unavailable};
 
 use ircline::{Message, Numeric, Source, numeric_of, source};
-use rfccase::{is_channel_name, same};
+use rfccase::{Casemapping, is_channel_name, same_by};
 
 /// What a message means for a bot with a given nick.
 #[derive(Clone, Copy, Debug, PartialEq, Eq)]
@@ -31,18 +31,19 @@ pub enum Cue {
     Nothing,
 }
 
-/// Returns what `message` means for a bot whose nick is `own`. Allocates nothing.
-pub fn cue_of(message: &Message, own: &[u8]) -> Cue
-    ensures { result ≡ cue_of message.now own.now }
+/// Returns what `message` means for a bot whose nick is `own`, by the casemapping of the server that sends it. Allocates
+/// nothing.
+pub fn cue_of(mapping: Casemapping, message: &Message, own: &[u8]) -> Cue
+    ensures { result ≡ cue_of mapping message.now own.now }
 {
     let command = message.command.as_bytes();
-    if command == b"JOIN".as_slice() && is_by(message, own) {
+    if command == b"JOIN".as_slice() && is_by(mapping, message, own) {
         Cue::Joined
-    } else if command == b"PART".as_slice() && is_by(message, own) {
+    } else if command == b"PART".as_slice() && is_by(mapping, message, own) {
         Cue::Parted
-    } else if command == b"NICK".as_slice() && is_by(message, own) {
+    } else if command == b"NICK".as_slice() && is_by(mapping, message, own) {
         Cue::Renamed
-    } else if command == b"KICK".as_slice() && is_to(message, own) {
+    } else if command == b"KICK".as_slice() && is_to(mapping, message, own) {
         Cue::Kicked
     } else if command == b"ERROR".as_slice() {
         Cue::Refused
@@ -102,20 +103,20 @@ fn is_numeric_fault(command: &[u8]) -> bool
 }
 
 // Whether the sender of a message has this nick.
-fn is_by(message: &Message, own: &[u8]) -> bool
-    ensures { result ≡ is_by message.now own.now }
+fn is_by(mapping: Casemapping, message: &Message, own: &[u8]) -> bool
+    ensures { result ≡ is_by mapping message.now own.now }
 {
     match source(message.prefix.as_bytes()) {
-        Source::Person(person) => same(person.nick, own),
+        Source::Person(person) => same_by(mapping, person.nick, own),
         Source::Server(_) | Source::None => false,
     }
 }
 
 // Whether a message's second parameter is this nick.
-fn is_to(message: &Message, own: &[u8]) -> bool
-    ensures { result ≡ is_to message.now own.now }
+fn is_to(mapping: Casemapping, message: &Message, own: &[u8]) -> bool
+    ensures { result ≡ is_to mapping message.now own.now }
 {
-    same(param(message, 1), own)
+    same_by(mapping, param(message, 1), own)
 }
 
 /// Returns the parameter of `message` at `place`, counted from 0, or an empty slice if the message has fewer.

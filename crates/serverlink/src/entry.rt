@@ -2,6 +2,7 @@
 use crate::shown::{Shown, put};
 use crate::why::Why;
 use net::DialFault;
+use rfccase::{Casemapping, same};
 use std::fmt;
 use std::fmt::Display;
 use std::net::SocketAddr;
@@ -17,8 +18,8 @@ pub(crate) enum Entry<'a> {
     Lost(Why, u64),
     // The server rejects something, or ends the connection: the command and its text.
     Refused(&'a [u8], &'a [u8]),
-    // The server's case mapping differs from the bot's.
-    OtherCase(&'a [u8]),
+    // The server announces a casemapping by this name; the one by which the bot goes on.
+    OtherCase(&'a [u8], Casemapping),
     // A message arrived: its sender, its command and the rest of it.
     Heard(&'a [u8], &'a [u8], &'a [u8]),
     // A fact about this nick, channel or line.
@@ -71,6 +72,15 @@ fn words_of(fact: Fact) -> &'static str {
     }
 }
 
+// The name by which a server announces a casemapping.
+fn name_of(mapping: Casemapping) -> &'static [u8] {
+    match mapping {
+        Casemapping::Ascii => b"ascii",
+        Casemapping::StrictRfc1459 => b"strict-rfc1459",
+        Casemapping::Rfc1459 => b"rfc1459",
+    }
+}
+
 impl Display for Entry<'_> {
     fn fmt<W: fmt::Write>(&self, f: &mut fmt::Formatter<W>) -> fmt::Result {
         match *self {
@@ -91,9 +101,21 @@ impl Display for Entry<'_> {
                 put(f, "server says ", &Shown(command))?;
                 put(f, " ", &Shown(text))
             }
-            Entry::OtherCase(name) => {
-                put(f, "server compares by ", &Shown(name))?;
-                f.write_str(", this bot by rfc1459: { and [ are one there")
+            Entry::OtherCase(name, mapping) => {
+                put(f, "server compares names by ", &Shown(name))?;
+                let word = name_of(mapping);
+                if same(name, word) {
+                    return Ok(());
+                }
+                if Casemapping::named(name) == mapping {
+                    return put(f, ", this bot by ", &Shown(word));
+                }
+                put(
+                    f,
+                    ", but said so after a JOIN: this bot goes on by ",
+                    &Shown(word),
+                )?;
+                f.write_str("; say jump to have it connect again")
             }
             Entry::Heard(source, command, rest) => {
                 put(f, "< ", &Shown(source))?;

@@ -1,8 +1,5 @@
 // What a server says, for the registration and the channels.
-ghost use Rattle.std.specs.Prelude.{◌≡◌, ◌≢◌, ◌<◌, None, Some, IfOk, MatchOption, OnErr};
-ghost use Rattle.bytetext.specs.declared.moment.TheConstants.{MOMENTS_END};
-ghost use Rattle.serverlink.specs.Cues.{new_nick};
-
+use crate::casing::name_in;
 use crate::cue::{Cue, cue_of, param};
 use crate::entry::{Entry, Fact};
 use crate::irc_connection::{IrcConnection, joined};
@@ -10,10 +7,16 @@ use crate::nicks::other_nick;
 use bytetext::{NoMemory, TryCopy};
 use ircline::{Line, Message};
 use net::Log;
+use rfccase::{Casemapping, same};
 use settings::Settings;
 use std::alloc::Global;
 
 impl IrcConnection {
+    ghost use Rattle.std.specs.Prelude.{◌≡◌, ◌≢◌, ◌<◌, None, Some, IfOk, IfSome, MatchOption, OnErr, is_some};
+    ghost use Rattle.bytetext.specs.declared.moment.TheConstants.{MOMENTS_END};
+    ghost use Rattle.serverlink.specs.Casings.{casing_in, heard, mapping_in};
+    ghost use Rattle.serverlink.specs.Cues.{new_nick};
+
     /// Processes `line`, which the server sent by second `now` and whose step the bot has made, for the registration,
     /// a login and the channels. `own` is the bot's nick before the line; returns its nick after the line, if the line gives it
     /// one. Asks for another nick if the server rejects it. Puts the lines `perform` of `settings` once after a welcome,
@@ -35,18 +38,20 @@ impl IrcConnection {
         now: u64,
     ) -> Result<Option<&'a [u8]>, NoMemory>
         requires moment { now < MOMENTS_END }
-        ensures nick { IfOk result (λ found. MatchOption found (new_nick line.now own.now ≡ None)
-            (λ nick. new_nick line.now own.now ≡ Some nick.now)) }
+        ensures nick { IfOk result (λ found. MatchOption found (new_nick (mapping_in self.old.session) line.now own.now ≡ None)
+            (λ nick. new_nick (mapping_in self.old.session) line.now own.now ≡ Some nick.now)) }
         ensures memory { OnErr result (self.old.session ≢ None) }
     {
         let Line::Message(message) = line else {
             return Ok(None);
         };
+        let mapping = self.casemapping();
         if settings.log_lines && logged {
             log_message(log, message, now);
         }
         self.hear_for_login(rt.alloc(), log, settings, line, now)?;
-        let cue = cue_of(message, own);
+        let cue = cue_of(mapping, message, own);
+        self.hear_casing(message);
         if cue != Cue::Nothing && self.session.is_some() {
             self.note(rt.alloc(), log, settings, cue, message, now)?;
         }
@@ -63,6 +68,16 @@ impl IrcConnection {
         }
     }
 
+    // Takes in how the server compares names.
+    fn hear_casing(&mut self, message: &Message)
+        ensures same { is_some self.new.session ≡ is_some self.old.session }
+        ensures casing { IfSome self.new.session (λ session. session.casing ≡ heard message.now (casing_in self.old.session)) }
+    {
+        if let Some(session) = &mut self.session {
+            session.casing.hear(message);
+        }
+    }
+
     // Does what a message means for the registration and the channels, and logs it.
     fn note(
         &mut self,
@@ -75,6 +90,7 @@ impl IrcConnection {
     ) -> Result<(), NoMemory>
         requires moment { now < MOMENTS_END }
     {
+        let mapping = self.casemapping();
         let first = param(message, 0);
         let second = param(message, 1);
         match cue {
@@ -82,28 +98,28 @@ impl IrcConnection {
             Cue::NickRefused => self.ask_nick(alloc, log, settings, now)?,
             Cue::Renamed => log.note(now, &Entry::Plain(Fact::Renamed, first)),
             Cue::Joined => {
-                self.channels.join(first, now);
+                self.channels.join(mapping, first, now);
                 log.note(now, &Entry::Plain(Fact::Joined, first));
             }
             Cue::Parted => {
-                self.channels.part(first, now);
+                self.channels.part(mapping, first, now);
                 log.note(now, &Entry::Plain(Fact::Parted, first));
             }
             Cue::Kicked => {
-                self.channels.kick(first, now);
+                self.channels.kick(mapping, first, now);
                 log.note(now, &Entry::Plain(Fact::Kicked, first));
             }
             Cue::Barred => {
                 // On a channel that the bot is on, the server rejects something else.
-                if self.channels.is_on(second) {
+                if self.channels.is_on(mapping, second) {
                     log_refusal(log, message, now);
                 } else {
-                    self.channels.bar(second, now);
+                    self.channels.bar(mapping, second, now);
                     log.note(now, &Entry::Plain(Fact::Barred, second));
                 }
             }
             Cue::Refused => log_refusal(log, message, now),
-            Cue::Supports => note_case(log, message, now),
+            Cue::Supports => note_case(log, mapping, message, now),
             Cue::Nothing => {}
         }
         Ok(())
@@ -163,12 +179,13 @@ impl IrcConnection {
     }
 }
 
-// Logs a case mapping of the server that differs from the bot's (CASEMAPPING of a 005).
-fn note_case(log: &mut Log, message: &Message, now: u64) {
+// Logs a casemapping that the server announces (CASEMAPPING of a 005), unless it is the usual one, where `mapping` is the
+// one by which the bot goes on.
+fn note_case(log: &mut Log, mapping: Casemapping, message: &Message, now: u64) {
     for word in message.params.as_slice() {
-        if let Some(name) = word.as_bytes().strip_prefix(b"CASEMAPPING=") {
-            if name != b"rfc1459".as_slice() {
-                log.note(now, &Entry::OtherCase(name));
+        if let Some(name) = name_in(word.as_bytes()) {
+            if mapping != Casemapping::Rfc1459 || !same(name, b"rfc1459") {
+                log.note(now, &Entry::OtherCase(name, mapping));
             }
         }
     }

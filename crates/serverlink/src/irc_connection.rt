@@ -12,6 +12,7 @@ use crate::why::Why;
 use bytetext::{Failure, NoMemory, Text};
 use net::{DialTokens, Dialled, Dialling, Log, Registry};
 use registration::Credentials;
+use rfccase::Casemapping;
 use settings::{Server, Settings};
 use std::alloc::Global;
 use std::fs::File;
@@ -67,6 +68,7 @@ impl IrcConnection {
     ghost use Rattle.std.specs.List.{list_any};
     ghost use Rattle.net.specs.Dials.{lost};
     ghost use Rattle.net.specs.Connections.{handed};
+    ghost use Rattle.serverlink.specs.Casings.{mapping_in};
     ghost use Rattle.serverlink.specs.Logins.{BeginsIn};
     ghost use Rattle.serverlink.specs.Talks.{EndsSilence, MayReadAll, MaySend, ReadsSome, heard_in, may_give_in, held, told, woken, talk_in};
 
@@ -101,6 +103,17 @@ impl IrcConnection {
         ensures { MatchOption result (self.now.session ≡ None) (λ session. self.now.session ≡ Some session.now) }
     {
         self.session.as_ref()
+    }
+
+    /// Returns the casemapping by which the connected server compares names: that of RFC 1459 until the server announces
+    /// another one, and without a connection.
+    pub fn casemapping(&self) -> Casemapping
+        ensures { result ≡ mapping_in self.now.session }
+    {
+        match &self.session {
+            Some(session) => session.casing.mapping(),
+            None => Casemapping::Rfc1459,
+        }
     }
 
     /// Returns the second at which the next attempt to connect is due.

@@ -34,6 +34,9 @@
 //!
 //! All that a server gets are lines of 1 to 510 bytes: a [`ServerWire`] sends nothing else.
 //!
+//! Names of channels and the bot's nick are compared by the casemapping that the connected server has announced before
+//! the first JOIN ([`IrcConnection::casemapping`]).
+//!
 //! These decide what is due, and touch no socket and no clock:
 //!
 //! - [`Vigil`]: when to ping a silent server, and when to disconnect it. It goes by the monotonic clock.
@@ -55,6 +58,7 @@
 //! A [`Log`](net::Log) gets one line for each event: the second of the bot's clock, and what happened.
 #![tactic(auto)]
 
+mod casing;
 mod configured_channels;
 mod cue;
 mod entry;

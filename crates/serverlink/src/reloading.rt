@@ -5,7 +5,7 @@ ghost use Rattle.std.specs.Prelude.{◌≡◌, ◌<◌, length, IfSome};
 use crate::irc_connection::{IrcConnection, joined};
 use crate::seat::Seat;
 use bytetext::{NoMemory, Text, TryCopy};
-use rfccase::same;
+use rfccase::{Casemapping, same_by};
 use settings::Server;
 use std::alloc::Global;
 
@@ -37,7 +37,8 @@ impl IrcConnection {
     {
         let mut left = false;
         for _channel in 0..self.channels.len() {
-            let Some(seat) = self.channels.remove_unnamed(names) else {
+            let mapping = self.casemapping();
+            let Some(seat) = self.channels.remove_unnamed(mapping, names) else {
                 break;
             };
             self.part(alloc, seat.channel())?;
@@ -78,7 +79,7 @@ impl IrcConnection {
     ) -> Result<bool, NoMemory>
         ensures session { self.new.session ≡ self.old.session }
     {
-        if self.channels.has(channel) {
+        if self.channels.has(self.casemapping(), channel) {
             return Ok(false);
         }
         let mut seat = Seat::new(Text::from_slice(alloc, channel)?, key, number);
@@ -96,7 +97,8 @@ impl IrcConnection {
     pub fn drop_channel(&mut self, alloc: Global, channel: &[u8]) -> Result<bool, NoMemory>
         ensures session { self.new.session ≡ self.old.session }
     {
-        match self.channels.remove(channel) {
+        let mapping = self.casemapping();
+        match self.channels.remove(mapping, channel) {
             Some(seat) => {
                 self.part(alloc, seat.channel())?;
                 Ok(true)
@@ -136,7 +138,8 @@ impl IrcConnection {
         ensures { self.new.session ≡ self.old.session }
     {
         if let Some(wanted) = &self.renames {
-            if !same(wanted.as_bytes(), nick) {
+            // The server has not said yet how it compares names, so only letters count as the same in both cases.
+            if !same_by(Casemapping::Ascii, wanted.as_bytes(), nick) {
                 let line = joined(alloc, b"NICK ", wanted.as_bytes())?;
                 self.own.put(Text::new(line))?;
             }

@@ -1,8 +1,10 @@
 // One connection to a server.
 ghost use Rattle.std.specs.Prelude.{◌≡◌, None, length};
 ghost use Rattle.streams.specs.Accounts.{nothing_yet};
+ghost use Rattle.serverlink.specs.Casings.{unannounced};
 ghost use Rattle.serverlink.specs.Vigils.{begun, care_of};
 
+use crate::casing::Casing;
 use crate::server_wire::ServerWire;
 use crate::vigil::{Care, Vigil};
 use net::TcpSocket;
@@ -22,6 +24,8 @@ pub struct Session {
     pub(crate) tried: usize,
     // The login to the bot's account, until it is over.
     pub(crate) login: Option<Registration>,
+    // How the server compares names.
+    pub(crate) casing: Casing,
 }
 
 // Written by hand, so that the drop is proved once, and not in each function that drops one.
@@ -34,6 +38,7 @@ impl Drop for Session {
             is_welcomed: _,
             tried: _,
             login: _,
+            casing: _,
         } = self;
     }
 }
@@ -46,6 +51,7 @@ impl Session {
         ensures began { result.began ≡ now }
         ensures vigil { result.vigil ≡ begun steady }
         ensures login { result.login ≡ None }
+        ensures casing { result.casing ≡ unannounced }
     {
         Session {
             wire: ServerWire::new(alloc, socket),
@@ -54,6 +60,7 @@ impl Session {
             is_welcomed: false,
             tried: 0,
             login: None,
+            casing: Casing::unannounced(),
         }
     }
 

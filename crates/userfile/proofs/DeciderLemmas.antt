@@ -5,6 +5,7 @@ use Rattle.std.proofs.lemmas.Bool.{cases_lt, and_parts}
 use Rattle.std.proofs.lemmas.Bool.Decides.{nat_tests}
 use Rattle.userfile.specs.declared.user.User.{User}
 use Rattle.userfile.specs.Persons.{Claim, claims, is_most, decider, handle_of, handle_or_star, IsDecider, IsHandleFor}
+use Rattle.rfccase.specs.declared.casemappings.Casemapping.{Casemapping}
 
 -- a test of all claims is a fact of each
 is_most-at : (n : ℕ) (cs : List Claim) (j : ℕ) (c : Claim) → is_most n cs ≡ true → slice_get cs j ≡ Some c → c.literals ≤ n
@@ -89,9 +90,9 @@ decided (c ∷ cs) = by (is_most c.literals cs) refl (decided cs)
     by false e (inr r) = inr (suc r.0, (r.1.0, (later e r.0 r.1.0 r.1.1.0, r.1.1.1)))
 
 -- the handle of a person is that of the user whose claim decides
-pub handle_of-IsHandleFor : (users : List User) (who : List ℕ) → IsHandleFor users who (handle_of users who)
-handle_of-IsHandleFor users who = by (decided (claims who users))
+pub handle_of-IsHandleFor : (mapping : Casemapping) (users : List User) (who : List ℕ) → IsHandleFor mapping users who (handle_of mapping users who)
+handle_of-IsHandleFor mapping users who = by (decided (claims mapping who users))
   where
-    by : Decided (claims who users) → IsHandleFor users who (handle_or_star (decider (claims who users)))
+    by : Decided (claims mapping who users) → IsHandleFor mapping users who (handle_or_star (decider (claims mapping who users)))
     by (inl r) = inl (r.0, ap handle_or_star r.1)
     by (inr r) = inr (r.0, (r.1.0, (r.1.1.0, ap handle_or_star r.1.1.1)))

@@ -22,6 +22,7 @@ use Rattle.userfile.proofs.MatchLemmas.{match_ends, tail_short}
 use Rattle.userfile.proofs.RepeatLemmas.{or_false, or_both}
 use Rattle.rfccase.proofs.SameLemmas.{is_same-left}
 use Rattle.userfile.proofs.SearchLemmas.{AreListed, UsersBeaten, user_beaten, claim-after_listings, best-user_for}
+use Rattle.rfccase.specs.declared.casemappings.Casemapping.{Casemapping}
 
 -- ---- what is asked for
 
@@ -38,24 +39,24 @@ in_asked index who n (suc k) j lt h = elim
     last above = let same : j ≡ k = omega (arith, lt, above) in subst (λ i. IsIn n (asked_at index who i)) same h
 
 -- the listing of a mask that matches is asked for
-mask_asked : (index : TailIndex) (who : List ℕ) (n : ℕ) (m : List ℕ) → IsUnder index (mask_tail m) (listing_of n m) → is_match m who ≡ true
+mask_asked : (mapping : Casemapping) (index : TailIndex) (who : List ℕ) (n : ℕ) (m : List ℕ) → IsUnder index (mask_tail m) (listing_of n m) → is_match mapping m who ≡ true
     → IsIn (listing_of n m) (asked index who 17)
-mask_asked index who n m under hit =
+mask_asked mapping index who n m under hit =
     let here : IsIn (listing_of n m) (listings_at (end_key (length (mask_tail m)) who) index.groups.entries) =
-    subst (λ t. IsIn (listing_of n m) (listings_at t index.groups.entries)) (match_ends m who hit) under.1 in
+    subst (λ t. IsIn (listing_of n m) (listings_at t index.groups.entries)) (match_ends mapping m who hit) under.1 in
     in_asked index who (listing_of n m) 17 (length (mask_tail m)) (tail_short m)
     (subst (λ k. IsIn (listing_of n m) (cond (k == 0) [] (listings_at (end_key (length (mask_tail m)) who) index.groups.entries))) (sym under.0) here)
 
-all_asked : (index : TailIndex) (who : List ℕ) (n : ℕ) (ms : List (List ℕ)) → AreUnder index n ms → AreListed who n (asked index who 17) ms
-all_asked index who n [] under = tt
-all_asked index who n (m ∷ ms) under = (λ hit. mask_asked index who n m under.0 hit, all_asked index who n ms under.1)
+all_asked : (mapping : Casemapping) (index : TailIndex) (who : List ℕ) (n : ℕ) (ms : List (List ℕ)) → AreUnder index n ms → AreListed mapping who n (asked index who 17) ms
+all_asked mapping index who n [] under = tt
+all_asked mapping index who n (m ∷ ms) under = (λ hit. mask_asked mapping index who n m under.0 hit, all_asked mapping index who n ms under.1)
 
-module _ (index : TailIndex) (who : List ℕ) (users : List User) where
+module _ (mapping : Casemapping) (index : TailIndex) (who : List ℕ) (users : List User) where
   users_beaten : (us : List User) (n : ℕ) → ((i : ℕ) → slice_get us i ≡ slice_get users (i + n)) → Covers index n us
-      → UsersBeaten who n us (after_listings who users (asked index who 17) None)
+      → UsersBeaten mapping who n us (after_listings mapping who users (asked index who 17) None)
   users_beaten [] n at covers = tt
   users_beaten (u ∷ us) n at covers = (
-    user_beaten who users (asked index who 17) n u None here u.masks (all_asked index who n u.masks covers.0) (λ x some. some),
+    user_beaten mapping who users (asked index who 17) n u None here u.masks (all_asked mapping index who n u.masks covers.0) (λ x some. some),
     users_beaten us (suc n) (λ i. at (suc i) ∙ next i) covers.1,
   )
     where
@@ -66,9 +67,9 @@ module _ (index : TailIndex) (who : List ℕ) (users : List User) where
       here = let same : n ≡ 0 + n = omega arith in ap (slice_get users) same ∙ sym (at 0)
 
   -- a search of what is asked for finds who decides
-  pub asked-user_for : Covers index 0 users → user_at users (after_listings who users (asked index who 17) None) ≡ user_for who users
-  asked-user_for covers = best-user_for who users _ (users_beaten users 0 (λ i. let same : i ≡ i + 0 = omega arith in ap (slice_get users) same) covers)
-      (claim-after_listings who users (asked index who 17) None tt)
+  pub asked-user_for : Covers index 0 users → user_at users (after_listings mapping who users (asked index who 17) None) ≡ user_for mapping who users
+  asked-user_for covers = best-user_for mapping who users _ (users_beaten users 0 (λ i. let same : i ≡ i + 0 = omega arith in ap (slice_get users) same) covers)
+      (claim-after_listings mapping who users (asked index who 17) None tt)
 
 -- ---- an index that keeps what stood in it
 

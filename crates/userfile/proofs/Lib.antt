@@ -12,3 +12,4 @@ pub mod DeciderLemmas
 pub mod RepeatLemmas
 pub mod SoundLemmas
 pub mod PlanLemmas
+pub mod WideningLemmas

@@ -5,7 +5,8 @@ use Rattle.bytetext.specs.declared.failure.Failure.TheVariants.{Refused, NoMemor
 use Rattle.wildmask.specs.declared.items.MaskKind.TheVariants.{Host}
 use Rattle.wildmask.specs.declared.faults.MaskFault.{MaskFault}
 use Rattle.wildmask.specs.Items.{items_of, literals_of}
-use Rattle.wildmask.specs.Masks.{host_fault, host_mask, is_match as is_mask_match}
+use Rattle.wildmask.specs.Masks.{host_fault, host_mask, is_match_by as is_mask_match}
+use Rattle.rfccase.specs.declared.casemappings.Casemapping.{Casemapping}
 use Rattle.wildmask.specs.Signatures.{Pairs, items_signature}
 use Rattle.wildmask.specs.Tails.{tail_of}
 
@@ -19,9 +20,9 @@ MakesHostmask text (Err NoMemory) = host_fault text ≡ None
 unfoldable pub literals : List ℕ → ℕ
 literals mask = literals_of Host mask
 
--- whether a hostmask matches a person, as a test that computes
-unfoldable pub is_match : List ℕ → List ℕ → Bool
-is_match mask who = is_mask_match (host_mask mask) who
+-- whether a hostmask matches a person by a server's casemapping, as a test that computes
+unfoldable pub is_match : Casemapping → List ℕ → List ℕ → Bool
+is_match mapping mask who = is_mask_match mapping (host_mask mask) who
 
 -- the tail of a hostmask: the text of each person that the mask matches ends with it
 unfoldable pub mask_tail : List ℕ → List ℕ

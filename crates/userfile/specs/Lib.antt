@@ -13,3 +13,4 @@ pub mod Keys
 pub mod Together
 pub mod Search
 pub mod Index
+pub mod Widening

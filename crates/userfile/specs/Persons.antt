@@ -2,7 +2,8 @@
 use Rattle.std.specs.Prelude.{◌≡◌, ◌<◌, ◌≤◌, ◌⊎◌, ℕ, ◌+◌, ◌*◌, ◌==◌, nat_lt, nat_le, Bool, ◌&&◌, ◌||◌, List, [], ◌∷◌, ◌++◌, length, map, filter, find}
 use Rattle.std.specs.Prelude.{slice_get, codes, if◌then◌else◌, Option, None, Some}
 use Rattle.std.specs.List.{list_all}
-use Rattle.rfccase.specs.Casemapping.{is_same}
+use Rattle.rfccase.specs.Casemapping.{is_same_by}
+use Rattle.rfccase.specs.declared.casemappings.Casemapping.{Casemapping}
 use Rattle.userfile.specs.Held.{user_of, entry_of}
 use Rattle.userfile.specs.Hostmasks.{is_match, literals}
 use Rattle.userfile.specs.declared.user.User.{User}
@@ -21,13 +22,13 @@ abbrev pub claim : ℕ → User → Claim
 claim literals user = record { literals = literals; user = user }
 
 -- the claims of a user's masks that match, in the order of the masks
-abbrev pub claims_of : List ℕ → User → List (List ℕ) → List Claim
-claims_of who user masks = map (λ mask. claim (literals mask) user) (filter (λ mask. is_match mask who) masks)
+abbrev pub claims_of : Casemapping → List ℕ → User → List (List ℕ) → List Claim
+claims_of mapping who user masks = map (λ mask. claim (literals mask) user) (filter (λ mask. is_match mapping mask who) masks)
 
 -- the claims of all users, those of an earlier user first
-abbrev pub claims : List ℕ → List User → List Claim
-claims who [] = []
-claims who (user ∷ users) = claims_of who user user.masks ++ claims who users
+abbrev pub claims : Casemapping → List ℕ → List User → List Claim
+claims mapping who [] = []
+claims mapping who (user ∷ users) = claims_of mapping who user user.masks ++ claims mapping who users
 
 -- whether each of these claims has at most `most` literals
 abbrev pub is_most : ℕ → List Claim → Bool
@@ -39,16 +40,16 @@ decider [] = None
 decider (c ∷ cs) = if is_most c.literals cs then Some c.user else decider cs
 
 -- the user that a person is
-abbrev pub user_for : List ℕ → List User → Option User
-user_for who users = decider (claims who users)
+abbrev pub user_for : Casemapping → List ℕ → List User → Option User
+user_for mapping who users = decider (claims mapping who users)
 
 -- the handle of a user, or * for an unknown person
 abbrev pub handle_or_star : Option User → List ℕ
 handle_or_star None = codes "*"
 handle_or_star (Some user) = user.handle
 
-abbrev pub handle_of : List User → List ℕ → List ℕ
-handle_of users who = handle_or_star (user_for who users)
+abbrev pub handle_of : Casemapping → List User → List ℕ → List ℕ
+handle_of mapping users who = handle_or_star (user_for mapping who users)
 
 -- the claim at index k decides: the claims before it have fewer literals, and those after it no more
 pub record IsDecider (cs : List Claim) (k : ℕ) (c : Claim) : Type 0 where
@@ -57,10 +58,10 @@ pub record IsDecider (cs : List Claim) (k : ℕ) (c : Claim) : Type 0 where
   pub behind : (j : ℕ) (other : Claim) → k < j → slice_get cs j ≡ Some other → other.literals ≤ c.literals
 
 -- the handle is that of the user whose claim decides, or * if no hostmask matches
-abbrev pub IsHandleFor : List User → List ℕ → List ℕ → Type 0
-IsHandleFor users who handle =
-    ((claims who users ≡ []) × (handle ≡ codes "*"))
-    ⊎ ((k : ℕ) × ((c : Claim) × (IsDecider (claims who users) k c × (handle ≡ c.user.handle))))
+abbrev pub IsHandleFor : Casemapping → List User → List ℕ → List ℕ → Type 0
+IsHandleFor mapping users who handle =
+    ((claims mapping who users ≡ []) × (handle ≡ codes "*"))
+    ⊎ ((k : ℕ) × ((c : Claim) × (IsDecider (claims mapping who users) k c × (handle ≡ c.user.handle))))
 
 -- ---- flags
 
@@ -89,23 +90,23 @@ info_of users handle = info_or_none (user_of handle users)
 -- ---- bans
 
 -- a ban keeps a person off a channel if it is of that channel or of all, has not ended, and its mask matches
-abbrev pub bars : List ℕ → List ℕ → ℕ → Ban → Bool
-bars channel who now ban =
-    (length ban.channel == 0 || is_same channel ban.channel) && (ban.expires == 0 || nat_lt now ban.expires) && is_match ban.mask who
+abbrev pub bars : Casemapping → List ℕ → List ℕ → ℕ → Ban → Bool
+bars mapping channel who now ban =
+    (length ban.channel == 0 || is_same_by mapping channel ban.channel) && (ban.expires == 0 || nat_lt now ban.expires) && is_match mapping ban.mask who
 
 -- the first ban that keeps a person off a channel
-abbrev pub ban_for : List Ban → List ℕ → List ℕ → ℕ → Option Ban
-ban_for bans channel who now = find (bars channel who now) bans
+abbrev pub ban_for : Casemapping → List Ban → List ℕ → List ℕ → ℕ → Option Ban
+ban_for mapping bans channel who now = find (bars mapping channel who now) bans
 
 -- a ban comes back to a channel when this mask is removed from it: the ban is sticky, of that channel or of all, has
 -- not ended, and its mask is the same by casemapping
-abbrev pub returns_to : List ℕ → List ℕ → ℕ → Ban → Bool
-returns_to channel mask now ban =
-    ban.sticky && (length ban.channel == 0 || is_same channel ban.channel) && (ban.expires == 0 || nat_lt now ban.expires) && is_same mask ban.mask
+abbrev pub returns_to : Casemapping → List ℕ → List ℕ → ℕ → Ban → Bool
+returns_to mapping channel mask now ban =
+    ban.sticky && (length ban.channel == 0 || is_same_by mapping channel ban.channel) && (ban.expires == 0 || nat_lt now ban.expires) && is_same_by mapping mask ban.mask
 
 -- the first ban that comes back to a channel when this mask is removed from it
-abbrev pub sticky_ban : List Ban → List ℕ → List ℕ → ℕ → Option Ban
-sticky_ban bans channel mask now = find (returns_to channel mask now) bans
+abbrev pub sticky_ban : Casemapping → List Ban → List ℕ → List ℕ → ℕ → Option Ban
+sticky_ban mapping bans channel mask now = find (returns_to mapping channel mask now) bans
 
 -- the expiry of a ban made at `now` for `minutes` minutes; a ban for 0 minutes never ends, and its expiry is 0
 abbrev pub expires_at : ℕ → ℕ → ℕ

@@ -7,6 +7,7 @@ use Rattle.userfile.specs.Index.{is_of}
 use Rattle.userfile.specs.declared.user.User.{User}
 use Rattle.userfile.specs.declared.index.Listing.{Listing}
 use Rattle.userfile.specs.declared.persons.Winner.{Winner}
+use Rattle.rfccase.specs.declared.casemappings.Casemapping.{Casemapping}
 
 -- whether a mask with `literals` literals, of the user at `place`, is better than the best so far
 abbrev pub is_better : ℕ → ℕ → Option Winner → Bool
@@ -18,24 +19,24 @@ abbrev pub may_win : List ℕ → Listing → Option Winner → Bool
 may_win who x best = is_within x.pairs (text_signature who) && is_better x.literals x.place best
 
 -- whether any of this user's masks belongs to the listing and matches
-abbrev pub has_match : List ℕ → Listing → Option User → Bool
-has_match who x None = false
-has_match who x (Some user) = list_any (λ mask. is_of x mask && is_match mask who) user.masks
+abbrev pub has_match : Casemapping → List ℕ → Listing → Option User → Bool
+has_match mapping who x None = false
+has_match mapping who x (Some user) = list_any (λ mask. is_of x mask && is_match mapping mask who) user.masks
 
 -- the best after one more listing
-abbrev pub after_listing : List ℕ → List User → Listing → Option Winner → Option Winner
-after_listing who users x best =
-    if may_win who x best && has_match who x (slice_get users x.place) then Some (record { literals = x.literals; place = x.place }) else best
+abbrev pub after_listing : Casemapping → List ℕ → List User → Listing → Option Winner → Option Winner
+after_listing mapping who users x best =
+    if may_win who x best && has_match mapping who x (slice_get users x.place) then Some (record { literals = x.literals; place = x.place }) else best
 
 -- the best after several listings
-abbrev pub after_listings : List ℕ → List User → List Listing → Option Winner → Option Winner
-after_listings who users [] best = best
-after_listings who users (x ∷ xs) best = after_listings who users xs (after_listing who users x best)
+abbrev pub after_listings : Casemapping → List ℕ → List User → List Listing → Option Winner → Option Winner
+after_listings mapping who users [] best = best
+after_listings mapping who users (x ∷ xs) best = after_listings mapping who users xs (after_listing mapping who users x best)
 
 -- for a text with these pairs, both lists of listings lead to the same best
-abbrev pub SameBest : Pairs → List Listing → List Listing → Type 0
-SameBest pairs xs ys = (who : List ℕ) (users : List User) (best : Option Winner) → pairs ≡ text_signature who
-    → after_listings who users xs best ≡ after_listings who users ys best
+abbrev pub SameBest : Casemapping → Pairs → List Listing → List Listing → Type 0
+SameBest mapping pairs xs ys = (who : List ℕ) (users : List User) (best : Option Winner) → pairs ≡ text_signature who
+    → after_listings mapping who users xs best ≡ after_listings mapping who users ys best
 
 -- the user of the best
 abbrev pub user_at : List User → Option Winner → Option User

@@ -2,8 +2,9 @@
 ghost use Rattle.std.specs.Prelude.{◌≡◌, ◌+◌, ◌*◌, ◌<◌, ◌≤◌};
 
 use crate::hostmask::Hostmask;
-use crate::texts::is_same;
+use crate::texts::{is_same, same_by};
 use bytetext::{NoMemory, Text, TryCopy};
+use rfccase::Casemapping;
 use std::alloc::Global;
 
 /// A ban of the persons that a hostmask matches, on one channel or on all.
@@ -50,22 +51,28 @@ impl Ban {
     }
 
     // Whether the ban keeps this person off the channel at that second.
-    pub(crate) fn bars(&self, channel: &[u8], who: &[u8], now: u64) -> bool
-        ensures { result ≡ bars channel.now who.now now self.now }
+    pub(crate) fn bars(&self, mapping: Casemapping, channel: &[u8], who: &[u8], now: u64) -> bool
+        ensures { result ≡ bars mapping channel.now who.now now self.now }
     {
-        (self.channel.is_empty() || is_same(channel, self.channel.as_bytes()))
+        (self.channel.is_empty() || same_by(mapping, channel, self.channel.as_bytes()))
             && (self.expires == 0 || now < self.expires)
-            && self.mask.matches(who)
+            && self.mask.matches(mapping, who)
     }
 
     // Whether the ban comes back to the channel at that second if somebody removes this mask from it.
-    pub(crate) fn returns_to(&self, channel: &[u8], mask: &[u8], now: u64) -> bool
-        ensures { result ≡ returns_to channel.now mask.now now self.now }
+    pub(crate) fn returns_to(
+        &self,
+        mapping: Casemapping,
+        channel: &[u8],
+        mask: &[u8],
+        now: u64,
+    ) -> bool
+        ensures { result ≡ returns_to mapping channel.now mask.now now self.now }
     {
         self.sticky
-            && (self.channel.is_empty() || is_same(channel, self.channel.as_bytes()))
+            && (self.channel.is_empty() || same_by(mapping, channel, self.channel.as_bytes()))
             && (self.expires == 0 || now < self.expires)
-            && is_same(mask, self.mask.as_bytes())
+            && same_by(mapping, mask, self.mask.as_bytes())
     }
 }
 

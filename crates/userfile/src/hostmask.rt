@@ -4,6 +4,7 @@ ghost use Rattle.userfile.specs.Held.{has_mask, masks_without};
 
 use crate::texts::is_same;
 use bytetext::{NoMemory, TryCopy, copies_of};
+use rfccase::Casemapping;
 use std::alloc::Global;
 use std::marker::Model;
 use wildmask::{Mask, MaskError, Signature, Tail};
@@ -27,7 +28,7 @@ impl Model for Hostmask {
 
 impl Hostmask {
     ghost use Rattle.std.specs.Prelude.{◌≡◌, ◌↔◌, ◌≤◌, IsTrue, true, length};
-    ghost use Rattle.wildmask.specs.Masks.{host_mask, IsMatch};
+    ghost use Rattle.wildmask.specs.Masks.{host_mask, IsMatchBy};
     ghost use Rattle.userfile.specs.Shapes.{is_hostmask};
     ghost use Rattle.userfile.specs.Hostmasks.{MakesHostmask, is_match, literals, mask_tail, mask_pairs};
 
@@ -50,12 +51,13 @@ impl Hostmask {
         self.mask.text()
     }
 
-    /// Returns whether the mask matches the person `who`.
-    pub fn matches(&self, who: &[u8]) -> bool
-        ensures relation { IsTrue result ↔ IsMatch (host_mask self.now) who.now }
-        ensures test { result ≡ is_match self.now who.now }
+    /// Returns whether the mask matches the person `who`. Letters are compared by `mapping`, the casemapping of the
+    /// person's server.
+    pub fn matches(&self, mapping: Casemapping, who: &[u8]) -> bool
+        ensures relation { IsTrue result ↔ IsMatchBy mapping (host_mask self.now) who.now }
+        ensures test { result ≡ is_match mapping self.now who.now }
     {
-        self.mask.matches(who)
+        self.mask.matches_by(mapping, who)
     }
 
     // The mask's tail.

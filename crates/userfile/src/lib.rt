@@ -8,7 +8,8 @@
 //! [`Userfile::ready`] allocates all memory that the change needs, or fails. Then [`Update::commit`] makes the change
 //! without allocating, or [`Update::cancel`] rolls it back if it could not be written.
 //!
-//! Handles, hostmasks and channels are compared by casemapping (RFC 2812 section 2.2) and kept as they were given.
+//! Handles, hostmasks and channels are compared by casemapping (RFC 2812 section 2.2) and kept as they were given. The
+//! look-ups of a person and of a ban take the casemapping of the person's server, which may be a stricter one.
 //! [`Userfile::handle_of`] says who a person is, written as `nick!user@host`: of all hostmasks that match, the one with
 //! most literals decides, then the earlier user, then the earlier mask. [`Userfile::flags_of`] returns a user's flags,
 //! [`Userfile::info_of`] the info text, [`Userfile::ban_for`] the first ban that keeps a person off a channel, and
@@ -19,7 +20,7 @@
 //! let mut userfile = Userfile::new(alloc);
 //! userfile.apply(alloc, &Change::AddUser { handle })?;
 //! userfile.apply(alloc, &Change::AddHost { handle, mask })?;
-//! userfile.handle_of(b"nick!user@host")
+//! userfile.handle_of(mapping, b"nick!user@host")
 //!
 //! let update = userfile.ready(alloc, &change)?;   // all that the change takes
 //! if let Err(refused) = journal.append(entry) {   // what has to be written first
@@ -43,6 +44,7 @@ mod gather;
 mod hostmask;
 mod index;
 mod indexing;
+mod laws;
 mod limits;
 mod persons;
 mod plan;
@@ -61,6 +63,7 @@ pub use crate::error::{ChangeError, ChangeFault};
 pub use crate::expiry::expires_at;
 pub use crate::flags::PersonFlags;
 pub use crate::hostmask::{Hostmask, Hostmasks};
+pub use crate::laws::laws_of_casemappings;
 pub use crate::limits::{
     MAX_BANS, MAX_CHANNELS, MAX_COMMENT, MAX_HANDLE, MAX_INFO, MAX_MASKS, MAX_USERS,
 };

@@ -3,6 +3,7 @@ ghost use Rattle.std.specs.Prelude.{◌≡◌, ◌≤◌, ◌&&◌, ℕ, List, N
 ghost use Rattle.std.specs.List.{list_any};
 ghost use Rattle.std.specs.Option.{option_copied};
 ghost use Rattle.indexmap.specs.IndexMap.{values};
+ghost use Rattle.rfccase.specs.declared.casemappings.Casemapping.{Casemapping};
 ghost use Rattle.wildmask.specs.Signatures.{text_signature};
 ghost use Rattle.userfile.specs.Hostmasks.{is_match};
 ghost use Rattle.userfile.specs.Index.{IsIndexOf, asked, is_of};
@@ -13,6 +14,7 @@ use crate::hostmask::Hostmask;
 use crate::index::{Listing, TAIL_LENGTHS, TailIndex, listings_of};
 use crate::user::User;
 use indexmap::IndexMap;
+use rfccase::Casemapping;
 use wildmask::Signature;
 
 // The best claim to be a person: the number of the mask's literals, and the position of its user.
@@ -24,14 +26,15 @@ pub(crate) struct Winner {
 
 // The user whose hostmask decides who a person is.
 pub(crate) fn user_for<'a>(
+    mapping: Casemapping,
     users: &'a IndexMap<Vec<u8>, User>,
     index: &TailIndex,
     who: &[u8],
 ) -> Option<&'a User>
     requires { IsIndexOf index.now (values users.now) }
-    ensures { option_copied result ≡ user_for who.now (values users.now) }
+    ensures { option_copied result ≡ user_for mapping who.now (values users.now) }
 {
-    user_at(users, best_claim(users, index, who))
+    user_at(users, best_claim(mapping, users, index, who))
 }
 
 // The user of the best claim.
@@ -48,19 +51,32 @@ fn user_at<'a>(users: &'a IndexMap<Vec<u8>, User>, best: Option<Winner>) -> Opti
 }
 
 // The best claim of the masks that the index has under any end of the person's text.
-fn best_claim(users: &IndexMap<Vec<u8>, User>, index: &TailIndex, who: &[u8]) -> Option<Winner>
-    ensures { result ≡ after_listings who.now (values users.now) (asked index.now who.now 17) None }
+fn best_claim(
+    mapping: Casemapping,
+    users: &IndexMap<Vec<u8>, User>,
+    index: &TailIndex,
+    who: &[u8],
+) -> Option<Winner>
+    ensures { result ≡ after_listings mapping who.now (values users.now) (asked index.now who.now 17) None }
 {
     let pairs = Signature::of(who);
     let mut best = None;
     for len in 0..TAIL_LENGTHS {
-        best = best_of_group(best, users, listings_of(index, who, len), who, pairs);
+        best = best_of_group(
+            mapping,
+            best,
+            users,
+            listings_of(index, who, len),
+            who,
+            pairs,
+        );
     }
     best
 }
 
 // The best of the best claim so far and the claims of these listings.
 fn best_of_group(
+    mapping: Casemapping,
     best: Option<Winner>,
     users: &IndexMap<Vec<u8>, User>,
     group: &[Listing],
@@ -68,12 +84,12 @@ fn best_of_group(
     pairs: Signature,
 ) -> Option<Winner>
     requires { pairs ≡ text_signature who.now }
-    ensures { result ≡ after_listings who.now (values users.now) group.now best }
+    ensures { result ≡ after_listings mapping who.now (values users.now) group.now best }
 {
     let mut so_far = best;
     let mut rest = group;
     while let [listing, others @ ..] = from_first_within(rest, pairs) {
-        if may_win(listing, so_far, pairs) && has_match(users, listing, who) {
+        if may_win(listing, so_far, pairs) && has_match(mapping, users, listing, who) {
             so_far = Some(Winner {
                 literals: listing.literals,
                 place: listing.place,
@@ -87,7 +103,7 @@ fn best_of_group(
 // The listings from the first one whose pairs the person's text has. Most of a large group is skipped here, in a loop
 // of its own for speed.
 fn from_first_within(group: &[Listing], pairs: Signature) -> &[Listing]
-    ensures same { SameBest pairs result.now group.now }
+    ensures same { (mapping : Casemapping) → SameBest mapping pairs result.now group.now }
     ensures shorter { length result.now ≤ length group.now }
 {
     let mut rest = group;
@@ -109,22 +125,27 @@ fn may_win(listing: &Listing, best: Option<Winner>, pairs: Signature) -> bool
 }
 
 // Whether one of the masks of a listing matches the person.
-fn has_match(users: &IndexMap<Vec<u8>, User>, listing: &Listing, who: &[u8]) -> bool
-    ensures { result ≡ has_match who.now listing.now (slice_get (values users.now) listing.now.place) }
+fn has_match(
+    mapping: Casemapping,
+    users: &IndexMap<Vec<u8>, User>,
+    listing: &Listing,
+    who: &[u8],
+) -> bool
+    ensures { result ≡ has_match mapping who.now listing.now (slice_get (values users.now) listing.now.place) }
 {
     match users.get_index(listing.place) {
-        Some((_, user)) => one_matches(user.masks.as_slice(), listing, who),
+        Some((_, user)) => one_matches(mapping, user.masks.as_slice(), listing, who),
         None => false,
     }
 }
 
 // Whether any of these masks, those of the listing's user, belongs to the listing and matches the person.
-fn one_matches(masks: &[Hostmask], listing: &Listing, who: &[u8]) -> bool
-    ensures { result ≡ list_any (λ mask. is_of listing.now mask && is_match mask who.now) masks.now }
+fn one_matches(mapping: Casemapping, masks: &[Hostmask], listing: &Listing, who: &[u8]) -> bool
+    ensures { result ≡ list_any (λ mask. is_of listing.now mask && is_match mapping mask who.now) masks.now }
 {
     masks
         .iter()
-        .any(|mask| listing.is_of(mask) && mask.matches(who))
+        .any(|mask| listing.is_of(mask) && mask.matches(mapping, who))
 }
 
 // Whether a mask with `literals` literals, of the user at position `place`, is better than the best claim so far.

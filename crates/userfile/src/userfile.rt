@@ -17,6 +17,7 @@ use crate::together::records_fault;
 use crate::user::User;
 use bytetext::{NoMemory, TryCopy, copies_of, refuse};
 use indexmap::IndexMap;
+use rfccase::Casemapping;
 use std::alloc::Global;
 use std::marker::Model;
 
@@ -138,12 +139,13 @@ impl Userfile {
     }
 
     /// Returns the handle of the person `who`, written as `nick!user@host`. Of all hostmasks that match, the one with
-    /// most literals decides, then the earlier user, then the earlier mask. Returns `*` if none matches.
-    pub fn handle_of(&self, who: &[u8]) -> &[u8]
-        ensures value { result.now ≡ handle_of self.now.users who.now }
-        ensures decides { IsHandleFor self.now.users who.now result.now }
+    /// most literals decides, then the earlier user, then the earlier mask. Returns `*` if none matches. `mapping` is
+    /// the casemapping of the person's server, by which masks match.
+    pub fn handle_of(&self, mapping: Casemapping, who: &[u8]) -> &[u8]
+        ensures value { result.now ≡ handle_of mapping self.now.users who.now }
+        ensures decides { IsHandleFor mapping self.now.users who.now result.now }
     {
-        match user_for(&self.users, &self.index, who) {
+        match user_for(mapping, &self.users, &self.index, who) {
             Some(user) => user.handle.as_bytes(),
             None => b"*",
         }
@@ -172,22 +174,37 @@ impl Userfile {
     }
 
     /// Returns the first ban that keeps the person `who`, written as `nick!user@host`, off `channel` at the second
-    /// `now`: the ban is of that channel or of all, its mask matches, and it has not ended.
-    pub fn ban_for(&self, channel: &[u8], who: &[u8], now: u64) -> Option<&Ban>
-        ensures { option_copied result ≡ ban_for self.now.bans channel.now who.now now }
-    {
-        self.bans.iter().find(|ban| ban.bars(channel, who, now))
-    }
-
-    /// Returns the first ban that comes back to `channel` if somebody removes `mask` from it at the second `now`: the
-    /// ban is sticky, of that channel or of all, it has not ended, and its mask equals `mask` by casemapping. Does
-    /// not allocate.
-    pub fn sticky_ban(&self, channel: &[u8], mask: &[u8], now: u64) -> Option<&Ban>
-        ensures { option_copied result ≡ sticky_ban self.now.bans channel.now mask.now now }
+    /// `now`: the ban is of that channel or of all, its mask matches, and it has not ended. Channel and mask are
+    /// compared by `mapping`, the casemapping of the person's server.
+    pub fn ban_for(
+        &self,
+        mapping: Casemapping,
+        channel: &[u8],
+        who: &[u8],
+        now: u64,
+    ) -> Option<&Ban>
+        ensures { option_copied result ≡ ban_for mapping self.now.bans channel.now who.now now }
     {
         self.bans
             .iter()
-            .find(|ban| ban.returns_to(channel, mask, now))
+            .find(|ban| ban.bars(mapping, channel, who, now))
+    }
+
+    /// Returns the first ban that comes back to `channel` if somebody removes `mask` from it at the second `now`: the
+    /// ban is sticky, of that channel or of all, it has not ended, and its mask equals `mask`. Channel and mask are
+    /// compared by `mapping`, the casemapping of the channel's server. Does not allocate.
+    pub fn sticky_ban(
+        &self,
+        mapping: Casemapping,
+        channel: &[u8],
+        mask: &[u8],
+        now: u64,
+    ) -> Option<&Ban>
+        ensures { option_copied result ≡ sticky_ban mapping self.now.bans channel.now mask.now now }
+    {
+        self.bans
+            .iter()
+            .find(|ban| ban.returns_to(mapping, channel, mask, now))
     }
 
     /// Returns the first refusal that applies to `change`, without making it. Does not allocate.

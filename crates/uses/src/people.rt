@@ -1,14 +1,17 @@
 // Who a person is.
 use anyhow::Error;
 use bytetext::Text;
+use rfccase::Casemapping;
 use std::alloc::Global;
 use userfile::{Change, Userfile};
 
-/// Returns the length of the handle of somebody who writes from a host, by the hostmask that decides.
+/// Returns the length of the handle of somebody who writes from a host, by the hostmask that decides, on a server that
+/// compares names as RFC 1459 does.
 pub fn deciding_handle(alloc: Global) -> Result<usize, Error> {
     let mut userfile = Userfile::new(alloc);
     add_both(alloc, &mut userfile)?;
-    Ok(userfile.handle_of(b"Bobby!bob@a.net").len())
+    let who = b"Bobby!bob@a.net";
+    Ok(userfile.handle_of(Casemapping::Rfc1459, who).len())
 }
 
 // Adds a user whom any host matches, and one whose hostmask has more letters.

@@ -7,7 +7,9 @@
 //! |---|---|
 //! | `fold TEXT` | the text's lower case |
 //! | `same TEXT TEXT` | `same` or `not same` |
+//! | `foldby MAPPING TEXT`, `sameby MAPPING TEXT TEXT` | as `fold` and `same`, by the casemapping that a server names so |
 //! | `mask bind\|host MASK TEXT` | `match` or `no match`, or the code of why the mask is refused |
+//! | `maskby MAPPING bind\|host MASK TEXT` | as `mask`, by the casemapping that a server names so |
 //! | `literals bind\|host MASK` | how many literals the mask has, or the code of why it is refused |
 //! | `loose MASK` | the warning of a loose hostmask, or `not loose` |
 //! | `flags EXPR GLOBAL CHAN BOT` | `met` or `not met`, or the code of the first word that is refused |
@@ -38,6 +40,7 @@
 //! | `ban CHANNEL WHO MOMENT CHANGE..` | channel (`*` for all) and mask of the ban that keeps WHO off, or `no ban` |
 //! | `info HANDLE CHANGE..` | the user's info text between quotes, empty for no user |
 //! | `sticky CHANNEL MASK MOMENT CHANGE..` | channel and mask of the ban set again if MASK is removed, or `no ban` |
+//! | `personby MAPPING ..`, `banby MAPPING ..`, `stickyby MAPPING ..` | as `person`, `ban` and `sticky`, by the casemapping that a server names so |
 //! | `chan NICK LINE.. members CHANNEL` | the members in order, each as `@%+nick!user@host`, or `nobody` |
 //! | `chan NICK LINE.. topic CHANNEL` | `topic 'TEXT'` or `not held` |
 //! | `chan NICK LINE.. op CHANNEL NICK` | `op` or `no op` |

@@ -2,6 +2,7 @@
 use bytetext::{Text, TryCopy};
 use caselines::{BAD_WORDS, CaseError, Sink};
 use loosemask::looseness_of;
+use rfccase::Casemapping;
 use std::alloc::Global;
 use wildmask::{Mask, MaskError, MaskFault, bind_fault, host_fault};
 
@@ -12,14 +13,32 @@ pub fn mask(alloc: Global, words: &[Text], out: &mut Sink) -> Result<(), CaseErr
         return Err(BAD_WORDS);
     };
     match made(alloc, kind, mask) {
-        Ok(mask) => match mask.copy(alloc)?.matches(text.as_bytes()) {
-            true => out.put(b"match"),
-            false => out.put(b"no match"),
-        },
+        Ok(mask) => put_match(mask.copy(alloc)?.matches(text.as_bytes()), out),
         Err(MaskError::Refused(fault)) => out.put(fault.code().as_bytes()),
         Err(MaskError::NoMemory) => return Err(CaseError::NoMemory),
     }
     Ok(())
+}
+
+/// Answers `maskby MAPPING bind|host MASK TEXT` on `out`: the same by a server's casemapping.
+pub fn mask_by(alloc: Global, words: &[Text], out: &mut Sink) -> Result<(), CaseError> {
+    let [mapping, kind, mask, text] = words else {
+        return Err(BAD_WORDS);
+    };
+    let mapping = Casemapping::named(mapping.as_bytes());
+    match made(alloc, kind, mask) {
+        Ok(mask) => put_match(mask.copy(alloc)?.matches_by(mapping, text.as_bytes()), out),
+        Err(MaskError::Refused(fault)) => out.put(fault.code().as_bytes()),
+        Err(MaskError::NoMemory) => return Err(CaseError::NoMemory),
+    }
+    Ok(())
+}
+
+fn put_match(is_match: bool, out: &mut Sink) {
+    match is_match {
+        true => out.put(b"match"),
+        false => out.put(b"no match"),
+    }
 }
 
 /// Answers `literals bind|host MASK` on `out`: how many literals the mask has, or the code of why it is refused.

@@ -2,18 +2,37 @@
 use crate::changes::make_all;
 use bytetext::Text;
 use caselines::{BAD_WORDS, CaseError, Sink, number};
+use rfccase::Casemapping;
 use std::alloc::Global;
 use userfile::{Ban, PersonFlags, Userfile};
 
 /// Answers `person WHO CHANGE..` on `out`: the handle of the person WHO, or the code of the first change that is
 /// refused.
 pub fn person(alloc: Global, words: &[Text], out: &mut Sink) -> Result<(), CaseError> {
+    known(alloc, Casemapping::Rfc1459, words, out)
+}
+
+/// Answers `personby MAPPING WHO CHANGE..` on `out`: the same by a server's casemapping.
+pub fn person_by(alloc: Global, words: &[Text], out: &mut Sink) -> Result<(), CaseError> {
+    let [mapping, words @ ..] = words else {
+        return Err(BAD_WORDS);
+    };
+    known(alloc, Casemapping::named(mapping.as_bytes()), words, out)
+}
+
+// Answers the handle of the first word, after the changes of the other words.
+fn known(
+    alloc: Global,
+    mapping: Casemapping,
+    words: &[Text],
+    out: &mut Sink,
+) -> Result<(), CaseError> {
     let [who, changes @ ..] = words else {
         return Err(BAD_WORDS);
     };
     let mut userfile = Userfile::new(alloc);
     match make_all(alloc, &mut userfile, changes)? {
-        None => out.put(userfile.handle_of(who.as_bytes())),
+        None => out.put(userfile.handle_of(mapping, who.as_bytes())),
         Some(fault) => out.put(fault.code().as_bytes()),
     }
     Ok(())
@@ -40,6 +59,24 @@ pub fn user_flags(alloc: Global, words: &[Text], out: &mut Sink) -> Result<(), C
 /// Answers `ban CHANNEL WHO MOMENT CHANGE..` on `out`: the first ban that keeps this person off the channel at this
 /// second, or the code of the first change that is refused.
 pub fn ban(alloc: Global, words: &[Text], out: &mut Sink) -> Result<(), CaseError> {
+    banned(alloc, Casemapping::Rfc1459, words, out)
+}
+
+/// Answers `banby MAPPING CHANNEL WHO MOMENT CHANGE..` on `out`: the same by a server's casemapping.
+pub fn ban_by(alloc: Global, words: &[Text], out: &mut Sink) -> Result<(), CaseError> {
+    let [mapping, words @ ..] = words else {
+        return Err(BAD_WORDS);
+    };
+    banned(alloc, Casemapping::named(mapping.as_bytes()), words, out)
+}
+
+// Answers the ban of the first three words, after the changes of the other words.
+fn banned(
+    alloc: Global,
+    mapping: Casemapping,
+    words: &[Text],
+    out: &mut Sink,
+) -> Result<(), CaseError> {
     let [channel, who, moment, changes @ ..] = words else {
         return Err(BAD_WORDS);
     };
@@ -47,7 +84,7 @@ pub fn ban(alloc: Global, words: &[Text], out: &mut Sink) -> Result<(), CaseErro
     let mut userfile = Userfile::new(alloc);
     match make_all(alloc, &mut userfile, changes)? {
         None => ban_shown(
-            userfile.ban_for(channel.as_bytes(), who.as_bytes(), moment),
+            userfile.ban_for(mapping, channel.as_bytes(), who.as_bytes(), moment),
             out,
         ),
         Some(fault) => out.put(fault.code().as_bytes()),
@@ -76,6 +113,24 @@ pub fn info(alloc: Global, words: &[Text], out: &mut Sink) -> Result<(), CaseErr
 /// Answers `sticky CHANNEL MASK MOMENT CHANGE..` on `out`: the first ban that comes back to the channel at this second
 /// if the mask is removed from it, or the code of the first change that is refused.
 pub fn sticky(alloc: Global, words: &[Text], out: &mut Sink) -> Result<(), CaseError> {
+    set_again(alloc, Casemapping::Rfc1459, words, out)
+}
+
+/// Answers `stickyby MAPPING CHANNEL MASK MOMENT CHANGE..` on `out`: the same by a server's casemapping.
+pub fn sticky_by(alloc: Global, words: &[Text], out: &mut Sink) -> Result<(), CaseError> {
+    let [mapping, words @ ..] = words else {
+        return Err(BAD_WORDS);
+    };
+    set_again(alloc, Casemapping::named(mapping.as_bytes()), words, out)
+}
+
+// Answers the sticky ban of the first three words, after the changes of the other words.
+fn set_again(
+    alloc: Global,
+    mapping: Casemapping,
+    words: &[Text],
+    out: &mut Sink,
+) -> Result<(), CaseError> {
     let [channel, mask, moment, changes @ ..] = words else {
         return Err(BAD_WORDS);
     };
@@ -83,7 +138,7 @@ pub fn sticky(alloc: Global, words: &[Text], out: &mut Sink) -> Result<(), CaseE
     let mut userfile = Userfile::new(alloc);
     match make_all(alloc, &mut userfile, changes)? {
         None => ban_shown(
-            userfile.sticky_ban(channel.as_bytes(), mask.as_bytes(), moment),
+            userfile.sticky_ban(mapping, channel.as_bytes(), mask.as_bytes(), moment),
             out,
         ),
         Some(fault) => out.put(fault.code().as_bytes()),

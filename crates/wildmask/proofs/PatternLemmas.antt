@@ -10,22 +10,23 @@ use Rattle.wildmask.specs.Tails.{bytes_of, end_key, front_len, tail_of}
 use Rattle.wildmask.specs.Walks.{AllLower, AllOne}
 use Rattle.wildmask.proofs.RunLemmas.{AllLower-left, AllLower-right, items_in-split}
 use Rattle.wildmask.proofs.TailLemmas.{is_literal-lower, AllLiteral, AllOne-literal, last_literals, bytes_of-literals}
+use Rattle.rfccase.specs.declared.casemappings.Casemapping.{Casemapping}
 
-pub one_code_more : (codes : List ℕ) (len code : ℕ) (item : Item) (rest others all : List Item) → len < length codes → decoded code ≡ lower item
-    → rest ≡ item ∷ others → items_in (take len codes) ++ map lower rest ≡ all
-    → items_in (take (len + 1) (set codes len code)) ++ map lower others ≡ all
-one_code_more codes len code item rest others all within is first so_far =
-    ap (λ xs. items_in xs ++ map lower others) (take_more_set codes len code within)
-    ∙ ap (λ xs. xs ++ map lower others) (map-append decoded (take len codes) (code ∷ []))
-    ∙ append_assoc (items_in (take len codes)) (decoded code ∷ []) (map lower others)
-    ∙ ap (λ i. items_in (take len codes) ++ i ∷ map lower others) is
-    ∙ ap (λ xs. items_in (take len codes) ++ map lower xs) (sym first)
+pub one_code_more : (mapping : Casemapping) (codes : List ℕ) (len code : ℕ) (item : Item) (rest others all : List Item) → len < length codes → decoded code ≡ lower mapping item
+    → rest ≡ item ∷ others → items_in (take len codes) ++ map (lower mapping) rest ≡ all
+    → items_in (take (len + 1) (set codes len code)) ++ map (lower mapping) others ≡ all
+one_code_more mapping codes len code item rest others all within is first so_far =
+    ap (λ xs. items_in xs ++ map (lower mapping) others) (take_more_set codes len code within)
+    ∙ ap (λ xs. xs ++ map (lower mapping) others) (map-append decoded (take len codes) (code ∷ []))
+    ∙ append_assoc (items_in (take len codes)) (decoded code ∷ []) (map (lower mapping) others)
+    ∙ ap (λ i. items_in (take len codes) ++ i ∷ map (lower mapping) others) is
+    ∙ ap (λ xs. items_in (take len codes) ++ map (lower mapping) xs) (sym first)
     ∙ so_far
 
-pub no_code_more : (codes : List ℕ) (len : ℕ) (rest all : List Item) → rest ≡ [] → items_in (take len codes) ++ map lower rest ≡ all
+pub no_code_more : (mapping : Casemapping) (codes : List ℕ) (len : ℕ) (rest all : List Item) → rest ≡ [] → items_in (take len codes) ++ map (lower mapping) rest ≡ all
     → items_in (take len codes) ≡ all
-no_code_more codes len rest all none so_far = sym (append-nil (items_in (take len codes)))
-    ∙ ap (λ xs. items_in (take len codes) ++ map lower xs) (sym none) ∙ so_far
+no_code_more mapping codes len rest all none so_far = sym (append-nil (items_in (take len codes)))
+    ∙ ap (λ xs. items_in (take len codes) ++ map (lower mapping) xs) (sym none) ∙ so_far
 
 -- the codes after the last special item
 pub end_is_literal : (codes end : List ℕ) (front : ℕ) → front ≡ front_len (items_in codes) → end ≡ drop front codes → AllLiteral (items_in end)
@@ -41,15 +42,15 @@ pub parts_are : (codes first end : List ℕ) (front : ℕ) → first ≡ take fr
 parts_are codes first end front before after = items_in-split codes front ∙ ap (λ xs. items_in xs ++ items_in (drop front codes)) (sym before)
     ∙ ap (λ xs. items_in first ++ items_in xs) (sym after)
 
-pub first_is_lower : (codes first end : List ℕ) (front : ℕ) → first ≡ take front codes → end ≡ drop front codes → AllLower (items_in codes)
-    → AllLower (items_in first)
-first_is_lower codes first end front before after all =
-    AllLower-left (items_in first) (items_in end) (subst AllLower (parts_are codes first end front before after) all)
+pub first_is_lower : (mapping : Casemapping) (codes first end : List ℕ) (front : ℕ) → first ≡ take front codes → end ≡ drop front codes → AllLower mapping (items_in codes)
+    → AllLower mapping (items_in first)
+first_is_lower mapping codes first end front before after all =
+    AllLower-left mapping (items_in first) (items_in end) (subst (AllLower mapping) (parts_are codes first end front before after) all)
 
-pub end_is_lower : (codes first end : List ℕ) (front : ℕ) → first ≡ take front codes → end ≡ drop front codes → AllLower (items_in codes)
-    → AllLower (items_in end)
-end_is_lower codes first end front before after all =
-    AllLower-right (items_in first) (items_in end) (subst AllLower (parts_are codes first end front before after) all)
+pub end_is_lower : (mapping : Casemapping) (codes first end : List ℕ) (front : ℕ) → first ≡ take front codes → end ≡ drop front codes → AllLower mapping (items_in codes)
+    → AllLower mapping (items_in end)
+end_is_lower mapping codes first end front before after all =
+    AllLower-right mapping (items_in first) (items_in end) (subst (AllLower mapping) (parts_are codes first end front before after) all)
 
 -- the key of the last codes is the tail
 pub tail_is : (codes : List ℕ) (len front : ℕ) → front ≤ len → front ≡ front_len (items_in (take len codes))
@@ -67,11 +68,11 @@ tail_is codes len front within is =
 
 -- ---- lower cases
 
-count_from-lower : (a : ℕ) (items : List Item) → fold (λ n item. n + cond (is_literal item) 1 0) a (map lower items)
+count_from-lower : (mapping : Casemapping) (a : ℕ) (items : List Item) → fold (λ n item. n + cond (is_literal item) 1 0) a (map (lower mapping) items)
     ≡ fold (λ n item. n + cond (is_literal item) 1 0) a items
-count_from-lower a [] = refl
-count_from-lower a (item ∷ items) = ap (λ b. fold (λ n i. n + cond (is_literal i) 1 0) (a + cond b 1 0) (map lower items)) (is_literal-lower item)
-    ∙ count_from-lower (a + cond (is_literal item) 1 0) items
+count_from-lower mapping a [] = refl
+count_from-lower mapping a (item ∷ items) = ap (λ b. fold (λ n i. n + cond (is_literal i) 1 0) (a + cond b 1 0) (map (lower mapping) items)) (is_literal-lower mapping item)
+    ∙ count_from-lower mapping (a + cond (is_literal item) 1 0) items
 
-pub count-lower : (items : List Item) → count_by is_literal (map lower items) ≡ count_by is_literal items
-count-lower items = count_from-lower 0 items
+pub count-lower : (mapping : Casemapping) (items : List Item) → count_by is_literal (map (lower mapping) items) ≡ count_by is_literal items
+count-lower mapping items = count_from-lower mapping 0 items

@@ -10,7 +10,8 @@ use Rattle.wildmask.specs.declared.items.Item.TheVariants.{Literal, AnyByte, Any
 use Rattle.wildmask.specs.Codes.{lower, decoded, items_in}
 use Rattle.wildmask.specs.Matching.{Takes, Matches}
 use Rattle.wildmask.specs.Signatures.{Pairs, no_pairs, either, pair, pairs_of, text_signature, needed, items_signature, is_within, same_pairs}
-use Rattle.wildmask.proofs.MatchLemmas.{low-low}
+use Rattle.rfccase.proofs.SameLemmas.{low-low}
+use Rattle.rfccase.specs.declared.casemappings.Casemapping.TheVariants.{Rfc1459}
 
 -- each bit of the first is one of the second
 abbrev HasBits : ℕ → ℕ → Type 0
@@ -76,12 +77,12 @@ pairs_of-drop (suc cut) (x ∷ []) = by cut
 pairs_of-drop (suc cut) (x ∷ y ∷ text) = or_right _ (pair (low x) (low y)) (pairs_of (folded (y ∷ text))) (pairs_of-drop cut (y ∷ text))
 
 -- two literals in front of a mask that matches are a pair of the text
-first_pair : (a b : ℕ) (items : List Item) (text : List ℕ) → Matches (Literal a ∷ Literal b ∷ items) text
+first_pair : (a b : ℕ) (items : List Item) (text : List ℕ) → Matches Rfc1459 (Literal a ∷ Literal b ∷ items) text
     → IsWithin (pair (low a) (low b)) (text_signature text)
 first_pair a b items text m = by text m.0 m.1.0 m.1.1 m.1.2.0 m.1.2.1.0 m.1.2.1.1
   where
-    by : (text : List ℕ) (k : ℕ) → k ≤ length text → Takes (Literal a) (take k text) → (j : ℕ) → j ≤ length (drop k text)
-        → Takes (Literal b) (take j (drop k text)) → IsWithin (pair (low a) (low b)) (text_signature text)
+    by : (text : List ℕ) (k : ℕ) → k ≤ length text → Takes Rfc1459 (Literal a) (take k text) → (j : ℕ) → j ≤ length (drop k text)
+        → Takes Rfc1459 (Literal b) (take j (drop k text)) → IsWithin (pair (low a) (low b)) (text_signature text)
     by [] zero within first j early second = cc
     by [] (suc k) within first j early second = absurd (omega arith)
     by (x ∷ text) zero within first j early second = cc
@@ -96,7 +97,7 @@ first_pair a b items text m = by text m.0 m.1.0 m.1.1 m.1.2.0 m.1.2.1.0 m.1.2.1.
     by (x ∷ []) (suc (suc k)) within first j early second = absurd (omega arith)
     by (x ∷ y ∷ text) (suc (suc k)) within first j early second = cc
 
-needed_within : (x y : Item) (items : List Item) (text : List ℕ) → Matches (x ∷ y ∷ items) text → IsWithin (needed x y) (text_signature text)
+needed_within : (x y : Item) (items : List Item) (text : List ℕ) → Matches Rfc1459 (x ∷ y ∷ items) text → IsWithin (needed x y) (text_signature text)
 needed_within (Literal a) (Literal b) items text m = first_pair a b items text m
 needed_within (Literal a) AnyByte items text m = none_within (text_signature text)
 needed_within (Literal a) AnyText items text m = none_within (text_signature text)
@@ -107,15 +108,15 @@ needed_within AnyText y items text m = none_within (text_signature text)
 needed_within NoSpace y items text m = none_within (text_signature text)
 needed_within Spaces y items text m = none_within (text_signature text)
 
-pub signature_within : (items : List Item) (text : List ℕ) → Matches items text → IsWithin (items_signature items) (text_signature text)
+pub signature_within : (items : List Item) (text : List ℕ) → Matches Rfc1459 items text → IsWithin (items_signature items) (text_signature text)
 signature_within [] text m = none_within (text_signature text)
 signature_within (x ∷ []) text m = none_within (text_signature text)
 signature_within (x ∷ y ∷ items) text m =
     or_within (needed x y) (items_signature (y ∷ items)) (text_signature text) (needed_within x y items text m)
     (within_trans _ (text_signature (drop m.0 text)) _ (signature_within (y ∷ items) (drop m.0 text) m.1.2) (pairs_of-drop m.0 text))
 
--- the lower cases of literals need the same
-needed-lower : (x y : Item) → needed (lower x) (lower y) ≡ needed x y
+-- the (lower Rfc1459) cases of literals need the same
+needed-lower : (x y : Item) → needed (lower Rfc1459 x) (lower Rfc1459 y) ≡ needed x y
 needed-lower (Literal a) (Literal b) = ap (λ i. pair i (low (low b))) (low-low a) ∙ ap (λ i. pair (low a) i) (low-low b)
 needed-lower (Literal a) AnyByte = refl
 needed-lower (Literal a) AnyText = refl
@@ -126,10 +127,10 @@ needed-lower AnyText y = refl
 needed-lower NoSpace y = refl
 needed-lower Spaces y = refl
 
-pub items_signature-lower : (items : List Item) → items_signature (map lower items) ≡ items_signature items
+pub items_signature-lower : (items : List Item) → items_signature (map (lower Rfc1459) items) ≡ items_signature items
 items_signature-lower [] = refl
 items_signature-lower (x ∷ []) = refl
-items_signature-lower (x ∷ y ∷ items) = ap (λ n. either n (items_signature (map lower (y ∷ items)))) (needed-lower x y)
+items_signature-lower (x ∷ y ∷ items) = ap (λ n. either n (items_signature (map (lower Rfc1459) (y ∷ items)))) (needed-lower x y)
     ∙ ap (λ n. either (needed x y) n) (items_signature-lower (y ∷ items))
 
 -- ---- when two sets are one

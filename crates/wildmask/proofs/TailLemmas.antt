@@ -12,7 +12,10 @@ use Rattle.wildmask.specs.Codes.{lower, decoded, items_in}
 use Rattle.wildmask.specs.Matching.{Takes, Matches}
 use Rattle.wildmask.specs.Tails.{last, padded, bytes_of, end_key, front_len, tail_of}
 use Rattle.wildmask.specs.Walks.{AllOne}
-use Rattle.wildmask.proofs.MatchLemmas.{low-low, literal_code, run_last}
+use Rattle.rfccase.proofs.SameLemmas.{low-low}
+use Rattle.wildmask.proofs.MatchLemmas.{literal_code, run_last}
+use Rattle.rfccase.specs.declared.casemappings.Casemapping.TheVariants.{Rfc1459}
+use Rattle.rfccase.specs.declared.casemappings.Casemapping.{Casemapping}
 
 -- each item is a literal
 abbrev pub AllLiteral : List Item → Type 0
@@ -84,12 +87,12 @@ length-bytes_of (AnyText ∷ items) all = cc (all.0)
 length-bytes_of (NoSpace ∷ items) all = cc (all.0)
 length-bytes_of (Spaces ∷ items) all = cc (all.0)
 
--- literals match a text of the same lower cases
-pub literals_match : (items : List Item) (text : List ℕ) → AllLiteral items → Matches items text → folded text ≡ folded (bytes_of items)
+-- literals match a text of the same (lower Rfc1459) cases
+pub literals_match : (items : List Item) (text : List ℕ) → AllLiteral items → Matches Rfc1459 items text → folded text ≡ folded (bytes_of items)
 literals_match [] text all m = ap folded m
 literals_match (Literal b ∷ items) text all m = by m.0 text m.1.0 m.1.1 (literals_match items (drop m.0 text) all.1 m.1.2)
   where
-    by : (cut : ℕ) (text : List ℕ) → cut ≤ length text → Takes (Literal b) (take cut text) → folded (drop cut text) ≡ folded (bytes_of items)
+    by : (cut : ℕ) (text : List ℕ) → cut ≤ length text → Takes Rfc1459 (Literal b) (take cut text) → folded (drop cut text) ≡ folded (bytes_of items)
         → folded text ≡ low b ∷ folded (bytes_of items)
     by zero text within taken rest = cc
     by (suc zero) [] within taken rest = absurd (omega arith)
@@ -119,7 +122,7 @@ length-tail_of items =
     omega arith
 
 -- a text that the items match ends with their tail
-pub tail_ends : (items : List Item) (text : List ℕ) → Matches items text
+pub tail_ends : (items : List Item) (text : List ℕ) → Matches Rfc1459 items text
     → (tail_of items ≡ end_key (length (tail_of items)) text) × (length (tail_of items) ≤ length text)
 tail_ends items text m = (same, omega (arith, parts.0, length-tail_of items, length-drop (front_len items) items))
   where
@@ -127,10 +130,10 @@ tail_ends items text m = (same, omega (arith, parts.0, length-tail_of items, len
     literals = last_literals items
 
     parts : (length (drop (front_len items) items) ≤ length text)
-        × Matches (take (front_len items) items) (take (length text - length (drop (front_len items) items)) text)
-        × Matches (drop (front_len items) items) (drop (length text - length (drop (front_len items) items)) text)
-    parts = (run_last (take (front_len items) items) (drop (front_len items) items) text (AllOne-literal _ literals)).0
-        (subst (λ xs. Matches xs text) (sym (take-append-drop (front_len items) items)) m)
+        × Matches Rfc1459 (take (front_len items) items) (take (length text - length (drop (front_len items) items)) text)
+        × Matches Rfc1459 (drop (front_len items) items) (drop (length text - length (drop (front_len items) items)) text)
+    parts = (run_last Rfc1459 (take (front_len items) items) (drop (front_len items) items) text (AllOne-literal _ literals)).0
+        (subst (λ xs. Matches Rfc1459 xs text) (sym (take-append-drop (front_len items) items)) m)
 
     same : tail_of items ≡ end_key (length (tail_of items)) text
     same =
@@ -145,42 +148,42 @@ tail_ends items text m = (same, omega (arith, parts.0, length-tail_of items, len
         ∙ sym (folded-drop (length ks - 16) (drop (length text - length (drop (front_len items) items)) text))
         ∙ ap folded (drop-drop (length ks - 16) (length text - length (drop (front_len items) items)) text) ∙ ap (λ i. folded (drop i text)) index
 
--- ---- lower cases
+-- ---- lower Rfc1459 cases
 
-pub is_literal-lower : (item : Item) → is_literal (lower item) ≡ is_literal item
-is_literal-lower (Literal b) = refl
-is_literal-lower AnyByte = refl
-is_literal-lower AnyText = refl
-is_literal-lower NoSpace = refl
-is_literal-lower Spaces = refl
+pub is_literal-lower : (mapping : Casemapping) (item : Item) → is_literal (lower mapping item) ≡ is_literal item
+is_literal-lower mapping (Literal b) = refl
+is_literal-lower mapping AnyByte = refl
+is_literal-lower mapping AnyText = refl
+is_literal-lower mapping NoSpace = refl
+is_literal-lower mapping Spaces = refl
 
-folded-bytes_of : (items : List Item) → folded (bytes_of (map lower items)) ≡ folded (bytes_of items)
+folded-bytes_of : (items : List Item) → folded (bytes_of (map (lower Rfc1459) items)) ≡ folded (bytes_of items)
 folded-bytes_of [] = refl
-folded-bytes_of (Literal b ∷ items) = ap (λ n. n ∷ folded (bytes_of (map lower items))) (low-low b) ∙ ap (λ xs. low b ∷ xs) (folded-bytes_of items)
+folded-bytes_of (Literal b ∷ items) = ap (λ n. n ∷ folded (bytes_of (map (lower Rfc1459) items))) (low-low b) ∙ ap (λ xs. low b ∷ xs) (folded-bytes_of items)
 folded-bytes_of (AnyByte ∷ items) = folded-bytes_of items
 folded-bytes_of (AnyText ∷ items) = folded-bytes_of items
 folded-bytes_of (NoSpace ∷ items) = folded-bytes_of items
 folded-bytes_of (Spaces ∷ items) = folded-bytes_of items
 
-front_len-lower : (items : List Item) → front_len (map lower items) ≡ front_len items
+front_len-lower : (items : List Item) → front_len (map (lower Rfc1459) items) ≡ front_len items
 front_len-lower items =
-    let long : length (map lower items) ≡ length items = length-map items lower in
-    let suffix : suffix_len is_literal (map lower items) ≡ length (map lower items) - front_len items =
-    suffix_len_is is_literal (map lower items) (front_len items) AnyByte (omega arith)
-    (λ k late early. let inside : k < length items = omega arith in ap is_literal (get_or-map lower items k AnyByte AnyByte inside)
-    ∙ is_literal-lower (get_or items k AnyByte) ∙ suffix_passes items k late inside)
+    let long : length (map (lower Rfc1459) items) ≡ length items = length-map items (lower Rfc1459) in
+    let suffix : suffix_len is_literal (map (lower Rfc1459) items) ≡ length (map (lower Rfc1459) items) - front_len items =
+    suffix_len_is is_literal (map (lower Rfc1459) items) (front_len items) AnyByte (omega arith)
+    (λ k late early. let inside : k < length items = omega arith in ap is_literal (get_or-map (lower Rfc1459) items k AnyByte AnyByte inside)
+    ∙ is_literal-lower Rfc1459 (get_or items k AnyByte) ∙ suffix_passes items k late inside)
     (λ some. let inside : front_len items - 1 < length items =
-    omega arith in ap is_literal (get_or-map lower items (front_len items - 1) AnyByte AnyByte inside)
-    ∙ is_literal-lower (get_or items (front_len items - 1) AnyByte) ∙ suffix_stops items some) in
+    omega arith in ap is_literal (get_or-map (lower Rfc1459) items (front_len items - 1) AnyByte AnyByte inside)
+    ∙ is_literal-lower Rfc1459 (get_or items (front_len items - 1) AnyByte) ∙ suffix_stops items some) in
     omega arith
 
-pub tail_of-lower : (items : List Item) → tail_of (map lower items) ≡ tail_of items
+pub tail_of-lower : (items : List Item) → tail_of (map (lower Rfc1459) items) ≡ tail_of items
 tail_of-lower items =
-    let ends : drop (front_len (map lower items)) (map lower items) ≡ map lower (drop (front_len items) items) =
-    ap (λ n. drop n (map lower items)) (front_len-lower items) ∙ drop-map lower (front_len items) items in
-    let same : folded (bytes_of (map lower (drop (front_len items) items))) ≡ folded (bytes_of (drop (front_len items) items)) =
+    let ends : drop (front_len (map (lower Rfc1459) items)) (map (lower Rfc1459) items) ≡ map (lower Rfc1459) (drop (front_len items) items) =
+    ap (λ n. drop n (map (lower Rfc1459) items)) (front_len-lower items) ∙ drop-map (lower Rfc1459) (front_len items) items in
+    let same : folded (bytes_of (map (lower Rfc1459) (drop (front_len items) items))) ≡ folded (bytes_of (drop (front_len items) items)) =
     folded-bytes_of (drop (front_len items) items) in
-    ap (λ xs. end_key 16 (bytes_of xs)) ends ∙ key_of_folded (bytes_of (map lower (drop (front_len items) items)))
+    ap (λ xs. end_key 16 (bytes_of xs)) ends ∙ key_of_folded (bytes_of (map (lower Rfc1459) (drop (front_len items) items)))
     (bytes_of (drop (front_len items) items)) same
   where
     key_of_folded : (xs ys : List ℕ) → folded xs ≡ folded ys → end_key 16 xs ≡ end_key 16 ys

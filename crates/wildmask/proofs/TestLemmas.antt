@@ -5,12 +5,14 @@ use Rattle.std.specs.List.{list_all}
 use Rattle.std.specs.Cmp.Lexicographic.{bytes_decides}
 use Rattle.std.proofs.lemmas.Bool.{cases_lt, eqb-true}
 use Rattle.std.proofs.lemmas.Bool.Decides.{Decides-eqb, Decides-ltb}
-use Rattle.rfccase.specs.Casemapping.{folded}
+use Rattle.rfccase.specs.Casemapping.{folded_by}
+use Rattle.rfccase.specs.declared.casemappings.Casemapping.{Casemapping}
+use Rattle.rfccase.specs.declared.casemappings.Casemapping.TheVariants.{Rfc1459}
 use Rattle.wildmask.specs.declared.items.Item.{Item}
 use Rattle.wildmask.specs.declared.items.Item.TheVariants.{Literal, AnyByte, AnyText, NoSpace, Spaces}
 use Rattle.wildmask.specs.Matching.{Takes, Matches}
 use Rattle.wildmask.specs.Tests.{takes, some_upto, items_match}
-use Rattle.wildmask.specs.Masks.{GivenMask, IsMatch, is_match, mask_items}
+use Rattle.wildmask.specs.Masks.{GivenMask, IsMatch, IsMatchBy, is_match, is_match_by, mask_items}
 
 both : {P Q : Type 0} (a b : Bool) → Decides a P → Decides b Q → Decides (a && b) (P × Q)
 both true b p q = (λ h. (p.0 refl, q.0 h), λ h. q.1 h.1)
@@ -50,11 +52,11 @@ Decides-some_upto P Q test told (suc n) = by (test (suc n)) refl (Decides-some_u
         last : (k : ℕ) → ((k ≤ suc n) × P k × Q k) → suc n ≤ k → ⊥
         last k h above = let e : k ≡ suc n = omega arith in true≢false (sym ((told k).1 (h.1, h.2)) ∙ ap test e ∙ none)
 
-takes-Decides : (item : Item) (text : List ℕ) → Decides (takes item text) (Takes item text)
-takes-Decides (Literal b) text = bytes_decides (folded text) (folded (b ∷ []))
-takes-Decides AnyByte text = Decides-eqb (length text) 1
-takes-Decides AnyText text = (λ h. tt, λ h. refl)
-takes-Decides NoSpace text = Decides-list_all (λ c. not (c == 32)) (λ c. Decides-no_space c) text
+takes-Decides : (mapping : Casemapping) (item : Item) (text : List ℕ) → Decides (takes mapping item text) (Takes mapping item text)
+takes-Decides mapping (Literal b) text = bytes_decides (folded_by mapping text) (folded_by mapping (b ∷ []))
+takes-Decides mapping AnyByte text = Decides-eqb (length text) 1
+takes-Decides mapping AnyText text = (λ h. tt, λ h. refl)
+takes-Decides mapping NoSpace text = Decides-list_all (λ c. not (c == 32)) (λ c. Decides-no_space c) text
   where
     negated : {P : Type 0} (b : Bool) → Decides b P → Decides (not b) (P → ⊥)
     negated true d = (λ h. cc, λ n. absurd (n (d.0 refl)))
@@ -62,19 +64,22 @@ takes-Decides NoSpace text = Decides-list_all (λ c. not (c == 32)) (λ c. Decid
 
     Decides-no_space : (c : ℕ) → Decides (not (c == 32)) (c ≢ 32)
     Decides-no_space c = negated (c == 32) (Decides-eqb c 32)
-takes-Decides Spaces text = both _ _ (Decides-ltb 0 (length text)) (Decides-list_all (λ c. c == 32) (λ c. Decides-eqb c 32) text)
+takes-Decides mapping Spaces text = both _ _ (Decides-ltb 0 (length text)) (Decides-list_all (λ c. c == 32) (λ c. Decides-eqb c 32) text)
 
-pub items_match-Decides : (items : List Item) (text : List ℕ) → Decides (items_match items text) (Matches items text)
-items_match-Decides [] text = empty text
+pub items_match-Decides : (mapping : Casemapping) (items : List Item) (text : List ℕ) → Decides (items_match mapping items text) (Matches mapping items text)
+items_match-Decides mapping [] text = empty text
   where
     empty : (text : List ℕ) → Decides (length text == 0) (text ≡ [])
     empty [] = (λ h. refl, λ h. refl)
     empty (x ∷ xs) = (λ h. absurd (omega (arith, eqb-true (length (x ∷ xs)) 0 h)), λ h. cc)
-items_match-Decides (item ∷ others) text =
-    Decides-some_upto (λ cut. Takes item (take cut text)) (λ cut. Matches others (drop cut text)) _
-    (λ cut. both _ _ (takes-Decides item (take cut text)) (items_match-Decides others (drop cut text))) (length text)
+items_match-Decides mapping (item ∷ others) text =
+    Decides-some_upto (λ cut. Takes mapping item (take cut text)) (λ cut. Matches mapping others (drop cut text)) _
+    (λ cut. both _ _ (takes-Decides mapping item (take cut text)) (items_match-Decides mapping others (drop cut text))) (length text)
 
 -- a mask's test is its relation
+pub is_match_by-Decides : (mapping : Casemapping) (mask : GivenMask) (text : List ℕ) → Decides (is_match_by mapping mask text) (IsMatchBy mapping mask text)
+unfolding is_match_by
+is_match_by-Decides mapping mask text = items_match-Decides mapping (mask_items mask) text
+
 pub is_match-Decides : (mask : GivenMask) (text : List ℕ) → Decides (is_match mask text) (IsMatch mask text)
-unfolding is_match
-is_match-Decides mask text = items_match-Decides (mask_items mask) text
+is_match-Decides mask text = is_match_by-Decides Rfc1459 mask text

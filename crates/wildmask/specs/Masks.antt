@@ -9,6 +9,8 @@ use Rattle.bytetext.specs.declared.failure.Failure.{Failure}
 use Rattle.bytetext.specs.declared.failure.Failure.TheVariants.{Refused, NoMemory}
 use Rattle.wildmask.specs.declared.items.Item.{Item}
 use Rattle.wildmask.specs.Items.{items_of, is_bind}
+use Rattle.rfccase.specs.declared.casemappings.Casemapping.{Casemapping}
+use Rattle.rfccase.specs.declared.casemappings.Casemapping.TheVariants.{Rfc1459}
 use Rattle.wildmask.specs.Matching.{Matches}
 use Rattle.wildmask.specs.Tests.{items_match}
 
@@ -27,13 +29,21 @@ host_mask text = record { kind = Host; text = text }
 abbrev pub mask_items : GivenMask → List Item
 mask_items mask = items_of mask.kind mask.text
 
--- whether a mask matches a text
+-- whether a mask matches a text by a server's casemapping
+abbrev pub IsMatchBy : Casemapping → GivenMask → List ℕ → Type 0
+IsMatchBy mapping mask text = Matches mapping (items_of mask.kind mask.text) text
+
+-- IsMatchBy as a test that computes
+unfoldable pub is_match_by : Casemapping → GivenMask → List ℕ → Bool
+is_match_by mapping mask text = items_match mapping (items_of mask.kind mask.text) text
+
+-- whether a mask matches a text by the casemapping of RFC 2812
 abbrev pub IsMatch : GivenMask → List ℕ → Type 0
-IsMatch mask text = Matches (items_of mask.kind mask.text) text
+IsMatch mask text = IsMatchBy Rfc1459 mask text
 
 -- IsMatch as a test that computes
-unfoldable pub is_match : GivenMask → List ℕ → Bool
-is_match mask text = items_match (items_of mask.kind mask.text) text
+abbrev pub is_match : GivenMask → List ℕ → Bool
+is_match mask text = is_match_by Rfc1459 mask text
 
 -- ---- why a text is not a mask
 

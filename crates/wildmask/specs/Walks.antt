@@ -5,16 +5,17 @@ use Rattle.wildmask.specs.declared.items.Item.{Item}
 use Rattle.wildmask.specs.declared.items.Item.TheVariants.{Literal, AnyByte, AnyText, NoSpace, Spaces}
 use Rattle.wildmask.specs.Codes.{lower}
 use Rattle.wildmask.specs.Matching.{Matches}
+use Rattle.rfccase.specs.declared.casemappings.Casemapping.{Casemapping}
 
 -- the set has a place, at least `from`, from which on the items match the text
-abbrev pub MatchesFrom : ℕ → List Item → ℕ → List ℕ → Type 0
-MatchesFrom from items places text =
-    (p : ℕ) × ((from ≤ p) × (p ≤ length items) × (bit_at places p ≡ 1) × Matches (drop p items) text)
+abbrev pub MatchesFrom : Casemapping → ℕ → List Item → ℕ → List ℕ → Type 0
+MatchesFrom mapping from items places text =
+    (p : ℕ) × ((from ≤ p) × (p ≤ length items) × (bit_at places p ≡ 1) × Matches mapping (drop p items) text)
 
 -- a byte that is known to leave the places as they are, if there is one
-abbrev pub IsIdle : List Item → ℕ → Option ℕ → Type 0
-IsIdle items places None = Unit {0}
-IsIdle items places (Some byte) = (text : List ℕ) → MatchesFrom 0 items places (byte ∷ text) ↔ MatchesFrom 0 items places text
+abbrev pub IsIdle : Casemapping → List Item → ℕ → Option ℕ → Type 0
+IsIdle mapping items places None = Unit {0}
+IsIdle mapping items places (Some byte) = (text : List ℕ) → MatchesFrom mapping 0 items places (byte ∷ text) ↔ MatchesFrom mapping 0 items places text
 
 -- whether an item can take the empty text
 abbrev pub may_be_empty : Item → Bool
@@ -41,12 +42,12 @@ takes_byte NoSpace lower = not (lower == 32)
 takes_byte Spaces lower = lower == 32
 
 -- what is left to match after an item took a byte: the item may take more, be done, or either
-abbrev pub MatchesAfter : Item → List Item → List ℕ → Type 0
-MatchesAfter (Literal b) others text = Matches others text
-MatchesAfter AnyByte others text = Matches others text
-MatchesAfter AnyText others text = Matches (AnyText ∷ others) text
-MatchesAfter NoSpace others text = Matches (NoSpace ∷ others) text
-MatchesAfter Spaces others text = Matches (Spaces ∷ others) text ⊎ Matches others text
+abbrev pub MatchesAfter : Casemapping → Item → List Item → List ℕ → Type 0
+MatchesAfter mapping (Literal b) others text = Matches mapping others text
+MatchesAfter mapping AnyByte others text = Matches mapping others text
+MatchesAfter mapping AnyText others text = Matches mapping (AnyText ∷ others) text
+MatchesAfter mapping NoSpace others text = Matches mapping (NoSpace ∷ others) text
+MatchesAfter mapping Spaces others text = Matches mapping (Spaces ∷ others) text ⊎ Matches mapping others text
 
 -- if the item at a place of the set can take the empty text, the next place is in the set too
 abbrev pub IsClosed : List Item → ℕ → Type 0
@@ -54,9 +55,9 @@ IsClosed items places =
     (p : ℕ) → p < length items → bit_at places p ≡ 1 → may_be_empty (get_or items p AnyByte) ≡ true → bit_at places (p + 1) ≡ 1
 
 -- each literal among the items is in lower case
-abbrev pub AllLower : List Item → Type 0
-AllLower [] = Unit {0}
-AllLower (item ∷ items) = (lower item ≡ item) × AllLower items
+abbrev pub AllLower : Casemapping → List Item → Type 0
+AllLower mapping [] = Unit {0}
+AllLower mapping (item ∷ items) = (lower mapping item ≡ item) × AllLower mapping items
 
 -- each item takes exactly one byte
 abbrev pub AllOne : List Item → Type 0

@@ -5,7 +5,7 @@ ghost use Rattle.wildmask.specs.Codes.{decoded, lower};
 ghost use Rattle.wildmask.specs.Items.{is_literal};
 
 use crate::items::Item;
-use rfccase::fold;
+use rfccase::{Casemapping, fold_by};
 
 // Upper-case bytes: no literal has them, since literals are kept in lower case.
 const ANY_BYTE: u8 = b'A';
@@ -17,11 +17,11 @@ const NO_SPACE: u8 = b'C';
 const SPACES: u8 = b'D';
 
 /// Returns the byte of `item`: the lower case of a literal, or a byte that no literal has.
-pub fn code_of(item: Item) -> u8
-    ensures { decoded result ≡ lower item }
+pub fn code_of(mapping: Casemapping, item: Item) -> u8
+    ensures { decoded result ≡ lower mapping item }
 {
     match item {
-        Item::Literal(byte) => fold(byte),
+        Item::Literal(byte) => fold_by(mapping, byte),
         Item::AnyByte => ANY_BYTE,
         Item::AnyText => ANY_TEXT,
         Item::NoSpace => NO_SPACE,

@@ -12,7 +12,8 @@
 //! | any other byte, including any other `\` | that byte, in either case | that byte, in either case |
 //!
 //! A mask matches a text if the text can be cut so that each item takes its piece, in order. Cases are those of
-//! casemapping (RFC 2812 section 2.2). The wildcards are Eggdrop's (its Tcl commands document, "bind"); the escape is
+//! RFC 2812 section 2.2 ([`Mask::matches`]), or those of a server's casemapping ([`Mask::matches_by`]); what matches by
+//! a server's matches by RFC 2812 too. The wildcards are Eggdrop's (its Tcl commands document, "bind"); the escape is
 //! this crate's own. [`Mask::bind`] and [`Mask::host`] make a [`Mask`], and reject a text that is not a mask.
 //! [`bind_fault`] and [`host_fault`] return the reason without allocating.
 //!

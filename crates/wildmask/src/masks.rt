@@ -8,6 +8,7 @@ use crate::pattern::Pattern;
 use crate::signatures::Signature;
 use crate::tails::Tail;
 use bytetext::{NoMemory, Text, TryCopy, refuse};
+use rfccase::Casemapping;
 use std::alloc::Global;
 use std::marker::Model;
 
@@ -44,11 +45,12 @@ impl Model for Mask {
 }
 
 impl Mask {
+    ghost use Rattle.rfccase.specs.declared.casemappings.Casemapping.{Casemapping};
     ghost use Rattle.std.specs.Prelude.{◌≡◌, ◌↔◌, ◌+◌, ◌*◌, ◌≤◌, ℕ, List, IsTrue, None, length, map};
     ghost use Rattle.wildmask.specs.declared.items.MaskKind.TheVariants.{Bind, Host};
     ghost use Rattle.wildmask.specs.Codes.{lower};
     ghost use Rattle.wildmask.specs.Items.{literals_of};
-    ghost use Rattle.wildmask.specs.Masks.{IsMatch, Makes, fault_of, is_match, mask_items};
+    ghost use Rattle.wildmask.specs.Masks.{IsMatch, IsMatchBy, Makes, fault_of, is_match, is_match_by, mask_items};
     ghost use Rattle.wildmask.specs.Signatures.{is_within, items_signature, text_signature};
     ghost use Rattle.wildmask.specs.Tails.{end_key, tail_of};
 
@@ -81,7 +83,7 @@ impl Mask {
         ensures { Makes kind text.now result }
     {
         refuse(fault_of(kind, text))?;
-        let pattern = Pattern::of(kind, text);
+        let pattern = Pattern::of(Casemapping::Rfc1459, kind, text);
         let literals = pattern.literals();
         let signature = pattern.signature();
         let text = Text::from_slice(alloc, text)?;
@@ -93,24 +95,32 @@ impl Mask {
         })
     }
 
-    /// Returns whether the mask matches all of `text`, by casemapping. Does not allocate.
+    /// Returns whether the mask matches all of `text`, by the casemapping of RFC 2812. Does not allocate.
     pub fn matches(&self, text: &[u8]) -> bool
         ensures matches { IsTrue result ↔ IsMatch self.now text.now }
         ensures test { result ≡ is_match self.now text.now }
     {
-        self.matches_counted(text, &mut Count::new())
+        self.matches_by(Casemapping::Rfc1459, text)
     }
 
-    /// Returns whether the mask matches all of `text`, and adds one to `count` for each comparison of an item with a
-    /// byte. It compares the literals at the end first, from the last one backwards, and then moves a set of places
+    /// Returns whether the mask matches all of `text`, by a server's casemapping. Does not allocate.
+    pub fn matches_by(&self, mapping: Casemapping, text: &[u8]) -> bool
+        ensures matches { IsTrue result ↔ IsMatchBy mapping self.now text.now }
+        ensures test { result ≡ is_match_by mapping self.now text.now }
+    {
+        self.matches_counted(mapping, text, &mut Count::new())
+    }
+
+    /// Returns whether the mask matches all of `text`, by a server's casemapping, and adds one to `count` for each
+    /// comparison of an item with a byte. It compares the literals at the end first, from the last one backwards, and then moves a set of places
     /// among the other items over the text once. So a mask of `m` items and a text of `n` bytes take at most
     /// `(m + 1) * (n + 1)` comparisons.
-    pub fn matches_counted(&self, text: &[u8], count: &mut Count) -> bool
-        ensures matches { IsTrue result ↔ IsMatch self.now text.now }
-        ensures test { result ≡ is_match self.now text.now }
+    pub fn matches_counted(&self, mapping: Casemapping, text: &[u8], count: &mut Count) -> bool
+        ensures matches { IsTrue result ↔ IsMatchBy mapping self.now text.now }
+        ensures test { result ≡ is_match_by mapping self.now text.now }
         ensures counted { count.new.steps ≤ count.old.steps + (length (mask_items self.now) + 1) * (length text.now + 1) }
     {
-        self.pattern().matches(text, count)
+        self.pattern(mapping).matches(mapping, text, count)
     }
 
     /// Returns the number of literals among the mask's items. An escaped byte counts as one.
@@ -121,29 +131,30 @@ impl Mask {
     }
 
     /// Returns the mask's tail: the lower cases of the literals after its last special item, the last 16 at most. A
-    /// text that the mask matches ends with it.
+    /// text that the mask matches ends with it, by whichever casemapping it matches.
     pub fn tail(&self) -> Tail
         ensures value { result ≡ tail_of (mask_items self.now) }
-        ensures ends { (text : List ℕ) → IsMatch self.now text → result ≡ end_key (length result) text }
-        ensures within { (text : List ℕ) → IsMatch self.now text → length result ≤ length text }
+        ensures ends { (by : Casemapping) (text : List ℕ) → IsMatchBy by self.now text → result ≡ end_key (length result) text }
+        ensures within { (by : Casemapping) (text : List ℕ) → IsMatchBy by self.now text → length result ≤ length text }
         ensures short { length result ≤ 16 }
     {
-        self.pattern().tail()
+        self.pattern(Casemapping::Rfc1459).tail()
     }
 
-    /// Returns the pairs of adjacent literals that the mask needs. A text that the mask matches has each of them.
+    /// Returns the pairs of adjacent literals that the mask needs. A text that the mask matches has each of them, by
+    /// whichever casemapping it matches.
     pub fn signature(&self) -> Signature
         ensures value { result ≡ items_signature (mask_items self.now) }
-        ensures needed { (text : List ℕ) → IsMatch self.now text → IsTrue (is_within result (text_signature text)) }
+        ensures needed { (by : Casemapping) (text : List ℕ) → IsMatchBy by self.now text → IsTrue (is_within result (text_signature text)) }
     {
         self.signature
     }
 
     // Parses the items of the mask from its text. Many masks are kept and few are matched, so no mask keeps its items.
-    fn pattern(&self) -> Pattern
-        ensures { result ≡ map lower (mask_items self.now) }
+    fn pattern(&self, mapping: Casemapping) -> Pattern
+        ensures { result ≡ map (lower mapping) (mask_items self.now) }
     {
-        Pattern::of(self.kind, self.text.as_bytes())
+        Pattern::of(mapping, self.kind, self.text.as_bytes())
     }
 
     /// Returns the mask's text as it was given.

@@ -5,6 +5,7 @@ ghost use Rattle.wildmask.specs.Items.{items_of, is_literal};
 ghost use Rattle.wildmask.specs.Matching.{Matches};
 ghost use Rattle.wildmask.specs.Signatures.{items_signature};
 ghost use Rattle.wildmask.specs.Tails.{front_len, tail_of};
+ghost use Rattle.wildmask.specs.Walks.{AllLower};
 
 use crate::codes::{code_of, is_literal};
 use crate::counts::Count;
@@ -12,6 +13,7 @@ use crate::items::{MaskKind, next_item};
 use crate::runs::matches_end_first;
 use crate::signatures::Signature;
 use crate::tails::Tail;
+use rfccase::Casemapping;
 use std::marker::Model;
 
 // The most items that a mask has: as many as bytes.
@@ -31,27 +33,25 @@ impl Model for Pattern {
     ghost use Rattle.wildmask.specs.declared.items.Item.{Item};
     ghost use Rattle.wildmask.specs.Codes.{items_in};
     ghost use Rattle.wildmask.specs.Tails.{front_len};
-    ghost use Rattle.wildmask.specs.Walks.{AllLower};
 
     ghost Value = { List Item };
 
     ghost view = { λ p. items_in (take p.len p.codes) };
 
-    ghost invariant = { λ p. (p.len ≤ 120) × (p.front ≡ front_len (items_in (take p.len p.codes)))
-        × AllLower (items_in (take p.len p.codes)) };
+    ghost invariant = { λ p. (p.len ≤ 120) × (p.front ≡ front_len (items_in (take p.len p.codes))) };
 }
 
 impl Pattern {
-    /// Creates the items of a mask from its `kind` and `text`.
-    pub fn of(kind: MaskKind, text: &[u8]) -> Pattern
+    /// Creates the items of a mask from its `kind` and `text`, to match by this casemapping.
+    pub fn of(mapping: Casemapping, kind: MaskKind, text: &[u8]) -> Pattern
         requires { length text.now ≤ 120 }
-        ensures { result ≡ map lower (items_of kind text.now) }
+        ensures { result ≡ map (lower mapping) (items_of kind text.now) }
     {
         let mut codes = [0; MOST_ITEMS];
         let mut len = 0;
         let mut rest = text;
         while let Some((item, others)) = next_item(kind, rest) {
-            codes[len] = code_of(item);
+            codes[len] = code_of(mapping, item);
             len += 1;
             rest = others;
         }
@@ -61,12 +61,13 @@ impl Pattern {
 
     /// Returns whether the items match all of `text`, and adds the comparisons to `count`. The literals at the end are
     /// compared first.
-    pub fn matches(&self, text: &[u8], count: &mut Count) -> bool
-        ensures matches { IsTrue result ↔ Matches self.now text.now }
+    pub fn matches(&self, mapping: Casemapping, text: &[u8], count: &mut Count) -> bool
+        requires lower { AllLower mapping self.now }
+        ensures matches { IsTrue result ↔ Matches mapping self.now text.now }
         ensures counted { count.new.steps ≤ count.old.steps + (length self.now + 1) * (length text.now + 1) }
     {
         let (front, end) = self.codes[..self.len].split_at(self.front);
-        matches_end_first(front, end, text, count)
+        matches_end_first(mapping, front, end, text, count)
     }
 
     /// Returns the number of literals among the items.

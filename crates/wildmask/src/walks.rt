@@ -2,6 +2,7 @@
 ghost use Rattle.std.specs.Prelude.{◌≡◌, ◌↔◌, ◌⊎◌, ℕ, List, [], ◌∷◌, ◌+◌, ◌*◌, ◌≤◌, ◌<◌, IsTrue, MatchOption, drop, get_or, length, true};
 ghost use Rattle.std.specs.Int.{bit_at};
 ghost use Rattle.wildmask.specs.declared.items.Item.TheVariants.{AnyText};
+ghost use Rattle.rfccase.specs.declared.casemappings.Casemapping.{Casemapping};
 ghost use Rattle.wildmask.specs.Codes.{decoded, items_in};
 ghost use Rattle.wildmask.specs.Matching.{Matches};
 ghost use Rattle.wildmask.specs.Walks.{MatchesFrom, MatchesAfter, IsClosed, IsIdle, AllLower, takes_byte, may_be_empty};
@@ -10,13 +11,13 @@ use crate::codes::{is_star, item_of};
 use crate::counts::Count;
 use crate::items::Item;
 use crate::places::Places;
-use rfccase::fold;
+use rfccase::{Casemapping, fold_by};
 
 /// Returns whether the items of `codes` match all of `text`. Adds the comparisons that it makes to `count`.
-pub fn walk(codes: &[u8], text: &[u8], count: &mut Count) -> bool
+pub fn walk(mapping: Casemapping, codes: &[u8], text: &[u8], count: &mut Count) -> bool
     requires few { length codes.now ≤ 120 }
-    requires lower { AllLower (items_in codes.now) }
-    ensures matches { IsTrue result ↔ Matches (items_in codes.now) text.now }
+    requires lower { AllLower mapping (items_in codes.now) }
+    ensures matches { IsTrue result ↔ Matches mapping (items_in codes.now) text.now }
     ensures counted { count.new.steps ≤ count.old.steps + length codes.now * length text.now }
 {
     let mut places = with_skipped(codes, Places::none(), 0);
@@ -28,7 +29,7 @@ pub fn walk(codes: &[u8], text: &[u8], count: &mut Count) -> bool
         if places.is_none() {
             return false;
         }
-        let after = step_unless_idle(codes, places, idle, *byte, count);
+        let after = step_unless_idle(mapping, codes, places, idle, *byte, count);
         idle = idle_byte(places, after, *byte);
         places = after;
     }
@@ -37,6 +38,7 @@ pub fn walk(codes: &[u8], text: &[u8], count: &mut Count) -> bool
 
 // The places after one more byte: unchanged if the byte is the one that is known to leave them as they are.
 fn step_unless_idle(
+    mapping: Casemapping,
     codes: &[u8],
     places: Places,
     idle: Option<u8>,
@@ -44,17 +46,17 @@ fn step_unless_idle(
     count: &mut Count,
 ) -> Places
     requires few { length codes.now ≤ 120 }
-    requires lower { AllLower (items_in codes.now) }
+    requires lower { AllLower mapping (items_in codes.now) }
     requires closed { IsClosed (items_in codes.now) places.bits }
-    requires idle { IsIdle (items_in codes.now) places.bits idle }
+    requires idle { IsIdle mapping (items_in codes.now) places.bits idle }
     ensures moved { (text : List ℕ) →
-        MatchesFrom 0 (items_in codes.now) places.bits (byte ∷ text) ↔ MatchesFrom 0 (items_in codes.now) result.bits text }
+        MatchesFrom mapping 0 (items_in codes.now) places.bits (byte ∷ text) ↔ MatchesFrom mapping 0 (items_in codes.now) result.bits text }
     ensures closed { IsClosed (items_in codes.now) result.bits }
     ensures counted { count.new.steps ≤ count.old.steps + length codes.now }
 {
     match idle {
         Some(known) if known == byte => places,
-        Some(_) | None => step(codes, places, byte, count),
+        Some(_) | None => step(mapping, codes, places, byte, count),
     }
 }
 
@@ -72,7 +74,7 @@ fn idle_byte(before: Places, after: Places, byte: u8) -> Option<u8>
 // Whether the last item is a star and in the set of places: then whatever is left of the text matches.
 fn is_at_last_star(codes: &[u8], places: Places) -> bool
     requires { length codes.now ≤ 120 }
-    ensures { IsTrue result → (text : List ℕ) → MatchesFrom 0 (items_in codes.now) places.bits text }
+    ensures { IsTrue result → (mapping : Casemapping) (text : List ℕ) → MatchesFrom mapping 0 (items_in codes.now) places.bits text }
 {
     match codes {
         [.., last] => is_star(*last) && places.has(codes.len() - 1),
@@ -81,20 +83,20 @@ fn is_at_last_star(codes: &[u8], places: Places) -> bool
 }
 
 // The places after one more byte.
-fn step(codes: &[u8], places: Places, byte: u8, count: &mut Count) -> Places
+fn step(mapping: Casemapping, codes: &[u8], places: Places, byte: u8, count: &mut Count) -> Places
     requires few { length codes.now ≤ 120 }
-    requires lower { AllLower (items_in codes.now) }
+    requires lower { AllLower mapping (items_in codes.now) }
     requires closed { IsClosed (items_in codes.now) places.bits }
     ensures moved { (text : List ℕ) →
-        MatchesFrom 0 (items_in codes.now) places.bits (byte ∷ text) ↔ MatchesFrom 0 (items_in codes.now) result.bits text }
+        MatchesFrom mapping 0 (items_in codes.now) places.bits (byte ∷ text) ↔ MatchesFrom mapping 0 (items_in codes.now) result.bits text }
     ensures closed { IsClosed (items_in codes.now) result.bits }
     ensures counted { count.new.steps ≤ count.old.steps + length codes.now }
 {
-    let lower = fold(byte);
+    let lower = fold_by(mapping, byte);
     let mut after = Places::none();
     let mut from = 0;
     while let Some(at) = next_item(codes, places, from) {
-        after = moved(codes, after, at, lower, count);
+        after = moved(mapping, codes, after, at, lower, count);
         from = at + 1;
     }
     after
@@ -116,16 +118,23 @@ fn next_item(codes: &[u8], places: Places, from: usize) -> Option<usize>
 
 // The places, and those that the mask reaches when the item at place `at` meets a byte with the lower case `lower`. A
 // star drops the others: whatever matches from them matches from the star too.
-fn moved(codes: &[u8], places: Places, at: usize, lower: u8, count: &mut Count) -> Places
+fn moved(
+    mapping: Casemapping,
+    codes: &[u8],
+    places: Places,
+    at: usize,
+    lower: u8,
+    count: &mut Count,
+) -> Places
     requires few { length codes.now ≤ 120 }
     requires at { at < length codes.now }
     requires closed { IsClosed (items_in codes.now) places.bits }
     requires star { decoded (get_or codes.now at 0) ≡ AnyText → (text : List ℕ) →
-        MatchesFrom 0 (items_in codes.now) places.bits text → Matches (drop at (items_in codes.now)) text }
-    ensures moved { (text : List ℕ) → MatchesFrom 0 (items_in codes.now) result.bits text ↔
-        (MatchesFrom 0 (items_in codes.now) places.bits text
+        MatchesFrom mapping 0 (items_in codes.now) places.bits text → Matches mapping (drop at (items_in codes.now)) text }
+    ensures moved { (text : List ℕ) → MatchesFrom mapping 0 (items_in codes.now) result.bits text ↔
+        (MatchesFrom mapping 0 (items_in codes.now) places.bits text
         ⊎ ((takes_byte (decoded (get_or codes.now at 0)) lower ≡ true)
-        × MatchesAfter (decoded (get_or codes.now at 0)) (drop (at + 1) (items_in codes.now)) text)) }
+        × MatchesAfter mapping (decoded (get_or codes.now at 0)) (drop (at + 1) (items_in codes.now)) text)) }
     ensures closed { IsClosed (items_in codes.now) result.bits }
     ensures counted { count.new.steps ≡ count.old.steps + 1 }
 {
@@ -147,8 +156,8 @@ fn with_skipped(codes: &[u8], places: Places, at: usize) -> Places
     requires few { length codes.now ≤ 120 }
     requires at { at ≤ length codes.now }
     requires closed { IsClosed (items_in codes.now) places.bits }
-    ensures with { (text : List ℕ) → MatchesFrom 0 (items_in codes.now) result.bits text ↔
-        (MatchesFrom 0 (items_in codes.now) places.bits text ⊎ Matches (drop at (items_in codes.now)) text) }
+    ensures with { (mapping : Casemapping) (text : List ℕ) → MatchesFrom mapping 0 (items_in codes.now) result.bits text ↔
+        (MatchesFrom mapping 0 (items_in codes.now) places.bits text ⊎ Matches mapping (drop at (items_in codes.now)) text) }
     ensures closed { IsClosed (items_in codes.now) result.bits }
 {
     let mut places = places.with(at);

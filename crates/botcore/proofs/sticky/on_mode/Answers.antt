@@ -1,9 +1,11 @@
-use Rattle.std.proofs.Common.{◌≡◌, ◌∙◌, ◌-◌, length, sym, drop, take, true}
+use Rattle.std.proofs.Common.{◌≡◌, ◌∙◌, ◌-◌, length, sym, ap, drop, take, true}
 use Rattle.std.specs.List.{flat_map}
 use Rattle.std.proofs.lemmas.List.{take_rest}
+use Rattle.rfccase.specs.declared.casemappings.Casemapping.{Casemapping}
 use Rattle.ircline.specs.View.{seen}
 use Rattle.chanstate.specs.Items.{mode_items, singles}
 use Rattle.chanstate.specs.Steps.{steps}
+use Rattle.chanstate.specs.Views.{mapping_of}
 use Rattle.botcore.specs.Automatic.{mode_wishes, set_again}
 use Rattle.botcore.proofs.StickyLemmas.{own_wishes, no_op_wishes, op_wishes, same_lines, same_op}
 use Rattle.botcore.proofs.sticky.on_mode.Goals as goal
@@ -25,7 +27,7 @@ returns-then-not-leave_op-clause-lines c =
 -- the lines of the MODE, as they are made
 lines : (c : goal.After-bring_back)
     → mode_wishes c.args.userfile.now.bans c.args.second (seen c.args.from) c.args.params.now (steps (mode_items c.args.params.now) c.args.state.now)
-    ≡ flat_map (set_again c.args.userfile.now.bans c.args.second c.in-Some.channel.now)
+    ≡ flat_map (set_again (mapping_of c.args.state.now) c.args.userfile.now.bans c.args.second c.in-Some.channel.now)
     (singles c.args.state.now.support true c.letters-item.result (drop 2 c.args.params.now))
 lines c =
     let same = same_op c.args.state.now c.support.result.now _ _ _ _ _ _ c.support.ensures c.as_bytes.ensures
@@ -37,12 +39,14 @@ lines c =
 
 -- and the modes, as they are read
 read : (c : goal.After-bring_back)
-    → flat_map (set_again c.args.userfile.now.bans c.args.second c.in-Some.channel.now)
+    → flat_map (set_again (mapping_of c.args.state.now) c.args.userfile.now.bans c.args.second c.in-Some.channel.now)
     (singles c.args.state.now.support true c.letters-item.result (drop 2 c.args.params.now))
-    ≡ flat_map (set_again c.args.userfile.now.bans c.args.second c.in-Some.channel.now)
+    ≡ flat_map (set_again c.casemapping.result c.args.userfile.now.bans c.args.second c.in-Some.channel.now)
     (singles c.support.result.now true c.as_bytes.result.now (take (length c.args.params.now - 2) (drop 2 c.args.params.now)))
 read c =
-    sym (same_lines _ c.support.result.now _ _ _ _ _ c.support.ensures c.as_bytes.ensures (take_rest c.args.params.now 2))
+    ap (λ (mapping : Casemapping). flat_map (set_again mapping c.args.userfile.now.bans c.args.second c.in-Some.channel.now)
+    (singles c.args.state.now.support true c.letters-item.result (drop 2 c.args.params.now))) (sym c.casemapping.ensures)
+    ∙ sym (same_lines _ c.support.result.now _ _ _ _ _ c.support.ensures c.as_bytes.ensures (take_rest c.args.params.now 2))
 
 pub returns-clause-lines : goal.returns-clause-lines
 returns-clause-lines c = rw (lines c) (rw (read c) c.bring_back.ensures.lines)

@@ -3,7 +3,7 @@ use Rattle.watching.proofs.FollowingLemmas.{numbers_first, lawful_first, allows_
 use Rattle.watching.proofs.SendingLemmas.{up_begun, up_quiet, up_reported}
 use Rattle.watching.specs.Acts.{Station}
 use Rattle.watching.specs.Following.{Allows}
-use Rattle.botrun.specs.Stations.{IsKnownWhereWanted}
+use Rattle.upkeep.specs.Stations.{IsKnownWhereWanted}
 use Rattle.botrun.specs.Watched.{station_of}
 use Rattle.botrun.proofs.StationLemmas.{at_station}
 use Rattle.botrun.proofs.bot_process.run_logged.Goals as goal

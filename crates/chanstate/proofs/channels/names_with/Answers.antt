@@ -17,14 +17,14 @@ some_pass p (x ∷ xs) (suc i) d less passes =
 
 pub returns-in_err-copy-clause-memory : goal.returns-in_err-copy-clause-memory
 returns-in_err-copy-clause-memory c =
-    let p = (λ (channel : Channel). has_member c.args.nick.now channel.members) in
+    let p = (λ (channel : Channel). has_member c.args.mapping c.args.nick.now channel.members) in
     let here = ap p (sym c.channel-item.is) ∙ sym c.holds.ensures ∙ c.if-holds.true in
     let err = err_from_is_err_and c.from_residual.result c.from_residual.ensures.1 in
     rw err.1 (some_pass p c.args.channels.now c.loop-channel.channel-index c.channel-item.result (omega arith) here)
 
 pub returns-in_err-push-clause-memory : goal.returns-in_err-push-clause-memory
 returns-in_err-push-clause-memory c =
-    let p = (λ (channel : Channel). has_member c.args.nick.now channel.members) in
+    let p = (λ (channel : Channel). has_member c.args.mapping c.args.nick.now channel.members) in
     let here = ap p (sym c.channel-item.is) ∙ sym c.holds.ensures ∙ c.if-holds.true in
     let err = err_from_is_err_and c.from_residual-in_err-push.result c.from_residual-in_err-push.ensures.1 in
     rw err.1 (some_pass p c.args.channels.now c.loop-channel.channel-index c.channel-item.result (omega arith) here)

@@ -15,7 +15,7 @@ loop-channel-preserved c =
     record {
       len = omega (arith, left, at.invariant.len, c.in-Some.ensures.steps.1);
       room = omega (arith, left, at.invariant.room, c.put.ensures.len, c.put.ensures.capacity);
-      put = ap (put_each_last (into_iter_items c.next.new.self)) c.put.ensures.put ∙ ap (λ cs. put_each_last cs at.items.items) (sym steps)
+      put = ap (put_each_last c.args.mapping (into_iter_items c.next.new.self)) c.put.ensures.put ∙ ap (λ cs. put_each_last c.args.mapping cs at.items.items) (sym steps)
           ∙ at.invariant.put;
     }
 
@@ -23,5 +23,5 @@ pub returns : goal.returns
 returns c =
     let at = c.loop-channel in
     let empty : into_iter_items at.channel-iterator ≡ [] = nil_from_length _ (sym at.invariant.len ∙ c.in-None.ensures.steps.0) in
-    ap (λ cs. put_each_last cs at.items.items) (sym empty) ∙ at.invariant.put
-    ∙ ap (λ cs. put_each_last cs c.args.items.now.items) c.into_iter-channel-iterator.ensures.into_iter_gives.0
+    ap (λ cs. put_each_last c.args.mapping cs at.items.items) (sym empty) ∙ at.invariant.put
+    ∙ ap (λ cs. put_each_last c.args.mapping cs c.args.items.now.items) c.into_iter-channel-iterator.ensures.into_iter_gives.0

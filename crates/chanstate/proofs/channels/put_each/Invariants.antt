@@ -9,5 +9,5 @@ abbrev pub invariant-loop-channel : goal.invariant-loop-channel
 invariant-loop-channel l = record {
   len : into_iter_len l.channel-iterator ≡ length (into_iter_items l.channel-iterator);
   room : vec_len l.items + length (into_iter_items l.channel-iterator) ≤ vec_capacity l.items;
-  put : put_each_last (into_iter_items l.channel-iterator) l.items.items ≡ put_each_last (into_iter_items l.initial.channel-iterator) l.initial.items.items;
+  put : put_each_last l.mapping (into_iter_items l.channel-iterator) l.items.items ≡ put_each_last l.mapping (into_iter_items l.initial.channel-iterator) l.initial.items.items;
 }

@@ -8,6 +8,6 @@ use Rattle.chanstate.proofs.newcomers.named_by.Given as goal
 -- those whom the words so far name
 abbrev pub invariant-loop-word : goal.invariant-loop-word
 invariant-loop-word l = record {
-  keyed : AreUnder l.ones.items;
+  keyed : AreUnder l.mapping l.ones.items;
   named : values_of l.ones.items ≡ filter_map (named l.support) (map (λ x. x.now) l.yielded);
 }

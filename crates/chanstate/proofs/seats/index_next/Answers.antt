@@ -1,5 +1,5 @@
 use Rattle.std.proofs.Common.{◌∙◌, ap, sym, subst, Some}
-use Rattle.rfccase.specs.Casemapping.{folded}
+use Rattle.rfccase.specs.Casemapping.{folded_by}
 use Rattle.indexmap.specs.IndexMap.{index_map_len}
 use Rattle.chanstate.specs.Seats.{IsIndexedNext, IsChanged, place_under}
 use Rattle.chanstate.proofs.SeatLemmas.{changed-by, next_len}
@@ -13,10 +13,10 @@ returns-in_ok-insert c =
     let k = index_map_len c.insert.new.self in
     let m = c.in-Some.member in
     let key = c.in_ok-key.key in
-    let key-is = c.in_ok-key.ensures ∙ ap folded c.as_bytes.ensures in
+    let key-is = c.in_ok-key.ensures ∙ ap (folded_by c.args.mapping) c.as_bytes.ensures in
     let updates = c.in_ok-insert.ensures.updates in
     let change = changed-by key.items (Some c.len-at.result) es fs updates.1 updates.3 in
-    subst (λ p. IsIndexedNext p n es k fs) (sym c.in-Some.is) (
-      subst (λ w. IsChanged (folded m.nick) (Some w) es fs) c.len-at.ensures.len (subst (λ l. IsChanged l (Some c.len-at.result) es fs) key-is change),
+    subst (λ p. IsIndexedNext c.args.mapping p n es k fs) (sym c.in-Some.is) (
+      subst (λ w. IsChanged (folded_by c.args.mapping m.nick) (Some w) es fs) c.len-at.ensures.len (subst (λ l. IsChanged l (Some c.len-at.result) es fs) key-is change),
       λ none. next_len c.in_ok-insert.field-0 _ n k c.in_ok-insert.ensures.len c.in_ok-insert.ensures.old (ap (λ l. place_under l es) key-is ∙ none),
     )

@@ -5,7 +5,9 @@ use Rattle.chanstate.proofs.SeatLemmas.{made-next}
 use Rattle.chanstate.proofs.seats.index_taken.Goals as goal
 
 pub loop-place-preserved : goal.loop-place-preserved
-loop-place-preserved c =
+loop-place-preserved c = λ used.
+    let mapping = c.args.seats.now.mapping in
+    let so_far = c.loop-place.invariant used in
     let ps = c.args.seats.now.places.items in
     let all = c.args.seats.now.index.entries in
     let i = c.loop-place.place-index in
@@ -15,7 +17,6 @@ loop-place-preserved c =
     let es = c.loop-place.index.entries in
     let fs = c.index_next.new.index.entries in
     let less : i < length ps = omega arith in
-    let next = subst (λ p. IsIndexedNext p n es k fs)
+    let next = subst (λ p. IsIndexedNext mapping p n es k fs)
     (c.place-item.is ∙ ap (λ xs. get_or xs i d) c.as_slice-place-items.ensures.value) c.in_ok-index_next.ensures in
-    let made = made-next ps all i d es fs n k c.requires less c.loop-place.invariant.indexed c.loop-place.invariant.len next in
-    record { indexed = made.0; len = made.1 }
+    made-next mapping ps all i d es fs n k (c.requires used) less so_far.0 so_far.1 next

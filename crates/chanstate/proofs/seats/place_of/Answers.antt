@@ -1,10 +1,9 @@
-use Rattle.std.proofs.Common.{◌∙◌, ap}
-use Rattle.std.specs.List.{position}
-use Rattle.chanstate.specs.Seats.{is_seat_of}
+use Rattle.std.proofs.Common.{◌∙◌, sym, refl}
 use Rattle.chanstate.proofs.SeatLemmas.{walked}
 use Rattle.chanstate.proofs.seats.place_of.Goals as goal
 
-pub returns-in-None : goal.returns-in-None
-returns-in-None c =
-    walked c.args.nick.now c.args.seats.now.places.items c.args.seats.now.index.entries c.walk_to.result c.requires
-    (c.walk_to.ensures ∙ ap (position (is_seat_of c.args.nick.now)) c.as_slice.ensures.value)
+pub returns-then-seats : goal.returns-then-seats
+returns-then-seats c =
+    let seats = c.args.seats.now in
+    c.place_in_index.ensures
+    ∙ sym (walked seats.mapping c.args.nick.now seats.places.items seats.index.entries _ (c.requires c.if-seats.true) refl)

@@ -1,20 +1,23 @@
 use Rattle.std.proofs.Common.{◌≡◌, ◌∙◌, ap, sym, subst, Some, length, arith}
-use Rattle.rfccase.specs.Casemapping.{folded}
+use Rattle.rfccase.specs.Casemapping.{folded_by}
 use Rattle.chanstate.specs.Seats.{AreIndexed, IsChanged, seated}
-use Rattle.chanstate.proofs.SeatLemmas.{at_ok, changed-by, indexed-last, seated-append}
+use Rattle.chanstate.proofs.SeatLemmas.{absent_index, at_ok, changed-by, indexed-last, seated-append}
 use Rattle.chanstate.proofs.seats.seat_last.Goals as goal
 
 pub returns-clause-indexed : goal.returns-clause-indexed
-returns-clause-indexed c =
+returns-clause-indexed c = λ used.
+    let mapping = c.args.seats.now.mapping in
     let ps = c.args.seats.now.places.items in
     let es = c.args.seats.now.index.entries in
     let fs = c.insert.new.self.entries in
     let updates = at_ok c.insert.result _ (c.insert.ensures.succeeds c.requires.entry) c.insert.ensures.updates in
     let at : c.len-at.result ≡ length ps = omega (arith, c.len-at.ensures) in
     let change = changed-by c.args.key.items (Some c.len-at.result) es fs updates.1 updates.3 in
-    let change-is = subst (λ w. IsChanged (folded c.args.one.nick) (Some w) es fs) at
+    let change-is = subst (λ w. IsChanged (folded_by mapping c.args.one.nick) (Some w) es fs) at
     (subst (λ l. IsChanged l (Some c.len-at.result) es fs) c.requires.key change) in
-    subst (λ qs. AreIndexed qs fs) (sym c.push_reserved.ensures.items) (indexed-last ps es fs c.args.one c.requires.indexed c.requires.absent change-is)
+    let indexed = c.requires.indexed used in
+    subst (λ qs. AreIndexed mapping qs fs) (sym c.push_reserved.ensures.items)
+    (indexed-last mapping ps es fs c.args.one indexed (absent_index mapping c.args.one.nick ps es indexed c.requires.absent) change-is)
 
 pub returns-clause-seated : goal.returns-clause-seated
 returns-clause-seated c = ap seated c.push_reserved.ensures.items ∙ seated-append c.args.seats.now.places.items (Some c.args.one)

@@ -1,8 +1,7 @@
 use Rattle.std.proofs.Common.{◌∙◌, [], map, refl, sym, ap, subst}
-use Rattle.procs.specs.Promises.{code_at}
 use Rattle.procs.specs.Made.{Made, IsMade, entry_of}
 use Rattle.procs.specs.Dispatching.{next_of, told_of, takes_memory}
-use Rattle.procs.specs.Dispatched.{setting_of}
+use Rattle.procs.specs.Dispatched.{setting_for}
 use Rattle.procs.proofs.NextLemmas.{IsFrontMade-occasion, dispatched-more, any-behind}
 use Rattle.procs.proofs.dispatch.call_procs.Goals as goal
 
@@ -12,14 +11,14 @@ loop-occasion-init g c = (
   subst (λ (m : Made). IsMade g.P.Promise.promised c.args.scene.now.view.now m []) (sym c.new-made.ensures)
       (record { calls = refl; unbound = refl; kept = tt }),
   refl,
-  c.new-people.ensures ∙ ap (λ u. u.users) c.userfile.ensures,
+  c.new-people.ensures,
   λ e. e,
 )
 
 pub returns-in-Err-clause-made : goal.returns-in-Err-clause-made
 returns-in-Err-clause-made g c =
     let scene = c.args.scene.now in
-    let setting = setting_of (code_at g.P.Promise.promised scene.view.now.sight) scene.store.now scene.view.now.sight.records.users scene.binds.now.binds scene.exclusive in
+    let setting = setting_for g.P.Promise.promised scene.store.now scene.view.now.sight scene.binds.now.binds scene.exclusive in
     IsFrontMade-occasion g.P.Promise.promised scene.view.now setting c.call_occasion.new.self c.loop-occasion.next c.in-Go.taken
     c.in-Some.occasion.now c.loop-occasion.rest.now c.in-Some.behind.now
     c.loop-occasion.invariant.0 (told_of setting c.args.occasions.now) c.in-Some.ensures.cases.0 c.in-Go.is c.loop-occasion.invariant.2
@@ -28,7 +27,7 @@ returns-in-Err-clause-made g c =
 pub loop-occasion-preserved : goal.loop-occasion-preserved
 loop-occasion-preserved g c =
     let scene = c.args.scene.now in
-    let setting = setting_of (code_at g.P.Promise.promised scene.view.now.sight) scene.store.now scene.view.now.sight.records.users scene.binds.now.binds scene.exclusive in
+    let setting = setting_for g.P.Promise.promised scene.store.now scene.view.now.sight scene.binds.now.binds scene.exclusive in
     let more = dispatched-more g.P.Promise.promised scene.view.now setting c.loop-occasion.made c.call_occasion.new.self c.loop-occasion.next c.next_of-next.result c.in-Go.taken
     c.in-Some.occasion.now c.loop-occasion.rest.now c.in-Some.behind.now c.loop-occasion.invariant.0 (told_of setting c.args.occasions.now)
     c.call_count-before.result c.calls_since.result.now c.in-Some.ensures.cases.0 c.in-Go.is c.loop-occasion.invariant.2 c.loop-occasion.invariant.1

@@ -12,6 +12,6 @@ loop-len-preserved c =
     let index = c.args.index.now in
     let len = c.loop-len.len in
     rw add-one
-    (c.best_of_group-best.ensures ∙ ap (λ ps. after_listings who users ps c.loop-len.best) c.listings_of.ensures
-    ∙ ap (after_listings who users (asked_at index who len)) c.loop-len.invariant
-    ∙ sym (after_listings-append who users (asked index who len) (asked_at index who len) None))
+    (c.best_of_group-best.ensures ∙ ap (λ ps. after_listings c.args.mapping who users ps c.loop-len.best) c.listings_of.ensures
+    ∙ ap (after_listings c.args.mapping who users (asked_at index who len)) c.loop-len.invariant
+    ∙ sym (after_listings-append c.args.mapping who users (asked index who len) (asked_at index who len) None))

@@ -6,4 +6,4 @@ use Rattle.userfile.proofs.persons.best_claim.Given as goal
 
 -- the best of what stands under the shorter ends
 abbrev pub invariant-loop-len : goal.invariant-loop-len
-invariant-loop-len l = l.best ≡ after_listings l.who (values l.users) (asked l.index l.who l.len) None
+invariant-loop-len l = l.best ≡ after_listings l.mapping l.who (values l.users) (asked l.index l.who l.len) None

@@ -8,8 +8,8 @@ use Rattle.wildmask.proofs.runs.after_first_run.Given as goal
 abbrev pub invariant-loop-item : goal.invariant-loop-item
 invariant-loop-item l =
     record {
-      matches : Matches (items_in l.codes) l.text ↔ Matches (items_in l.left) l.rest;
-      lower : AllLower (items_in l.left);
+      matches : Matches l.mapping (items_in l.codes) l.text ↔ Matches l.mapping (items_in l.left) l.rest;
+      lower : AllLower l.mapping (items_in l.left);
       fewer : length l.left ≤ length l.codes;
       shorter : length l.rest ≤ length l.text;
       counted : l.count.steps + length l.left ≤ l.fn.count.steps + length l.codes;

@@ -12,7 +12,7 @@ pub returns-then-fits-clause-first : goal.returns-then-fits-clause-first
 returns-then-fits-clause-first c =
     let within : length c.args.run.now ≤ length c.loop-rest.rest.now = c.loop-rest-test.true in
     λ items. both (c.loop-rest.invariant.same (AnyText ∷ items))
-    (code_run_hits c.args.run.now items c.loop-rest.rest.now _ _ c.requires.one within c.split_at.ensures.front c.split_at.ensures.back
+    (code_run_hits c.args.mapping c.args.run.now items c.loop-rest.rest.now _ _ c.requires.one within c.split_at.ensures.front c.split_at.ensures.back
     (c.fits.ensures.value.0 c.if-fits.true))
 
 pub returns-then-fits-clause-counted : goal.returns-then-fits-clause-counted
@@ -24,7 +24,7 @@ returns-then-fits-clause-counted c =
     c.loop-rest.invariant.counted c.fits.ensures.counted
 
 pub returns-in-empty-clause-first : goal.returns-in-empty-clause-first
-returns-in-empty-clause-first c = λ items m. code_run_misses_nil c.args.run.now items c.loop-rest.rest.now _ c.requires.one
+returns-in-empty-clause-first c = λ items m. code_run_misses_nil c.args.mapping c.args.run.now items c.loop-rest.rest.now _ c.requires.one
     (omega (arith, c.in-empty.len_below)) c.split_at.ensures.front (λ k. both_ways _ c.if-fits.false (c.fits.ensures.value.1 k))
     ((c.loop-rest.invariant.same items).0 m)
 
@@ -47,15 +47,15 @@ loop-rest-preserved c =
           (next_start (length c.args.run.now) (length c.args.text.now) (length c.loop-rest.rest.now)
           (length (drop 1 c.loop-rest.rest.now)) c.args.count.now.steps c.loop-rest.count.steps _ c.loop-rest.invariant.shorter
           (omega (arith, length-drop 1 c.loop-rest.rest.now)) c.loop-rest.invariant.counted c.fits.ensures.counted);
-      same = λ items. subst (λ (xs : List ℕ). Matches (AnyText ∷ items_in c.args.run.now ++ items) c.args.text.now
-          ↔ Matches (AnyText ∷ items_in c.args.run.now ++ items) xs) (sym next)
+      same = λ items. subst (λ (xs : List ℕ). Matches c.args.mapping (AnyText ∷ items_in c.args.run.now ++ items) c.args.text.now
+          ↔ Matches c.args.mapping (AnyText ∷ items_in c.args.run.now ++ items) xs) (sym next)
           (both (c.loop-rest.invariant.same items)
-          (code_run_misses c.args.run.now items c.loop-rest.rest.now _ c.requires.one some c.split_at.ensures.front
+          (code_run_misses c.args.mapping c.args.run.now items c.loop-rest.rest.now _ c.requires.one some c.split_at.ensures.front
           (λ k. both_ways _ c.if-fits.false (c.fits.ensures.value.1 k))));
     }
 
 pub returns-clause-first : goal.returns-clause-first
-returns-clause-first c = λ items m. code_run_too_long c.args.run.now items c.loop-rest.rest.now c.requires.one (omega (arith, c.loop-rest-test.false))
+returns-clause-first c = λ items m. code_run_too_long c.args.mapping c.args.run.now items c.loop-rest.rest.now c.requires.one (omega (arith, c.loop-rest-test.false))
     ((c.loop-rest.invariant.same items).0 m)
 
 pub returns-clause-counted : goal.returns-clause-counted

@@ -11,7 +11,7 @@ invariant-loop-rest l =
     record {
       shorter : length l.rest ≤ length l.text;
       counted : l.count.steps ≤ l.fn.count.steps + length l.run * (length l.text - length l.rest);
-      same : (items : List Item) → Matches (AnyText ∷ items_in l.run ++ items) l.text ↔ Matches (AnyText ∷ items_in l.run ++ items) l.rest;
+      same : (items : List Item) → Matches l.mapping (AnyText ∷ items_in l.run ++ items) l.text ↔ Matches l.mapping (AnyText ∷ items_in l.run ++ items) l.rest;
     }
 
 abbrev pub decreases-loop-rest : goal.decreases-loop-rest

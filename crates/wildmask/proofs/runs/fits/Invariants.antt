@@ -9,7 +9,7 @@ invariant-loop-left l =
     record {
       within : l.left ≤ length l.codes;
       counted : l.count.steps + l.left ≤ l.fn.count.steps + length l.codes;
-      matched : Matches (drop l.left (items_in l.codes)) (drop l.left l.text);
+      matched : Matches l.mapping (drop l.left (items_in l.codes)) (drop l.left l.text);
     }
 
 abbrev pub decreases-loop-left : goal.decreases-loop-left

@@ -10,9 +10,9 @@ invariant-loop-run l =
     record {
       fewer : length l.left ≤ length l.codes;
       shorter : length l.rest ≤ length l.text;
-      lower : AllLower (items_in l.left);
+      lower : AllLower l.mapping (items_in l.left);
       counted : l.count.steps ≤ l.fn.count.steps + length l.codes * (length l.text - length l.rest);
-      same : Matches (items_in l.codes) l.text ↔ Matches (items_in l.left) l.rest;
+      same : Matches l.mapping (items_in l.codes) l.text ↔ Matches l.mapping (items_in l.left) l.rest;
     }
 
 abbrev pub decreases-loop-run : goal.decreases-loop-run

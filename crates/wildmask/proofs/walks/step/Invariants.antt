@@ -11,9 +11,9 @@ invariant-loop-at l =
       within : l.from ≤ length l.codes;
       counted : l.count.steps ≤ l.fn.count.steps + l.from;
       closed : IsClosed (items_in l.codes) l.after.bits;
-      cover : StarsCover l.from (items_in l.codes) l.after.bits;
-      same : (text : List ℕ) → MatchesFrom 0 (items_in l.codes) l.places.bits (l.byte ∷ text)
-          ↔ (MatchesFrom l.from (items_in l.codes) l.places.bits (l.byte ∷ text) ⊎ MatchesFrom 0 (items_in l.codes) l.after.bits text);
+      cover : StarsCover l.mapping l.from (items_in l.codes) l.after.bits;
+      same : (text : List ℕ) → MatchesFrom l.mapping 0 (items_in l.codes) l.places.bits (l.byte ∷ text)
+          ↔ (MatchesFrom l.mapping l.from (items_in l.codes) l.places.bits (l.byte ∷ text) ⊎ MatchesFrom l.mapping 0 (items_in l.codes) l.after.bits text);
     }
 
 abbrev pub decreases-loop-at : goal.decreases-loop-at

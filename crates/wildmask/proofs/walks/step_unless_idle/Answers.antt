@@ -6,5 +6,5 @@ use Rattle.wildmask.proofs.walks.step_unless_idle.Goals as goal
 pub returns-in-Some-clause-moved : goal.returns-in-Some-clause-moved
 returns-in-Some-clause-moved c =
     let idle = rw c.in-Some.is at c.requires.idle in
-    λ text. subst (λ (b : ℕ). MatchesFrom 0 (items_in c.args.codes.now) c.args.places.bits (b ∷ text)
-    ↔ MatchesFrom 0 (items_in c.args.codes.now) c.args.places.bits text) (c.if-known-byte.true) (idle text)
+    λ text. subst (λ (b : ℕ). MatchesFrom c.args.mapping 0 (items_in c.args.codes.now) c.args.places.bits (b ∷ text)
+    ↔ MatchesFrom c.args.mapping 0 (items_in c.args.codes.now) c.args.places.bits text) (c.if-known-byte.true) (idle text)

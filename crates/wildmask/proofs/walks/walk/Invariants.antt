@@ -10,6 +10,6 @@ invariant-loop-byte l =
     record {
       counted : l.count.steps ≤ l.fn.count.steps + length l.codes * l.byte-index;
       closed : IsClosed (items_in l.codes) l.places.bits;
-      same : Matches (items_in l.codes) l.text ↔ MatchesFrom 0 (items_in l.codes) l.places.bits (drop l.byte-index l.text);
-      idle : IsIdle (items_in l.codes) l.places.bits l.idle;
+      same : Matches l.mapping (items_in l.codes) l.text ↔ MatchesFrom l.mapping 0 (items_in l.codes) l.places.bits (drop l.byte-index l.text);
+      idle : IsIdle l.mapping (items_in l.codes) l.places.bits l.idle;
     }

@@ -17,6 +17,6 @@ loop-last-preserved c =
       on = (c.with-places-in-loop-last.ensures (c.loop-last.last + 1)).1 (inr refl);
       closed = closed_but_next (items_in c.args.codes.now) _ c.loop-last.places.bits c.loop-last.last c.with-places-in-loop-last.ensures
           c.loop-last.invariant.closed;
-      same = λ text. both (skipped (items_in c.args.codes.now) _ c.loop-last.places.bits c.loop-last.last c.with-places-in-loop-last.ensures within
-          c.loop-last.invariant.on empty text) (c.loop-last.invariant.same text);
+      same = λ mapping text. both (skipped mapping (items_in c.args.codes.now) _ c.loop-last.places.bits c.loop-last.last c.with-places-in-loop-last.ensures within
+          c.loop-last.invariant.on empty text) (c.loop-last.invariant.same mapping text);
     }

@@ -1,5 +1,6 @@
 use Rattle.std.proofs.Common.{length, ◌-◌, ◌≡◌, ◌↔◌, ◌⊎◌, ℕ, List, ◌≤◌, drop}
 use Rattle.std.specs.Int.{bit_at}
+use Rattle.rfccase.specs.declared.casemappings.Casemapping.{Casemapping}
 use Rattle.wildmask.specs.Codes.{items_in}
 use Rattle.wildmask.specs.Matching.{Matches}
 use Rattle.wildmask.specs.Walks.{MatchesFrom}
@@ -13,8 +14,8 @@ invariant-loop-last l =
       within : l.last ≤ length l.codes;
       on : bit_at l.places.bits l.last ≡ 1;
       closed : IsClosedBut l.last (items_in l.codes) l.places.bits;
-      same : (text : List ℕ) → MatchesFrom 0 (items_in l.codes) l.places.bits text
-          ↔ (MatchesFrom 0 (items_in l.codes) l.fn.places.bits text ⊎ Matches (drop l.at (items_in l.codes)) text);
+      same : (mapping : Casemapping) (text : List ℕ) → MatchesFrom mapping 0 (items_in l.codes) l.places.bits text
+          ↔ (MatchesFrom mapping 0 (items_in l.codes) l.fn.places.bits text ⊎ Matches mapping (drop l.at (items_in l.codes)) text);
     }
 
 abbrev pub decreases-loop-last : goal.decreases-loop-last

@@ -10,7 +10,7 @@ use Rattle.botcore.proofs.joining.Newcomer.wishes_on.Goals as goal
 pub loop-piece-preserved : goal.loop-piece-preserved
 loop-piece-preserved c =
     let self = c.args.self.now in
-    kept_more (λ x. x.now) (kept_off self.userfile.now.bans self.second self.nick.now self.who.now) (guarded_as c.args.state.now) is_channel_name
+    kept_more (λ x. x.now) (kept_off self.mapping self.userfile.now.bans self.second self.nick.now self.who.now) (guarded_as c.args.state.now) is_channel_name
     c.loop-piece.yielded c.in-Some.piece _ _ _ c.loop-piece.invariant c.guarded_piece.ensures c.in_ok-push_on.ensures
 
 pub returns : goal.returns
@@ -21,5 +21,5 @@ returns c =
     c.split-piece-items.ensures.closure (λ x r q k. search (rules, tests)))) c.loop-piece.yielded _ c.loop-piece.yielded_by _ _ c.in-None.is
     c.next.ensures.steps in
     c.loop-piece.invariant
-    ∙ ap (λ ps. flat_map (kept_off self.userfile.now.bans self.second self.nick.now self.who.now)
+    ∙ ap (λ ps. flat_map (kept_off self.mapping self.userfile.now.bans self.second self.nick.now self.who.now)
     (filter_map (guarded_as c.args.state.now) (filter is_channel_name ps))) all.0

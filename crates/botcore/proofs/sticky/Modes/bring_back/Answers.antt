@@ -12,7 +12,7 @@ loop-byte-preserved c =
     let self = c.args.self.now in
     let place = c.args.place in
     let less : at.byte-index < length self.letters.now = omega arith in
-    let more = lines_more self.support.now (set_again place.userfile.now.bans place.second place.channel.now) at.on self.letters.now
+    let more = lines_more self.support.now (set_again place.mapping place.userfile.now.bans place.second place.channel.now) at.on self.letters.now
     at.byte-index 0 at.rest.now at.wishes.items _ less c.in_ok-push_back.ensures.more in
     rw (c.next_sign-on.ensures, c.next_arguments-rest.ensures) (more ∙ at.invariant)
 
@@ -22,7 +22,7 @@ returns-clause-lines c =
     let self = c.args.self.now in
     let place = c.args.place in
     sym (append-nil at.wishes.items)
-    ∙ sym (at_drop_all (λ bs. at.wishes.items ++ flat_map (set_again place.userfile.now.bans place.second place.channel.now)
+    ∙ sym (at_drop_all (λ bs. at.wishes.items ++ flat_map (set_again place.mapping place.userfile.now.bans place.second place.channel.now)
     (singles self.support.now at.on bs at.rest.now)) self.letters.now at.byte-index (omega arith))
     ∙ at.invariant
 
@@ -34,6 +34,6 @@ returns-in_err-push_back-clause-needs_none c =
     let less : at.byte-index < length self.letters.now = omega arith in
     λ none.
     let is_ok : false ≡ true = c.in_err-push_back.ensures.needs_none
-    (lines_none self.support.now (set_again place.userfile.now.bans place.second place.channel.now) at.on self.letters.now
+    (lines_none self.support.now (set_again place.mapping place.userfile.now.bans place.second place.channel.now) at.on self.letters.now
     at.byte-index 0 at.rest.now at.wishes.items _ less at.invariant none) in
     cc

@@ -8,5 +8,5 @@ use Rattle.chanstate.proofs.channels.Channels.depart.Goals as goal
 pub loop-channel-preserved : goal.loop-channel-preserved
 loop-channel-preserved c =
     mapped_at (with_members
-    (first_removed (is_called c.args.nick.now))) _ c.loop-channel.channel-items c.loop-channel.channel-index c.channel-item.result c.depart.new.self
+    (first_removed (is_called c.args.mapping c.args.nick.now))) _ c.loop-channel.channel-items c.loop-channel.channel-index c.channel-item.result c.depart.new.self
     (omega arith) (omega arith) c.loop-channel.invariant c.depart.ensures

@@ -7,5 +7,5 @@ use Rattle.chanstate.proofs.channels.Channels.depart.Given as goal
 -- the nick has left the channels so far
 abbrev pub invariant-loop-channel : goal.invariant-loop-channel
 invariant-loop-channel l =
-    l.channel-items ≡ map (with_members (first_removed (is_called l.nick)))
+    l.channel-items ≡ map (with_members (first_removed (is_called l.mapping l.nick)))
     (take l.channel-index l.initial.channel-items) ++ drop l.channel-index l.initial.channel-items

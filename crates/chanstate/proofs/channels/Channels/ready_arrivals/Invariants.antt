@@ -9,7 +9,7 @@ abbrev pub invariant-loop-piece : goal.invariant-loop-piece
 invariant-loop-piece l =
     let one = unmarked l.person.nick.now l.person.user.now l.person.host.now in
     record {
-      kept : AreKept (arrived one) l.takes.items;
+      kept : AreKept (arrived l.mapping one) l.takes.items;
       back : given false l.takes.items l.self ≡ l.initial.self;
-      done : given true l.takes.items l.self ≡ came_each one (filter is_channel_name (map (λ x. x.now) l.yielded)) l.initial.self;
+      done : given true l.takes.items l.self ≡ came_each l.mapping one (filter is_channel_name (map (λ x. x.now) l.yielded)) l.initial.self;
     }

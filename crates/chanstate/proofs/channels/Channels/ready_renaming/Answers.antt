@@ -11,13 +11,13 @@ loop-at-init c =
       len = refl;
       fresh = λ i past. ap (is_taken i) none;
       back = ap (λ ts. given false ts c.args.self.now) none;
-      done = ap (λ ts. given true ts c.args.self.now) none ∙ sym (front_on-none (renamed c.args.old.now c.args.new.now) c.args.self.now);
+      done = ap (λ ts. given true ts c.args.self.now) none ∙ sym (front_on-none (renamed c.args.mapping c.args.old.now c.args.new.now) c.args.self.now);
     }
 
 pub loop-at-preserved : goal.loop-at-preserved
 loop-at-preserved c =
     let at = c.loop-at in
-    let change = renamed c.args.old.now c.args.new.now in
+    let change = renamed c.args.mapping c.args.old.now c.args.new.now in
     let takes = c.ready_renaming_at.new.takes.items in
     let left = c.ready_renaming_at.new.self in
     let back = c.ready_renaming_at.ensures.back ∙ at.invariant.back in
@@ -35,4 +35,4 @@ returns c =
     let at = c.loop-at in
     let long = ap length c.as_slice-at-end.ensures in
     let past : length c.args.self.now ≤ at.at = omega (arith, long, c.loop-at-test.false) in
-    (at.invariant.back, at.invariant.done ∙ front_on-all at.at (renamed c.args.old.now c.args.new.now) c.args.self.now past)
+    (at.invariant.back, at.invariant.done ∙ front_on-all at.at (renamed c.args.mapping c.args.old.now c.args.new.now) c.args.self.now past)

@@ -10,5 +10,5 @@ invariant-loop-at l = record {
   len : length l.self ≡ length l.initial.self;
   fresh : (i : ℕ) → l.at ≤ i → is_taken i l.takes.items ≡ false;
   back : given false l.takes.items l.self ≡ l.initial.self;
-  done : given true l.takes.items l.self ≡ front_on l.at (renamed l.old l.new) l.initial.self;
+  done : given true l.takes.items l.self ≡ front_on l.at (renamed l.mapping l.old l.new) l.initial.self;
 }

@@ -6,4 +6,4 @@ use Rattle.chanstate.proofs.roster.Roster.holds.Goals as goal
 
 pub returns : goal.returns
 returns c =
-    c.is_some.ensures ∙ is_some-copied c.find.result ∙ ap is_some c.find.ensures ∙ sym (list_any-find (is_called c.args.nick.now) c.args.self.now)
+    c.is_some.ensures ∙ is_some-copied c.find.result ∙ ap is_some c.find.ensures ∙ sym (list_any-find (is_called c.args.mapping c.args.nick.now) c.args.self.now)

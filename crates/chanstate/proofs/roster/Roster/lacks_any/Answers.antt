@@ -17,11 +17,11 @@ returns-then-lacks c =
     (YieldsList-from_slice_split _ (λ b. eqb b 32) c.args.names.now c.split-word-items.ensures.rest c.split-word-items.ensures.done
     c.split-word-items.ensures.closure (λ x r q k. search (rules, tests)))) c.loop-word.yielded _ c.loop-word.yielded_by _ _ c.in-Some.word
     c.in-Some.is c.next.ensures.steps in
-    sym (named_among (named c.args.support.now) (λ one. not (has_member one.nick c.args.self.now)) _ _ c.in-Some.word.now at.0 at.1 (sym c.lacks.ensures ∙ c.if-lacks.true))
+    sym (named_among (named c.args.support.now) (λ one. not (has_member c.args.mapping one.nick c.args.self.now)) _ _ c.in-Some.word.now at.0 at.1 (sym c.lacks.ensures ∙ c.if-lacks.true))
 
 pub loop-word-preserved : goal.loop-word-preserved
 loop-word-preserved c =
-    let misses : Member → Bool = λ one. not (has_member one.nick c.args.self.now) in
+    let misses : Member → Bool = λ one. not (has_member c.args.mapping one.nick c.args.self.now) in
     ap (list_any misses) (named_more c.args.support.now c.loop-word.yielded c.in-Some.word)
     ∙ list_any-append misses (filter_map (named c.args.support.now) (map (λ x. x.now) c.loop-word.yielded)) (option_to_list (named c.args.support.now c.in-Some.word.now))
     ∙ ap (λ b. b || list_any misses (option_to_list (named c.args.support.now c.in-Some.word.now))) c.loop-word.invariant
@@ -33,4 +33,4 @@ returns c =
     (YieldsList-from_slice_split _ (λ b. eqb b 32) c.args.names.now c.split-word-items.ensures.rest c.split-word-items.ensures.done
     c.split-word-items.ensures.closure (λ x r q k. search (rules, tests)))) c.loop-word.yielded _ c.loop-word.yielded_by _ _ c.in-None.is
     c.next.ensures.steps in
-    sym (ap (λ ws. list_any (λ one. not (has_member one.nick c.args.self.now)) (filter_map (named c.args.support.now) ws)) (sym all.0) ∙ c.loop-word.invariant)
+    sym (ap (λ ws. list_any (λ one. not (has_member c.args.mapping one.nick c.args.self.now)) (filter_map (named c.args.support.now) ws)) (sym all.0) ∙ c.loop-word.invariant)

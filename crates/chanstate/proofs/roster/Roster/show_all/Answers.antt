@@ -12,8 +12,8 @@ pub loop-word-preserved : goal.loop-word-preserved
 loop-word-preserved c =
     let before = filter_map (named c.args.support.now) (map (λ x. x.now) c.loop-word.yielded) in
     let one = option_to_list (named c.args.support.now c.in-Some.word.now) in
-    c.show.ensures ∙ ap (shown_each one) c.loop-word.invariant ∙ sym (shown_each-append before one c.args.self.now)
-    ∙ sym (ap (λ ms. shown_each ms c.args.self.now) (named_more c.args.support.now c.loop-word.yielded c.in-Some.word))
+    c.show.ensures ∙ ap (shown_each c.args.mapping one) c.loop-word.invariant ∙ sym (shown_each-append c.args.mapping before one c.args.self.now)
+    ∙ sym (ap (λ ms. shown_each c.args.mapping ms c.args.self.now) (named_more c.args.support.now c.loop-word.yielded c.in-Some.word))
 
 pub returns : goal.returns
 returns c =
@@ -21,4 +21,4 @@ returns c =
     (YieldsList-from_slice_split _ (λ b. eqb b 32) c.args.names.now c.split-word-items.ensures.rest c.split-word-items.ensures.done
     c.split-word-items.ensures.closure (λ x r q k. search (rules, tests)))) c.loop-word.yielded _ c.loop-word.yielded_by _ _ c.in-None.is
     c.next.ensures.steps in
-    c.loop-word.invariant ∙ ap (λ ws. shown_each (filter_map (named c.args.support.now) ws) c.args.self.now) all.0
+    c.loop-word.invariant ∙ ap (λ ws. shown_each c.args.mapping (filter_map (named c.args.support.now) ws) c.args.self.now) all.0

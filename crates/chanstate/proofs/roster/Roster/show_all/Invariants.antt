@@ -6,4 +6,4 @@ use Rattle.chanstate.proofs.roster.Roster.show_all.Given as goal
 
 -- the words so far are shown
 abbrev pub invariant-loop-word : goal.invariant-loop-word
-invariant-loop-word l = l.self ≡ shown_each (filter_map (named l.support) (map (λ x. x.now) l.yielded)) l.initial.self
+invariant-loop-word l = l.self ≡ shown_each l.mapping (filter_map (named l.support) (map (λ x. x.now) l.yielded)) l.initial.self

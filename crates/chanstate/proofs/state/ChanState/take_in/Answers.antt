@@ -1,6 +1,9 @@
 use Rattle.std.proofs.Common.{◌∙◌, ap, sym}
 use Rattle.chanstate.specs.Items.{Renamed, Titled, NamesTold, Addressed, channels_in, names_in}
+use Rattle.chanstate.specs.Channels.{on_channel}
+use Rattle.chanstate.specs.Members.{shown_each}
 use Rattle.chanstate.specs.Memory.{any_adds}
+use Rattle.chanstate.specs.Plans.{joined_if}
 use Rattle.chanstate.specs.Steps.{steps}
 use Rattle.chanstate.proofs.KeptLemmas.{adds-none, joins_none, same_address, same_nick, same_topic, shown_none}
 use Rattle.chanstate.proofs.StepLemmas.{each_step-listed}
@@ -11,8 +14,10 @@ returns-in-Join c =
     let s = c.args.self.now in
     let is = c.in-Join.ensures in
     let person = c.in-Join.person in
-    sym (ap (λ items. steps items s) (sym is)
-    ∙ joins_none person.nick.now person.user.now person.host.now (channels_in c.in-Join.list.now) s (ap (λ items. any_adds items s) is ∙ c.requires))
+    let names = channels_in c.in-Join.list.now in
+    c.note_join.ensures ∙ ap (λ b. record s { support = joined_if b s.support }) c.names_channel.ensures
+    ∙ sym (ap (λ items. steps items s) (sym is)
+    ∙ joins_none person.nick.now person.user.now person.host.now names s (ap (λ items. any_adds items s) is ∙ c.requires))
 
 pub returns-in-Nick : goal.returns-in-Nick
 returns-in-Nick c =
@@ -49,5 +54,6 @@ returns-in-Names c =
     let channel = c.in-Names.channel.now in
     let names = c.in-Names.names.now in
     ap (λ cs. record s { channels = cs })
-    (c.show.ensures ∙ shown_none channel names s (adds-none (NamesTold channel names) s (ap (λ items. any_adds items s) is ∙ c.requires)))
+    (c.show.ensures ∙ ap (λ mapping. on_channel mapping channel (shown_each mapping (names_in s.support names)) s.channels) c.casemapping-mapping.ensures
+    ∙ shown_none channel names s (adds-none (NamesTold channel names) s (ap (λ items. any_adds items s) is ∙ c.requires)))
     ∙ sym (each_step-listed channel (names_in s.support names) s) ∙ ap (λ items. steps items s) is

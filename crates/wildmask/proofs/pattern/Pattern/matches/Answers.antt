@@ -2,17 +2,18 @@ use Rattle.std.proofs.Common.{◌≡◌, ◌↔◌, ◌≤◌, ◌+◌, ◌*◌,
 use Rattle.std.proofs.lemmas.List.{length-map}
 use Rattle.wildmask.specs.declared.items.Item.{Item}
 use Rattle.wildmask.specs.Codes.{items_in, decoded}
+use Rattle.wildmask.specs.Walks.{AllLower}
 use Rattle.wildmask.specs.Matching.{Matches}
 use Rattle.wildmask.proofs.PatternLemmas.{parts_are, first_is_lower, end_is_lower, end_is_one}
 use Rattle.wildmask.proofs.pattern.Pattern.matches.Goals as goal
 
 pub matches_end_first-requires-clause-lower : goal.matches_end_first-requires-clause-lower
-matches_end_first-requires-clause-lower c = first_is_lower
-    (take c.self.inside.len c.self.inside.codes) _ _ c.self.inside.front c.split_at.ensures.front c.split_at.ensures.back c.self.invariant.2
+matches_end_first-requires-clause-lower c = first_is_lower c.args.mapping
+    (take c.self.inside.len c.self.inside.codes) _ _ c.self.inside.front c.split_at.ensures.front c.split_at.ensures.back (subst (AllLower c.args.mapping) (sym c.self.view_is) c.requires.lower)
 
 pub matches_end_first-requires-clause-lower_end : goal.matches_end_first-requires-clause-lower_end
-matches_end_first-requires-clause-lower_end c = end_is_lower
-    (take c.self.inside.len c.self.inside.codes) _ _ c.self.inside.front c.split_at.ensures.front c.split_at.ensures.back c.self.invariant.2
+matches_end_first-requires-clause-lower_end c = end_is_lower c.args.mapping
+    (take c.self.inside.len c.self.inside.codes) _ _ c.self.inside.front c.split_at.ensures.front c.split_at.ensures.back (subst (AllLower c.args.mapping) (sym c.self.view_is) c.requires.lower)
 
 pub matches_end_first-requires-clause-one : goal.matches_end_first-requires-clause-one
 matches_end_first-requires-clause-one c = end_is_one
@@ -23,7 +24,7 @@ returns-clause-matches c =
     let parts : items_in c.split_at.result.0.now ++ items_in c.split_at.result.1.now ≡ c.args.self.now =
     sym (parts_are (take c.self.inside.len c.self.inside.codes) _ _ c.self.inside.front c.split_at.ensures.front c.split_at.ensures.back)
     ∙ c.self.view_is in
-    subst (λ (xs : List Item). IsTrue c.matches_end_first.result ↔ Matches xs c.args.text.now) parts c.matches_end_first.ensures.matches
+    subst (λ (xs : List Item). IsTrue c.matches_end_first.result ↔ Matches c.args.mapping xs c.args.text.now) parts c.matches_end_first.ensures.matches
 
 pub returns-clause-counted : goal.returns-clause-counted
 returns-clause-counted c =

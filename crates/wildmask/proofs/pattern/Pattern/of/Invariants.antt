@@ -9,7 +9,7 @@ invariant-loop-item l =
     record {
       held : length l.codes ≡ 120;
       room : l.len + length l.rest ≤ 120;
-      all : items_in (take l.len l.codes) ++ map lower (items_of l.kind l.rest) ≡ map lower (items_of l.kind l.text);
+      all : items_in (take l.len l.codes) ++ map (lower l.mapping) (items_of l.kind l.rest) ≡ map (lower l.mapping) (items_of l.kind l.text);
     }
 
 abbrev pub decreases-loop-item : goal.decreases-loop-item

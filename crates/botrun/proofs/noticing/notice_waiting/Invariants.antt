@@ -1,6 +1,0 @@
-use Rattle.std.proofs.Common.{◌≡◌}
-use Rattle.botrun.proofs.noticing.notice_waiting.Given as goal
-
--- the session is the one from before
-abbrev pub invariant-loop-call : goal.invariant-loop-call
-invariant-loop-call l = l.uplink.session ≡ l.fn.uplink.session

@@ -1,8 +1,0 @@
-use Rattle.std.proofs.Common.{ℕ, List, ◌++◌, take}
-use Rattle.sha2.specs.Hashers.{Holds256}
-use Rattle.botrun.specs.RecordSums.{bans_spelled}
-use Rattle.botrun.proofs.record_sum.add_bans.Given as goal
-
-abbrev pub invariant-loop-place : goal.invariant-loop-place
-invariant-loop-place l =
-    (m : List ℕ) → Holds256 l.fn.hasher m → Holds256 l.hasher (m ++ bans_spelled (take l.place l.userfile.bans))

@@ -1,0 +1,13 @@
+use Rattle.std.proofs.Common.{◌≡◌, All, map, length}
+use Rattle.httparse.specs.Spans.{IsHeaderWithin, header_bytes}
+use Rattle.page.specs.Requests.{lone}
+use Rattle.page.proofs.heading.lone.Given as goal
+
+-- the fields that are left decide
+abbrev pub invariant-loop-rest : goal.invariant-loop-rest
+invariant-loop-rest l =
+    (lone l.fn.name (map (header_bytes l.fn.heard) l.fn.fields) ≡ lone l.fn.name (map (header_bytes l.fn.heard) l.rest))
+    × All (IsHeaderWithin (length l.fn.heard)) l.rest
+
+abbrev pub decreases-loop-rest : goal.decreases-loop-rest
+decreases-loop-rest l = length l.rest

@@ -1,0 +1,6 @@
+pub mod Statuses
+pub mod Marks
+pub mod Sites
+pub mod Requests
+pub mod Persons
+pub mod Answers

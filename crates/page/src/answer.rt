@@ -1,0 +1,123 @@
+// The answer to a request.
+ghost use Rattle.std.specs.Prelude.{◌≡◌, ◌≤◌, ◌⊎◌, ◌+◌, ◌++◌, [], IfOk, true, length, vec_len};
+ghost use Rattle.page.specs.Answers.{BeginsWith};
+ghost use Rattle.page.specs.Marks.{ArePrinted};
+ghost use Rattle.page.specs.Requests.{status_of};
+ghost use Rattle.page.specs.Statuses.{status_line};
+ghost use Rattle.page.specs.declared.answer.TheConstants.{MAX_ANSWER};
+ghost use Rattle.page.specs.declared.sheet.TheConstants.{MAX_PAGE};
+ghost use Rattle.page.specs.declared.status.PageStatus.TheVariants.{LongPage, Fine};
+
+use crate::heads::{Kind, head_of};
+use crate::log_page::log_page;
+use crate::metrics::metrics;
+use crate::net_page::net_page;
+use crate::records_page::records_page;
+use crate::refusals::refusal_text;
+use crate::request::{PageRequest, PageWant};
+use crate::sheet::{MAX_PAGE, Sheet, SheetError};
+use crate::status::PageStatus;
+use crate::style::style;
+use crate::view::PageView;
+use bytetext::{Failure, NoMemory};
+use std::alloc::Global;
+
+/// The most bytes of an answer, with its head.
+pub const MAX_ANSWER: usize = MAX_PAGE + 1_024;
+
+/// An answer: the bytes of its head, and those of its body.
+#[derive(Drop)]
+pub struct PageAnswer {
+    /// The status.
+    pub status: PageStatus,
+    /// The head, with the empty line at its end.
+    pub head: Vec<u8>,
+    /// The body; nothing if the method was HEAD.
+    pub body: Vec<u8>,
+}
+
+/// Returns the answer to a `request` at a bot that is as `view` shows it. The connection is to be closed after it.
+///
+/// # Errors
+/// `NoMemory` if an allocation fails.
+pub fn answer_to(
+    alloc: Global,
+    request: &PageRequest,
+    view: &PageView<'_>,
+) -> Result<PageAnswer, NoMemory>
+    // A request that is refused gets that refusal, and one for a page the page, or 500 if it would be too long.
+    ensures status { IfOk result (λ answer. (answer.status ≡ status_of request.now.want)
+        ⊎ ((status_of request.now.want ≡ Fine) × (answer.status ≡ LongPage))) }
+    ensures line { IfOk result (λ answer. BeginsWith (status_line answer.status) answer.head.items) }
+    // Each byte is LF, CR or a space to `~`.
+    ensures head { IfOk result (λ answer. ArePrinted answer.head.items) }
+    ensures body { IfOk result (λ answer. ArePrinted answer.body.items) }
+    ensures bound { IfOk result (λ answer. length answer.head.items + length answer.body.items ≤ MAX_ANSWER) }
+    ensures bodiless { request.now.is_head ≡ true → IfOk result (λ answer. answer.body.items ≡ []) }
+{
+    let Page { status, kind, body } = page_of(alloc, request, view)?;
+    let head = head_of(alloc, status, kind, body.len(), view.now)?;
+    let body = if request.is_head {
+        Vec::new(alloc)
+    } else {
+        body
+    };
+    Ok(PageAnswer { status, head, body })
+}
+
+// What is shown, and its status.
+#[derive(Drop)]
+struct Page {
+    status: PageStatus,
+    kind: Kind,
+    body: Vec<u8>,
+}
+
+// Returns what is to be shown.
+fn page_of(alloc: Global, request: &PageRequest, view: &PageView<'_>) -> Result<Page, NoMemory>
+    ensures status { IfOk result (λ page. (page.status ≡ status_of request.now.want)
+        ⊎ ((status_of request.now.want ≡ Fine) × (page.status ≡ LongPage))) }
+    ensures printed { IfOk result (λ page. ArePrinted page.body.items) }
+    ensures bound { IfOk result (λ page. length page.body.items ≤ MAX_PAGE) }
+{
+    match &request.want {
+        PageWant::Refused(status) => refused(alloc, *status),
+        PageWant::Net { from } => shown(alloc, Kind::Html, net_page(alloc, view, *from)),
+        PageWant::Records { from, who } => {
+            shown(alloc, Kind::Html, records_page(alloc, view, *from, who))
+        }
+        PageWant::Log => shown(alloc, Kind::Html, log_page(alloc, view)),
+        PageWant::Metrics => shown(alloc, Kind::Metrics, metrics(alloc, view)),
+        PageWant::Style => shown(alloc, Kind::Style, style(alloc)),
+    }
+}
+
+// A page that was written, or why it was not.
+fn shown(alloc: Global, kind: Kind, written: Result<Sheet, SheetError>) -> Result<Page, NoMemory>
+    ensures status { IfOk result (λ page. (page.status ≡ Fine) ⊎ (page.status ≡ LongPage)) }
+    ensures printed { IfOk result (λ page. ArePrinted page.body.items) }
+    ensures bound { IfOk result (λ page. length page.body.items ≤ MAX_PAGE) }
+{
+    match written {
+        Ok(sheet) => Ok(Page {
+            status: PageStatus::Fine,
+            kind,
+            body: sheet.finish(),
+        }),
+        Err(Failure::Refused(_)) => refused(alloc, PageStatus::LongPage),
+        Err(Failure::NoMemory) => Err(NoMemory),
+    }
+}
+
+// A page that says why no other is shown.
+fn refused(alloc: Global, status: PageStatus) -> Result<Page, NoMemory>
+    ensures status { IfOk result (λ page. page.status ≡ status) }
+    ensures printed { IfOk result (λ page. ArePrinted page.body.items) }
+    ensures bound { IfOk result (λ page. length page.body.items ≤ MAX_PAGE) }
+{
+    Ok(Page {
+        status,
+        kind: Kind::Text,
+        body: Vec::from_slice(alloc, refusal_text(status))?,
+    })
+}

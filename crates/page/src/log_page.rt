@@ -1,0 +1,87 @@
+// The page of the log.
+ghost use Rattle.std.specs.Prelude.{◌≤◌, length};
+
+use crate::layout::{put_end, put_top};
+use crate::request::PagePath;
+use crate::sheet::{Sheet, SheetError};
+use crate::view::PageView;
+use std::alloc::Global;
+
+// The most lines that the page shows.
+const LINES: usize = 500;
+
+// The most bytes of them.
+const BYTES: usize = 65_536;
+
+// Returns the page of the log: its last lines, the last one first.
+pub(crate) fn log_page(alloc: Global, view: &PageView<'_>) -> Result<Sheet, SheetError> {
+    let mut sheet = Sheet::new(alloc);
+    put_top(&mut sheet, view, PagePath::Log)?;
+    sheet.put(
+        b"<p>The last lines come first. Reload the page for newer ones.</p>\n<ol class=\"log\">\n",
+    )?;
+    let room = Room {
+        lines: LINES,
+        bytes: BYTES,
+    };
+    let room = put_lines(&mut sheet, view.log.latest, room)?;
+    let _left = put_lines(&mut sheet, view.log.earlier, room)?;
+    sheet.put(b"</ol>\n")?;
+    put_end(&mut sheet, view)?;
+    Ok(sheet)
+}
+
+// How much of the log may still be shown.
+#[derive(Clone, Copy)]
+struct Room {
+    lines: usize,
+    bytes: usize,
+}
+
+// Appends the last of these lines for which there is room, the last one first. Returns what room is left: none if a line
+// did not fit.
+fn put_lines(sheet: &mut Sheet, lines: &[u8], room: Room) -> Result<Room, SheetError> {
+    let mut rest = lines;
+    let mut left = room;
+    for _line in 0..LINES {
+        if rest.is_empty() {
+            return Ok(left);
+        }
+        let (before, line) = last_line(rest);
+        if left.lines == 0 || line.len() > left.bytes {
+            break;
+        }
+        put_line(sheet, line)?;
+        left = Room {
+            lines: left.lines - 1,
+            bytes: left.bytes - line.len(),
+        };
+        rest = before;
+    }
+    Ok(Room { lines: 0, bytes: 0 })
+}
+
+fn put_line(sheet: &mut Sheet, line: &[u8]) -> Result<(), SheetError> {
+    sheet.put(b"<li>")?;
+    sheet.put_text(without_end(line))?;
+    sheet.put(b"</li>\n")
+}
+
+// Cuts lines before the last one.
+fn last_line(lines: &[u8]) -> (&[u8], &[u8]) {
+    let text = without_end(lines);
+    match memchr::memrchr(b'\n', text) {
+        Some(place) => lines.split_at(place + 1),
+        None => (b"", lines),
+    }
+}
+
+// A line without the LF at its end.
+fn without_end(line: &[u8]) -> &[u8]
+    ensures within { length result.now ≤ length line.now }
+{
+    match line.split_last() {
+        Some((b'\n', front)) => front,
+        _ => line,
+    }
+}

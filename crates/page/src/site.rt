@@ -1,0 +1,187 @@
+// Where a page is served, and who may read it.
+ghost use Rattle.std.specs.Prelude.{◌≡◌, ◌==◌, IfOk, MatchOption, None};
+ghost use Rattle.std.specs.List.{list_any};
+ghost use Rattle.std.specs.Option.{option_copied};
+ghost use Rattle.sha2.specs.Sha256.{sha256};
+ghost use Rattle.page.specs.Sites.{after_colon, authority, basic_token, host_text, is_pair, shows, unbase64};
+
+use base64::DecodeAllocError;
+use base64::engine::general_purpose::STANDARD;
+use bytetext::{NoMemory, Text};
+use itoa::Buffer;
+use sha2::{Digest, Sha256};
+use std::alloc::Global;
+
+/// Where a page is served, and who may read it. It keeps no password, only its digest.
+///
+/// ```text
+/// let site = PageSite::new(alloc, b"127.0.0.1", 8300)?.with_password(password);
+/// ```
+#[derive(Drop)]
+pub struct PageSite {
+    /// The Host of a request to the page's address.
+    pub own: Text,
+    /// The Host of a request to `localhost`.
+    pub local: Text,
+    /// The SHA-256 of the password, if a reader must show one.
+    pub digest: Option<[u8; 32]>,
+}
+
+impl PageSite {
+    ghost use Rattle.std.specs.Prelude.{◌≡◌, IfOk, None, Some, codes, is_some, not};
+    ghost use Rattle.sha2.specs.Sha256.{sha256};
+    ghost use Rattle.page.specs.Sites.{authority, host_text, is_ours, passes};
+
+    /// Creates the site of a page at the IP address `host` and `port`, which all may read.
+    ///
+    /// # Errors
+    /// `NoMemory` if an allocation fails.
+    pub fn new(alloc: Global, host: &[u8], port: u16) -> Result<PageSite, NoMemory>
+        ensures own { IfOk result (λ site. site.own ≡ authority (host_text host.now) port) }
+        ensures local { IfOk result (λ site. site.local ≡ authority (codes "localhost") port) }
+        ensures open { IfOk result (λ site. site.digest ≡ None) }
+    {
+        let host = host_text(alloc, host)?;
+        Ok(PageSite {
+            own: authority(alloc, host.as_slice(), port)?,
+            local: authority(alloc, b"localhost", port)?,
+            digest: None,
+        })
+    }
+
+    /// Returns the same site, whose readers must show this `password`.
+    pub fn with_password(self, password: &[u8]) -> PageSite
+        ensures { result ≡ record self { digest = Some (sha256 password.now) } }
+    {
+        PageSite {
+            own: self.own,
+            local: self.local,
+            digest: Some(digest_of(password)),
+        }
+    }
+
+    // Whether a request with this Host is one to this page. A page of another host, whose name somebody has made lead to
+    // this machine, gets no answer so.
+    pub(crate) fn is_ours(&self, host: &[u8]) -> bool
+        ensures { result ≡ is_ours self.now host.now }
+    {
+        host.eq_ignore_ascii_case(self.own.as_bytes())
+            || host.eq_ignore_ascii_case(self.local.as_bytes())
+    }
+
+    // Whether all may read the page.
+    pub(crate) fn is_open(&self) -> bool
+        ensures { result ≡ not (is_some self.now.digest) }
+    {
+        self.digest.is_none()
+    }
+
+    // Whether a request whose field `Authorization` has this value may read the page.
+    pub(crate) fn allows(&self, alloc: Global, value: &[u8]) -> Result<bool, NoMemory>
+        ensures { IfOk result (λ allowed. allowed ≡ passes self.now.digest value.now) }
+    {
+        match &self.digest {
+            Some(digest) => shows(alloc, digest, value),
+            None => Ok(true),
+        }
+    }
+}
+
+// Whether the value of a field `Authorization` shows the password of this digest (RFC 7617 section 2). Digests are
+// compared, so the time that this takes tells nothing about the password.
+fn shows(alloc: Global, digest: &[u8; 32], value: &[u8]) -> Result<bool, NoMemory>
+    ensures { IfOk result (λ allowed. allowed ≡ shows digest.now value.now) }
+{
+    let Some(token) = basic_token(value) else {
+        return Ok(false);
+    };
+    match bytes_in(alloc, token)? {
+        Some(pair) => Ok(is_pair(digest, pair.as_slice())),
+        None => Ok(false),
+    }
+}
+
+// Returns the bytes that `text` is the Base64 of, or `None` if it is not Base64.
+fn bytes_in(alloc: Global, text: &[u8]) -> Result<Option<Vec<u8>>, NoMemory>
+    ensures { IfOk result (λ bytes. MatchOption bytes (unbase64 text.now ≡ None) (λ found. unbase64 text.now ≡ Some found.items)) }
+{
+    match STANDARD.decode(alloc, text) {
+        Ok(bytes) => Ok(Some(bytes)),
+        Err(DecodeAllocError::DecodeError(_)) => Ok(None),
+        Err(DecodeAllocError::OutOfMemory) => Err(NoMemory),
+    }
+}
+
+// Whether a user's name, a colon and the password of this digest are there.
+fn is_pair(digest: &[u8; 32], pair: &[u8]) -> bool
+    ensures { result ≡ is_pair digest.now pair.now }
+{
+    match after_colon(pair) {
+        Some(password) => digest_of(password) == *digest,
+        None => false,
+    }
+}
+
+fn digest_of(password: &[u8]) -> [u8; 32]
+    ensures { result ≡ sha256 password.now }
+{
+    Sha256::digest(password)
+}
+
+// What stands after `Basic` and a space.
+fn basic_token(value: &[u8]) -> Option<&[u8]>
+    ensures { option_copied result ≡ basic_token value.now }
+{
+    let (scheme, token) = value.split_at(value.len().min(6));
+    if scheme.eq_ignore_ascii_case(b"basic ") {
+        Some(token)
+    } else {
+        None
+    }
+}
+
+// What stands after the first colon.
+fn after_colon(pair: &[u8]) -> Option<&[u8]>
+    ensures { option_copied result ≡ after_colon pair.now }
+{
+    let mut rest = pair;
+    while let [byte, behind @ ..] = rest {
+        if *byte == b':' {
+            return Some(behind);
+        }
+        rest = behind;
+    }
+    None
+}
+
+// The host as a URL has it: an address of IPv6 stands in brackets.
+fn host_text(alloc: Global, host: &[u8]) -> Result<Vec<u8>, NoMemory>
+    ensures { IfOk result (λ text. text.items ≡ host_text host.now) }
+{
+    if !has_colon(host) {
+        return Ok(Vec::from_slice(alloc, host)?);
+    }
+    let mut text = Vec::from_slice(alloc, b"[")?;
+    text.extend_from_slice(host)?;
+    text.extend_from_slice(b"]")?;
+    Ok(text)
+}
+
+fn has_colon(host: &[u8]) -> bool
+    ensures { result ≡ list_any (λ b. b == 58) host.now }
+{
+    host.iter().any(|byte| *byte == b':')
+}
+
+// A host and its port, as the Host of a request has them.
+fn authority(alloc: Global, host: &[u8], port: u16) -> Result<Text, NoMemory>
+    ensures { IfOk result (λ text. text ≡ authority host.now port) }
+{
+    let mut text = Vec::from_slice(alloc, host)?;
+    if port != 80 {
+        let mut buffer = Buffer::new();
+        text.extend_from_slice(b":")?;
+        text.extend_from_slice(buffer.format(port).as_bytes())?;
+    }
+    Ok(Text::new(text))
+}

@@ -1,0 +1,3 @@
+pub mod KeptSums
+pub mod RecordSums
+pub mod Sums

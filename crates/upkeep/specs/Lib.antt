@@ -1,0 +1,6 @@
+pub mod Bases
+pub mod Ending
+pub mod Refusing
+pub mod Reloading
+pub mod Spaces
+pub mod Stations

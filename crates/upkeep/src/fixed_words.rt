@@ -1,0 +1,93 @@
+// What a running bot can't change when its configuration is read again.
+ghost use Rattle.std.specs.Prelude.{◌≡◌};
+ghost use Rattle.upkeep.specs.Reloading.{are_said_in, changed_word, is_at, same_address, same_leaves, same_page};
+ghost use Rattle.upkeep.specs.Reloading.{same_station, same_text};
+
+use bytetext::Text;
+use settings::{Address, PageSetting, SettingWord, Settings, Station};
+
+/// Returns the first word whose lines differ in `old` and `new`, of those that can't change while the bot runs, besides
+/// `zone`.
+pub fn changed_word(old: &Settings, new: &Settings) -> Option<SettingWord>
+    ensures { result ≡ changed_word old.now new.now }
+{
+    if old.folder.as_bytes() != new.folder.as_bytes() {
+        Some(SettingWord::Data)
+    } else if !same_station(old.station, new.station) {
+        Some(SettingWord::Bot)
+    } else if !same_address(&old.hub, &new.hub) {
+        Some(SettingWord::Hub)
+    } else if !same_address(&old.listen, &new.listen) {
+        Some(SettingWord::Listen)
+    } else if !same_leaves(old, new) {
+        Some(SettingWord::Leaf)
+    } else if !same_text(&old.secret, &new.secret) {
+        Some(SettingWord::Secret)
+    } else if old.exclusive != new.exclusive {
+        Some(SettingWord::Exclusive)
+    } else if !same_page(&old.page, &new.page) {
+        Some(SettingWord::Page)
+    } else {
+        None
+    }
+}
+
+fn same_station(old: Station, new: Station) -> bool
+    ensures { result ≡ same_station old new }
+{
+    old.number == new.number && old.leaves == new.leaves
+}
+
+pub(crate) fn same_text(old: &Option<Text>, new: &Option<Text>) -> bool
+    ensures { result ≡ same_text old.now new.now }
+{
+    match (old, new) {
+        (None, None) => true,
+        (Some(old), Some(new)) => old.as_bytes() == new.as_bytes(),
+        (None, Some(_)) | (Some(_), None) => false,
+    }
+}
+
+fn same_address(old: &Option<Address>, new: &Option<Address>) -> bool
+    ensures { result ≡ same_address old.now new.now }
+{
+    match (old, new) {
+        (None, None) => true,
+        (Some(old), Some(new)) => is_at(old, new),
+        (None, Some(_)) | (Some(_), None) => false,
+    }
+}
+
+fn is_at(old: &Address, new: &Address) -> bool
+    ensures { result ≡ is_at old.now new.now }
+{
+    old.port == new.port && old.host.as_bytes() == new.host.as_bytes()
+}
+
+// Whether the same leaves may only read, in whatever order.
+fn same_leaves(old: &Settings, new: &Settings) -> bool
+    ensures { result ≡ same_leaves old.now.reads new.now.reads }
+{
+    are_said_in(old, new) && are_said_in(new, old)
+}
+
+fn are_said_in(one: &Settings, other: &Settings) -> bool
+    ensures { result ≡ are_said_in one.now.reads other.now.reads }
+{
+    one.reads
+        .as_slice()
+        .iter()
+        .all(|line| other.only_reads(line.leaf))
+}
+
+fn same_page(old: &Option<PageSetting>, new: &Option<PageSetting>) -> bool
+    ensures { result ≡ same_page old.now new.now }
+{
+    match (old, new) {
+        (None, None) => true,
+        (Some(old), Some(new)) => {
+            is_at(&old.address, &new.address) && same_text(&old.password, &new.password)
+        }
+        (None, Some(_)) | (Some(_), None) => false,
+    }
+}

@@ -1,0 +1,122 @@
+// Why a bot does not execute a command now.
+ghost use Rattle.std.specs.Prelude.{◌≡◌, true, false, IfOk, IsSome};
+ghost use Rattle.peers.specs.Asking.{may_ask};
+ghost use Rattle.upkeep.specs.Refusing.{is_change};
+
+use crate::space::{NO_ROOM, Space};
+use bytetext::NoMemory;
+use control::AdminCommand;
+use peers::{Doubt, HandshakeRefusal, Links};
+use std::alloc::Global;
+
+// The answer to an admin who asks for a change at a leaf that may only read.
+const READS: &[u8] =
+    b"refused this leaf may only read: ask at the hub, or take its line leaf out of the hub's configuration\n";
+
+// The answer to an admin who asks for a change at a leaf that was never linked.
+const NEW: &[u8] =
+    b"refused never linked: this leaf takes changes once its hub has welcomed it: ask at the hub, or see what status says\n";
+
+/// Returns the answer that refuses `command`, if the bot does not execute it now: it has no room on its disk, or it is a
+/// hub in doubt, or a leaf that may only read or was never linked.
+///
+/// # Errors
+/// `NoMemory` if an allocation fails.
+pub fn refusal(
+    alloc: Global,
+    links: &Links,
+    space: &Space,
+    command: &AdminCommand,
+) -> Result<Option<Vec<u8>>, NoMemory>
+    // A bot that may not ask for changes refuses each change.
+    ensures asks { may_ask links.now ≡ false → is_change command.now ≡ true → IfOk result IsSome }
+{
+    if needs_room(command) && !space.has_room() {
+        return Ok(Some(Vec::from_slice(alloc, NO_ROOM)?));
+    }
+    if !is_change(command) {
+        return Ok(None);
+    }
+    if let Some(doubt) = links.doubt() {
+        return Ok(Some(in_doubt(alloc, doubt)?));
+    }
+    if links.is_new_leaf() {
+        return Ok(Some(Vec::from_slice(alloc, NEW)?));
+    }
+    if !links.may_ask() {
+        return Ok(Some(Vec::from_slice(alloc, READS)?));
+    }
+    Ok(None)
+}
+
+// The answer of a hub in doubt to an admin who asks for a change.
+fn in_doubt(alloc: Global, doubt: Doubt) -> Result<Vec<u8>, NoMemory> {
+    let Doubt { leaf, refusal } = doubt;
+    let line = format!(in alloc;
+        "refused in doubt: leaf {leaf} {}, so this hub may be an older copy: give it its newest journal back, or say trust-this-copy\n",
+        found(refusal)
+    )?;
+    Ok(line.into_bytes())
+}
+
+// What the hub found at the leaf that makes it doubt.
+fn found(refusal: HandshakeRefusal) -> &'static str {
+    match refusal {
+        HandshakeRefusal::Ahead => "is ahead of this hub",
+        HandshakeRefusal::Records => "has other records at the hub's version",
+        HandshakeRefusal::Net
+        | HandshakeRefusal::Count
+        | HandshakeRefusal::Other
+        | HandshakeRefusal::Older => "was refused",
+    }
+}
+
+// Whether a command asks for a change of the records.
+fn is_change(command: &AdminCommand) -> bool
+    ensures { result ≡ is_change command.now }
+{
+    match command {
+        AdminCommand::Change(_) => true,
+        AdminCommand::Show
+        | AdminCommand::ShowJson
+        | AdminCommand::Status
+        | AdminCommand::StatusJson
+        | AdminCommand::Reload
+        | AdminCommand::Reopen
+        | AdminCommand::Backup(_)
+        | AdminCommand::Join(_)
+        | AdminCommand::Part(_)
+        | AdminCommand::Bind(_)
+        | AdminCommand::Unbind(_)
+        | AdminCommand::Say(_)
+        | AdminCommand::Compact
+        | AdminCommand::Jump
+        | AdminCommand::Renew(_)
+        | AdminCommand::Trust
+        | AdminCommand::Die(_) => false,
+    }
+}
+
+// Whether a command writes to the bot's folder.
+fn needs_room(command: &AdminCommand) -> bool {
+    match command {
+        AdminCommand::Change(_)
+        | AdminCommand::Compact
+        | AdminCommand::Renew(_)
+        | AdminCommand::Trust => true,
+        AdminCommand::Show
+        | AdminCommand::ShowJson
+        | AdminCommand::Status
+        | AdminCommand::StatusJson
+        | AdminCommand::Reload
+        | AdminCommand::Reopen
+        | AdminCommand::Backup(_)
+        | AdminCommand::Join(_)
+        | AdminCommand::Part(_)
+        | AdminCommand::Bind(_)
+        | AdminCommand::Unbind(_)
+        | AdminCommand::Say(_)
+        | AdminCommand::Jump
+        | AdminCommand::Die(_) => false,
+    }
+}

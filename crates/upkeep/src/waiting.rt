@@ -1,0 +1,34 @@
+// The wait between two turns of a process.
+ghost use Rattle.std.specs.Prelude.{◌<◌, IfOk};
+ghost use Rattle.bytetext.specs.declared.moment.TheConstants.{MOMENTS_END};
+
+use crate::ending::RunError;
+use administrators::Seconds;
+use net::{Timeline, Watch};
+use std::time::Clock;
+
+/// Waits until there may be something to do: not at all unless the process `rests`, and at most until the next second.
+/// Returns what the clocks show after the wait.
+///
+/// # Errors
+/// `System` if the system cannot wait or tell the time.
+pub fn wait<R: Clock>(
+    rt: &R,
+    watch: &mut Watch,
+    timeline: &mut Timeline,
+    rests: bool,
+) -> Result<Seconds, RunError>
+    ensures moment { IfOk result (λ seconds. seconds.wall < MOMENTS_END) }
+{
+    let most = if rests { rest_of_second(rt)? } else { 0 };
+    watch.wait(most)?;
+    let wall = timeline.read_clocks(rt)?;
+    let steady = rt.monotonic()?.as_secs();
+    Ok(Seconds { wall, steady })
+}
+
+// The milliseconds that are left of this second, at least 1.
+fn rest_of_second<R: Clock>(rt: &R) -> Result<u64, RunError> {
+    let passed = u64::from(rt.since_1970()?.subsec_millis());
+    Ok(1_000u64.saturating_sub(passed).max(1))
+}
