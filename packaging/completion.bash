@@ -7,7 +7,7 @@ _eggnet() {
     return
   fi
   case "${COMP_WORDS[1]}:$COMP_CWORD" in
-  tell:2 | show:2)
+  tell:2 | show:2 | start-over:2 | promote:*)
     compopt -o filenames 2>/dev/null
     mapfile -t COMPREPLY < <(compgen -d -- "$word")
     ;;

@@ -11,6 +11,7 @@ and in dark, into the folder PICTURES, if one is said. The last line is 'N well,
 """
 import base64
 import http.client
+import math
 import os
 import re
 import shutil
@@ -74,9 +75,12 @@ def asked(port, path="/", method="GET", host=None, headers=(), body=None):
 
 
 def load(port, seconds):
-    """Asks for so many pages a second, and prints how many were answered with 200, and the slowest, in milliseconds."""
+    """Asks for so many pages a second, and prints how many were answered with 200, of how many, the slowest in milliseconds, and
+    the seconds that it took; it ends 30 seconds late at the latest."""
     began, well, slowest = time.monotonic(), 0, 0.0
     for number in range(RATE * seconds):
+        if time.monotonic() - began > seconds + 30:
+            break
         time.sleep(max(0.0, began + number / RATE - time.monotonic()))
         start = time.monotonic()
         status, _, _ = asked(port, PATHS[number % len(PATHS)])
@@ -87,7 +91,7 @@ def load(port, seconds):
 
 def waits_of(bot, visitor, seconds):
     """How late answers are, for so long: on IRC, where the bot sends its lines when a second begins, and at its control socket."""
-    pings, commands, end, due = [], [], time.monotonic() + seconds, 0.0
+    pings, commands, end, due, number = [], [], time.monotonic() + seconds, 0.0, 0
     while time.monotonic() < end:
         if time.monotonic() > due:
             due, number = time.monotonic() + PACE, time.monotonic_ns()
@@ -103,7 +107,9 @@ def waits_of(bot, visitor, seconds):
 
 
 def shape(waits):
-    """The median and the 99th percentile, in milliseconds."""
+    """The median and the 99th percentile, in milliseconds; endless where fewer than two answers came."""
+    if len(waits) < 2:
+        return math.inf, math.inf
     return statistics.median(waits) * 1000, statistics.quantiles(waits, n=100, method="inclusive")[98] * 1000
 
 
@@ -121,8 +127,12 @@ def fill(tally, bot):
         for line in lines:
             it.sendall(line.encode() + b"\n")
             heard = b""
-            while not heard.endswith(b".\n"):
-                heard += it.recv(65536)
+            while not (heard == b".\n" or heard.endswith(b"\n.\n")):
+                piece = it.recv(65536)
+                if not piece:
+                    tally.note(f"a hub takes {len(lines)} changes", False, f"it is gone at {line!r}")
+                    return
+                heard += piece
             refused += heard.startswith((b"refused", b"fault"))
     tally.note(f"a hub takes {len(lines)} changes", refused == 0, f"{refused} refused")
 
@@ -141,20 +151,24 @@ def looks_at_answers(tally, port):
             page = Reading(body.decode())
             tally.note(f"GET {path}: each tag is closed, and there is no script", page.is_whole and "script" not in page.tags)
     status, fields, body = asked(port, "/", "HEAD")
-    tally.note("HEAD / has no body", status == 200 and not body and int(fields["Content-Length"]) > 1000)
+    length = int(fields.get("Content-Length", 0))
+    tally.note("HEAD / has no body", status == 200 and not body and length > 1000, f"{status}, {len(body)} bytes, of {length}")
     status, fields, _ = asked(port, "/", "POST", body=b"x" * 100)
     tally.note("POST / gets 405", status == 405 and fields.get("Allow") == "GET, HEAD", status)
     for method in ("PUT", "DELETE", "OPTIONS", "TRACE", "get", "CONNECT"):
-        tally.note(f"{method} gets 405", asked(port, "/", method)[0] == 405)
+        status = asked(port, "/", method)[0]
+        tally.note(f"{method} gets 405", status == 405, status)
     for path, host, wanted in (("/other", None, 404), ("/records?from=x", None, 400), ("/", "evil.example", 421),
                                ("/", f"evil.example:{port}", 421), ("/", f"localhost:{port}", 200),
                                ("/", "127.0.0.1", 421), ("/../etc/passwd", None, 404), ("/log?from=99999999999999999999999", None, 400)):
         status = asked(port, path, host=host)[0]
         tally.note(f"GET {path} at {host or 'its own address'} gets {wanted}", status == wanted, status)
-    tally.note("5,000 bytes of fields get 431", asked(port, "/", headers=[("X", "y" * 5000)])[0] == 431)
-    tally.note("no HTTP gets 400", raw(port, b"EHLO there\r\n\r\n").startswith(b"HTTP/1.1 400 "))
-    tally.note("two Hosts get 400", raw(port, f"GET / HTTP/1.1\r\nHost: localhost:{port}\r\nHost: localhost:{port}\r\n\r\n".encode())
-               .startswith(b"HTTP/1.1 400 "))
+    status = asked(port, "/", headers=[("X", "y" * 5000)])[0]
+    tally.note("5,000 bytes of fields get 431", status == 431, status)
+    two = f"GET / HTTP/1.1\r\nHost: localhost:{port}\r\nHost: localhost:{port}\r\n\r\n".encode()
+    for what, sent in (("no HTTP gets", b"EHLO there\r\n\r\n"), ("two Hosts get", two)):
+        line = raw(port, sent).partition(b"\r\n")[0].decode(errors="replace")
+        tally.note(f"{what} 400", line.startswith("HTTP/1.1 400 "), line)
 
 
 def raw(port, sent, seconds=15):
@@ -186,7 +200,8 @@ def looks_at_texts(tally, port):
     right = numbers.get("eggnet_users") == "500" and numbers.get("eggnet_channels_op") == "1" and numbers.get("eggnet_bans") == "100"
     tally.note("the metrics count", right, {key: numbers.get(key) for key in ("eggnet_users", "eggnet_bans", "eggnet_channels_op")})
     log = asked(port, "/log")[2]
-    tally.note("the log is shown, its last line first", 0 < len(re.findall(b"<li>", log)) <= 500)
+    lines = len(re.findall(b"<li>", log))
+    tally.note("the log is shown, its last line first", 0 < lines <= 500, f"{lines} lines")
 
 
 def looks_at_strangers(tally, bot, port):
@@ -249,9 +264,13 @@ def looks_at_load(tally, bot, visitor, port, seconds):
     readers = subprocess.Popen([sys.executable, __file__, "--load", str(port), str(seconds)], stdout=subprocess.PIPE, text=True)
     slow = threading.Thread(target=trickle, args=(port, seconds))
     slow.start()
-    loaded = waits_of(bot, visitor, seconds)
-    out = readers.communicate(timeout=120)[0].split()
-    slow.join()
+    try:
+        loaded = waits_of(bot, visitor, seconds)
+        out = readers.communicate(timeout=seconds + 120)[0].split() or ["0", "?", "?", "?"]
+    finally:
+        readers.kill()
+        readers.wait()
+        slow.join()
     tally.note(f"{RATE} pages a second for {seconds} s: each is answered", out[:1] == out[1:2],
                f"{out[0]} of {out[1]} in {out[3]} s, the slowest in {out[2]} ms, {bot.spent() - spent} ms of processor time")
     for name, before, after in zip(("on IRC", "at the control socket"), calm, loaded):
@@ -273,8 +292,10 @@ def looks_at_password(tally, program, room, server):
         tally.note("without it 401", status == 401 and fields.get("WWW-Authenticate", "").startswith("Basic "), status)
         for word, wanted in (("a:egg:shell", 200), (":egg:shell", 200), ("a:egg", 401), ("a:egg:shell ", 401), ("egg:shell", 401)):
             field = ("Authorization", "Basic " + base64.b64encode(word.encode()).decode())
-            tally.note(f"with {word!r} {wanted}", asked(port, headers=[field])[0] == wanted)
-        tally.note("another scheme gets 401", asked(port, headers=[("Authorization", "Bearer egg:shell")])[0] == 401)
+            status = asked(port, headers=[field])[0]
+            tally.note(f"with {word!r} {wanted}", status == wanted, status)
+        status = asked(port, headers=[("Authorization", "Bearer egg:shell")])[0]
+        tally.note("another scheme gets 401", status == 401, status)
     finally:
         end_all(bot)
 
@@ -285,8 +306,11 @@ def looks_at_starts(tally, program, room, server, port):
                              ("none", f"page 127.0.0.1 {free_port()} {room}/nowhere", "can't be read"),
                              ("open", f"page 0.0.0.0 {free_port()}", "page")):
         bot = Bot(program, room, name, [server], [line])
-        status, _, error = ran([program, "run", bot.config])
-        tally.note(f"{line.replace(room, '..')}: it says what to change", status in (1, 3) and said in error, error)
+        try:
+            status, _, error = ran([program, "run", bot.config])
+        except subprocess.TimeoutExpired:
+            status, error = None, "it runs for two minutes"
+        tally.note(f"{line.replace(room, '..')}: it says what to change", status in (1, 3) and said in error, f"status {status}, {error}")
 
 
 def draw(tally, port, pictures):

@@ -4,8 +4,8 @@
     trials/reloads.py [PROGRAM] [RELOADS]      200 reloads if they aren't said
 
 PROGRAM is the program to try, else what EGGNET names, else ours. While people on IRC talk and ask a proc, the file is changed and
-read again: no line is lost, each question is answered once, a channel that is still named is never left, and binds come and go with the file. A
-faulty file is refused whole, with the words of `eggnet check`; so is one that changes what can't change. Then the nick and the
+read again: no line is lost, each question is answered once, a channel that is still named is never left, and binds come and go with the file,
+and so do the keys of channels. A faulty file is refused whole, with the words of `eggnet check`; so is one that changes what can't change. Then the nick and the
 servers change. Last, the journal of a bot that takes changes is copied: `eggnet show` of each copy shows the records of its
 version, and no bot of a net starts there. A folder that is a link or another user's is refused. The last line is
 'N well, M bad'; the status is 1 where any is bad.
@@ -134,6 +134,23 @@ def is_refused_whole(tally, bot, server, side):
     tally.note("nothing has changed", strip(before) == strip(after), after)
 
 
+def takes_keys(tally, bot, server, visitor, side):
+    """A channel's key in the file: the bot joins by it, and by another one once it has read the file again."""
+    write(bot, [server], [*CHANNELS[side], "#keyed sesame"])
+    reloads(tally, bot, "a file with a key")
+    tally.note("it joins by the key", bool(comes(lambda: visitor.said(r"^JOIN #keyed sesame$"))) and is_on(bot, [*CHANNELS[side], "#keyed"]))
+    write(bot, [server], [*CHANNELS[side], "#keyed poppy"])
+    reloads(tally, bot, "a file with another key")
+    time.sleep(3)
+    tally.note("it stays on the channel", not visitor.said(r"^(PART|JOIN) #keyed( poppy)?$"))
+    visitor.say(":ann!ann@host.trial KICK #keyed egg :out")
+    tally.note("after a KICK it joins by the other key", bool(comes(lambda: visitor.said(r"^JOIN #keyed poppy$"), 20)))
+    tally.note("the log shows no key", not re.search("sesame|poppy", bot.logged()))
+    write(bot, [server], CHANNELS[side])
+    reloads(tally, bot, "the file without the channel")
+    tally.note("it leaves the channel", bool(comes(lambda: visitor.said(r"^PART #keyed$"))))
+
+
 def joins_and_leaves(tally, bot, visitor, side):
     """+chan and -chan, until the file is read again."""
     out = bot.answers("+chan #more sesame")
@@ -177,6 +194,7 @@ def reloaded(tally, program, room, count):
         side = under_load(tally, bot, server, visitor, count)
         binds_follow(tally, bot, server, visitor, side)
         is_refused_whole(tally, bot, server, side)
+        takes_keys(tally, bot, server, visitor, side)
         joins_and_leaves(tally, bot, visitor, side)
         changes_nick_and_servers(tally, bot, server, visitor, side)
         status = bot.end()[1]

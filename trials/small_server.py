@@ -78,7 +78,7 @@ class SmallServer:
         elif word == "PING":
             visitor.say(f":{NAME} PONG {NAME} {rest}")
         elif word == "JOIN":
-            for channel in rest.split(","):
+            for channel in rest.split(" ")[0].split(","):  # keys may follow
                 self.join(visitor, channel)
 
     def join(self, visitor, channel):

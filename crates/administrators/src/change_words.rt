@@ -5,9 +5,13 @@ use std::fmt;
 use std::fmt::Display;
 use userfile::Change;
 
-// A change as the log shows it, such as `addhost ann *!ann@host.example`.
+/// A change as the log shows it, such as `addhost ann *!ann@host.example`: an admin can ask for it by these words, if no
+/// text in it has control bytes or invalid UTF-8.
 #[derive(Clone, Copy)]
-pub(crate) struct ChangeWords<'a>(pub(crate) &'a Change);
+pub struct ChangeWords<'a>(
+    /// The change.
+    pub &'a Change,
+);
 
 impl Display for ChangeWords<'_> {
     fn fmt<W: fmt::Write>(&self, f: &mut fmt::Formatter<W>) -> fmt::Result {

@@ -42,6 +42,7 @@ pub use crate::answers::{
 pub use crate::asks::{Asker, Asks, asks_in, is_ask_fault};
 pub use crate::audit::{Requester, log_changes};
 pub use crate::change_outcome::ChangeOutcome;
+pub use crate::change_words::ChangeWords;
 pub use crate::log_entry::LogEntry;
 pub use crate::noticing::notice_callers;
 pub use crate::requests::requests_in;

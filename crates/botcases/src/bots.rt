@@ -55,14 +55,16 @@ fn config_of(
         nick: nick.copy(alloc)?,
         channels: Texts::new(copies_of(alloc, channels)?),
         exclusive: false,
+        sends_at_once: false,
         zone,
     })
 }
 
-/// Answers `bot NUMBER EXCLUSIVE STEP..`: what each step of a bot named `egg` answers, with ` ; ` between. `words` are
+/// Answers `bot NUMBER SETTING STEP..`: what each step of a bot named `egg` answers, with ` ; ` between. `words` are
 /// those after `bot`.
 ///
-/// The bot is the hub if NUMBER is 0, and its leaf if it is 1. EXCLUSIVE is `all` or `exclusive`. A step is one word:
+/// The bot is the hub if NUMBER is 0, and its leaf if it is 1. SETTING is `all`, `exclusive`, or
+/// `at-once` for a bot that sends at once. A step is one word:
 /// - `bind KIND FLAGS PROC MASK` answers the bind's number;
 /// - `connect`, `line TEXT` and `clock MOMENT` answer each call as `BIND PROC KIND 'ARGUMENT'.. CODE`, then each line
 ///   that is sent as `out 'LINE'`, then each fault, and then `logged` or `not logged`;
@@ -70,11 +72,11 @@ fn config_of(
 ///
 /// A step that is refused answers the refusal's code.
 pub fn bot(alloc: Global, words: &[Text], out: &mut Sink) -> Result<(), CaseError> {
-    let [own, exclusive, steps @ ..] = words else {
+    let [own, setting, steps @ ..] = words else {
         return Err(BAD_WORDS);
     };
     let number = number(own.as_bytes())?;
-    match bot_of(alloc, number, exclusive.as_bytes()) {
+    match bot_of(alloc, number, setting.as_bytes()) {
         Ok(mut bot) => take_steps(alloc, &mut bot, steps, out),
         Err(error) => Err(error),
     }
@@ -110,28 +112,27 @@ fn take_all(
     Ok(())
 }
 
-/// Creates the bot `egg` of this `number`, with no channels; `exclusive` is the word `all` or `exclusive`.
-pub fn bot_of(alloc: Global, number: u16, exclusive: &[u8]) -> Result<Bot<MemDisk>, CaseError> {
+/// Creates the bot `egg` of this `number`, with no channels; `setting` is the word `all`, `exclusive` or `at-once`.
+pub fn bot_of(alloc: Global, number: u16, setting: &[u8]) -> Result<Bot<MemDisk>, CaseError> {
+    let (exclusive, sends_at_once) = match setting {
+        b"all" => (false, false),
+        b"exclusive" => (true, false),
+        b"at-once" => (false, true),
+        _ => return Err(BAD_WORDS),
+    };
     let config = Config {
         number,
         leaves: 1,
         nick: Text::from_slice(alloc, b"egg")?,
         channels: Texts::empty(alloc),
-        exclusive: is_exclusive(exclusive)?,
+        exclusive,
+        sends_at_once,
         zone: Zone::fixed(0).unwrap(),
     };
     match new_bot(alloc, config) {
         Ok(bot) => Ok(bot),
         Err(BotError::Refused(_)) => Err(BAD_WORDS),
         Err(BotError::NoMemory) => Err(CaseError::NoMemory),
-    }
-}
-
-fn is_exclusive(word: &[u8]) -> Result<bool, CaseError> {
-    match word {
-        b"all" => Ok(false),
-        b"exclusive" => Ok(true),
-        _ => Err(BAD_WORDS),
     }
 }
 

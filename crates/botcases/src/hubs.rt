@@ -111,6 +111,7 @@ fn hub_of(alloc: Global, leaves: u16) -> Result<Bot<MemDisk>, CaseError> {
         nick: Text::from_slice(alloc, b"egg")?,
         channels: Texts::empty(alloc),
         exclusive: false,
+        sends_at_once: false,
         zone: Zone::fixed(0).unwrap(),
     };
     match Bot::create(alloc, config, MemDisk::new(alloc), MemDisk::new(alloc)) {

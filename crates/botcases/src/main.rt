@@ -7,7 +7,7 @@
 //! | case | answer |
 //! |---|---|
 //! | `config NICK LEAVES NUMBER OFFSET CHANNEL..` | `ok`, or the code of why no bot can be made so |
-//! | `bot NUMBER EXCLUSIVE STEP..` | what each step answers |
+//! | `bot NUMBER SETTING STEP..` | what each step answers |
 //! | `drive MOMENT MOST AFTER ROOM STREAM` | how driving a bot ends, what it wrote, and how many reads it made |
 //! | `script LINE..` | the transcript of this script, with ` ; ` between its lines, or the first faulty line |
 //! | `commands LINE..` | how many leaves this script has, and its commands as read, or the first faulty line |
@@ -29,8 +29,8 @@
 //! `commands` writes each step as its bot and the event that the bot gets; it writes `, ` between the steps of one
 //! command, or `none` if the command has no step. `live` opens sockets of this machine.
 //!
-//! `bot` makes the bot `egg` of this number: 0 is the hub, and 1 its only leaf. EXCLUSIVE is `all` or `exclusive`. Its
-//! steps are `bind KIND FLAGS PROC MASK`, which answers the bind's number; `runs`, which answers how often procs have
+//! `bot` makes the bot `egg` of this number: 0 is the hub, and 1 its only leaf. SETTING is `all`,
+//! `exclusive`, or `at-once` for a bot that sends at once. Its steps are `bind KIND FLAGS PROC MASK`, which answers the bind's number; `runs`, which answers how often procs have
 //! run; and `connect`, `line TEXT` and `clock MOMENT`. These answer each call as `BIND PROC KIND 'ARGUMENT'.. CODE`,
 //! then each line that is sent as `out 'LINE'`, then each fault, `Unbound PROC` or a code, and then `logged` or `not
 //! logged`, with `, ` between. A step that is refused answers the code. The procs are those of a `script`.

@@ -125,9 +125,9 @@ module _ (promised : Promised) where
         (refused ∙ sym (append-nil (faults_of (acting_of (run_to old now)) calls unbound))) after reported,
   )
 
-  -- a reading that is a moment above the last runs its seconds
+  -- a reading that is a moment and not stale runs its seconds
   pub seconds-reading : (names : List (List ℕ)) (old new : Bot) (now : ℕ) (report : Report) → now < MOMENTS_END
-      → is_stale old.clock now ≡ false → TakesSeconds promised names old now report new
+      → is_stale old.config.sends_at_once old.clock now ≡ false → TakesSeconds promised names old now report new
       → TakesReading (reading_fault now) promised names old now report new
   seconds-reading names old new now report moment fresh seconds =
       subst (λ (b : Bool). TakesReading (if b then None else Some BadMoment) promised names old now report new) (sym (lt-ltb now MOMENTS_END moment))

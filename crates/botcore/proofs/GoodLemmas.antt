@@ -186,7 +186,7 @@ module _ (promised : Promised) (names : List (List ℕ)) (old : Bot) where
   reading_good : (fault : Option ClockFault) (now : ℕ) (report : Report) (new : Bot) → TakesReading fault promised names old now report new
       → AreGood report.packets
   reading_good (Some fault) now report new c = subst (λ (r : Report). AreGood r.packets) (sym c.0) tt
-  reading_good None now report new c = moment_good (is_stale old.clock now) now report new c
+  reading_good None now report new c = moment_good (is_stale old.config.sends_at_once old.clock now) now report new c
 
   pub clock_good : (now : ℕ) (report : Report) (new : Bot) → TakesStep promised names old (Clock now) report new → AreGood report.packets
   clock_good now report new c = reading_good (reading_fault now) now report new c

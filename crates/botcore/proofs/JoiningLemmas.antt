@@ -13,7 +13,7 @@ use Rattle.chanstate.specs.declared.state.ChanState.{ChanState}
 use Rattle.chanstate.specs.declared.support.Support.{Support}
 use Rattle.chanstate.specs.Channels.{is_named, with_members, on_channel}
 use Rattle.chanstate.specs.Firsts.{first_changed}
-use Rattle.chanstate.specs.Items.{Joined, any_named, channels_in, if_given, join_items}
+use Rattle.chanstate.specs.Items.{Joined, any_named, channels_in, channels_on, if_given, join_items}
 use Rattle.chanstate.specs.Plans.{joined_if}
 use Rattle.chanstate.specs.Members.{is_called, has_member, arrived, unmarked, with_address}
 use Rattle.chanstate.specs.Steps.{steps}
@@ -106,18 +106,19 @@ watched-joined : (nick user host : List ℕ) (o : Option (List ℕ)) (s : ChanSt
 watched-joined nick user host None s b is = refl
 watched-joined nick user host (Some list) s true own =
     ap (λ (t : ChanState). if is_same_by (mapping_of t) nick t.nick then [] else guarded t list)
-    (steps-own nick user host (channels_in list) s own)
-    ∙ cond-true _ _ _ (ap (λ (mapping : Casemapping). is_same_by mapping nick s.nick) (mapping-kept (any_named (channels_in list)) s.support) ∙ own)
+    (steps-own nick user host list s own)
+    ∙ cond-true _ _ _ (ap (λ (mapping : Casemapping). is_same_by mapping nick s.nick) (mapping-kept (any_named (channels_on s.support list)) s.support) ∙ own)
     ∙ sym (cond-true _ _ _ own)
 watched-joined nick user host (Some list) s false other =
     let names = channels_in list in
-    let came = came_each (mapping_of s) (unmarked nick user host) names s.channels in
+    let joined = channels_on s.support list in
+    let came = came_each (mapping_of s) (unmarked nick user host) joined s.channels in
     ap (λ (t : ChanState). if is_same_by (mapping_of t) nick t.nick then [] else guarded t list)
-    (steps-came nick user host names s other)
+    (steps-came nick user host list s other)
     ∙ ap (λ (mapping : Casemapping). if is_same_by mapping nick s.nick then []
-    else filter_map (λ name. judged mapping s.nick (find (is_named mapping name) came)) names) (mapping-kept (any_named names) s.support)
+    else filter_map (λ name. judged mapping s.nick (find (is_named mapping name) came)) names) (mapping-kept (any_named joined) s.support)
     ∙ ap (λ found. if is_same_by (mapping_of s) nick s.nick then [] else found)
-    (agree _ (guarded_as s) names (λ name. judged-came (mapping_of s) (unmarked nick user host) s.nick name names s.channels other))
+    (agree _ (guarded_as s) names (λ name. judged-came (mapping_of s) (unmarked nick user host) s.nick name joined s.channels other))
 
 pub watched-after : (who : Source) (params : List (List ℕ)) (s : ChanState)
     → watched who params (steps (join_items who params) s) ≡ watched who params s
@@ -132,9 +133,9 @@ mapping-joined : (nick user host : List ℕ) (o : Option (List ℕ)) (s : ChanSt
     → mapping_of (steps (if_given o (λ list. map (Joined nick user host) (channels_in list))) s) ≡ mapping_of s
 mapping-joined nick user host None s b is = refl
 mapping-joined nick user host (Some list) s true own =
-    ap mapping_of (steps-own nick user host (channels_in list) s own) ∙ mapping-kept (any_named (channels_in list)) s.support
+    ap mapping_of (steps-own nick user host list s own) ∙ mapping-kept (any_named (channels_on s.support list)) s.support
 mapping-joined nick user host (Some list) s false other =
-    ap mapping_of (steps-came nick user host (channels_in list) s other) ∙ mapping-kept (any_named (channels_in list)) s.support
+    ap mapping_of (steps-came nick user host list s other) ∙ mapping-kept (any_named (channels_on s.support list)) s.support
 
 pub mapping-after : (who : Source) (params : List (List ℕ)) (s : ChanState)
     → mapping_of (steps (join_items who params) s) ≡ mapping_of s

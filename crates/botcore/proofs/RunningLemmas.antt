@@ -15,7 +15,7 @@ use Rattle.botcore.specs.Happenings.{Happening, second_of, seconds_of, passed_al
 use Rattle.botcore.specs.Happenings.Happening.{Due}
 use Rattle.botcore.specs.Rising.{IsReached, Rise}
 use Rattle.botcore.specs.Shown.{AreOccasions, AreFirst}
-use Rattle.botcore.specs.Steps.{is_stale}
+use Rattle.botcore.specs.Steps.{is_past}
 
 -- ---- occasions
 
@@ -75,20 +75,20 @@ above_all : (held : Option ℕ) (last first : ℕ) → IsReached held (Some last
 above_all None last first reached after = tt
 above_all (Some t) last first reached after = omega (arith, reached, after)
 
-pub rise_run : (clock held : Option ℕ) (now : ℕ) → IsReached held clock → now < MOMENTS_END → is_stale clock now ≡ false
+pub rise_run : (clock held : Option ℕ) (now : ℕ) → IsReached held clock → now < MOMENTS_END → is_past clock now ≡ false
     → Rise held (seconds_run clock now)
 rise_run None held now reached moment fresh = tt
 rise_run (Some last) held now reached moment fresh =
     let first = max (last + 1) (now - 599) in
     let after : last + 1 ≤ first = le-max_left (last + 1) (now - 599) in
-    let above : last < now = grind (arith, nat_tests, fresh) in
-    let within : first ≤ now = max-le (omega (arith, above)) (omega (arith, above)) in
+    let above : last ≤ now = grind (arith, nat_tests, fresh) in
+    let within : first ≤ now + 1 = max-le (omega (arith, above)) (omega (arith, above)) in
     rise_range first (now + 1 - first) held (above_all held last first reached after) (omega (arith, within, moment))
 
 -- the clock is at the reading
-pub last_after_reading : (clock : Option ℕ) (now : ℕ) → is_stale clock now ≡ false → last_after clock now ≡ now
+pub last_after_reading : (clock : Option ℕ) (now : ℕ) → is_past clock now ≡ false → last_after clock now ≡ now
 last_after_reading None now fresh = refl
-last_after_reading (Some last) now fresh = let above : last < now = grind (arith, nat_tests, fresh) in max-eq_right (omega (arith, above))
+last_after_reading (Some last) now fresh = let above : last ≤ now = grind (arith, nat_tests, fresh) in max-eq_right (omega (arith, above))
 
 -- and no timer is above it
 passed_range : (timers : Held) (a n now : ℕ) → IsReached timers.last (Some now) → a + n ≤ now + 1
@@ -104,11 +104,11 @@ first_raised : (held : Option ℕ) (now : ℕ) → IsReached held None → IsRea
 first_raised None now reached = tt
 first_raised (Some t) now reached = absurd reached
 
-pub passed_run : (clock : Option ℕ) (timers : Held) (now : ℕ) → IsReached timers.last clock → is_stale clock now ≡ false
+pub passed_run : (clock : Option ℕ) (timers : Held) (now : ℕ) → IsReached timers.last clock → is_past clock now ≡ false
     → IsReached (passed_all timers (seconds_run clock now)).last (Some now)
 passed_run None timers now reached fresh = first_raised timers.last now reached
 passed_run (Some last) timers now reached fresh =
     let first = max (last + 1) (now - 599) in
-    let above : last < now = grind (arith, nat_tests, fresh) in
-    let within : first ≤ now = max-le (omega (arith, above)) (omega (arith, above)) in
+    let above : last ≤ now = grind (arith, nat_tests, fresh) in
+    let within : first ≤ now + 1 = max-le (omega (arith, above)) (omega (arith, above)) in
     passed_range timers first (now + 1 - first) now (raised timers.last last now reached (omega (arith, above))) (omega (arith, within))

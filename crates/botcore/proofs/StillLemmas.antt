@@ -15,7 +15,7 @@ use Rattle.botcore.specs.Happenings.{Happening, minute_of, second_of, seconds_of
 use Rattle.botcore.specs.Happenings.Happening.{Due, Time, Cron}
 use Rattle.botcore.specs.Quiet.{is_still}
 use Rattle.botcore.specs.Rising.{IsReached}
-use Rattle.botcore.specs.Steps.{is_stale}
+use Rattle.botcore.specs.Steps.{is_past}
 
 -- ---- lists of seconds
 
@@ -122,8 +122,8 @@ pub above_later : (held : Option ℕ) (first second : ℕ) → IsAbove held firs
 above_later None first second above after = tt
 above_later (Some t) first second above after = omega (arith, above, after)
 
--- a reading that isn't stale is above the last one
-pub above_fresh : (last now : ℕ) → is_stale (Some last) now ≡ false → last < now
+-- a reading that is not past is at the last one or above it
+pub above_fresh : (last now : ℕ) → is_past (Some last) now ≡ false → last ≤ now
 above_fresh last now fresh = grind (arith, nat_tests, fresh)
 
 -- the first second that a reading runs may be given

@@ -1,5 +1,5 @@
 -- One step of a bot: what one event makes it report, and the bot that it leaves.
-use Rattle.std.specs.Prelude.{◌≡◌, ◌⊎◌, ℕ, ◌==◌, nat_le, Bool, true, false, List, [], ◌∷◌, ◌++◌, length, map, find, Option, Some, None, Result, Ok, Err, if◌then◌else◌}
+use Rattle.std.specs.Prelude.{◌≡◌, ◌⊎◌, ℕ, ◌==◌, nat_le, nat_lt, Bool, true, false, List, [], ◌∷◌, ◌++◌, length, map, find, Option, Some, None, Result, Ok, Err, if◌then◌else◌}
 use Rattle.bytetext.specs.declared.failure.Failure.{Failure}
 use Rattle.ircline.specs.declared.line.Line.TheVariants.{Message as a_message, Bad as a_bad_line}
 use Rattle.ircline.specs.declared.message.Message.{Message}
@@ -201,10 +201,20 @@ TakesPacket (Some saying) promised names old packet report new =
 
 -- ---- readings of the clock
 
+-- a reading before the last one
+abbrev pub is_past : Option ℕ → ℕ → Bool
+is_past None now = false
+is_past (Some last) now = nat_lt now last
+
 -- a reading that is not above the last one
-abbrev pub is_stale : Option ℕ → ℕ → Bool
-is_stale None now = false
-is_stale (Some last) now = nat_le now last
+abbrev pub is_no_later : Option ℕ → ℕ → Bool
+is_no_later None now = false
+is_no_later (Some last) now = nat_le now last
+
+-- a reading that does nothing: one that is not above the last, or, for a bot that sends at once, one before the last
+abbrev pub is_stale : Bool → Option ℕ → ℕ → Bool
+is_stale true last now = is_past last now
+is_stale false last now = is_no_later last now
 
 -- the bot when all seconds of a reading have run: its clock is at the reading, at which new timers are made
 abbrev pub run_to : Bot → ℕ → Bot
@@ -220,7 +230,8 @@ TakesSeconds promised names old now report new =
     × TakesCalls report.end promised (told_of (bot_setting promised names old) occasions) old (run_to old now)
     None (finish_reading (run_to old now) now) report new
 
--- a reading that is not above the last does nothing, and does not allocate
+-- a reading that is stale does nothing, and does not allocate; at any other one of the last second no second runs, and
+-- the lines that may go are sent
 abbrev pub TakesMoment : Bool → Promised → List (List ℕ)
     → Bot → ℕ → Report → Bot → Type 0
 TakesMoment true promised names old now report new = (report ≡ done None) × (new ≡ old)
@@ -230,7 +241,8 @@ TakesMoment false promised names old now report new = TakesSeconds promised name
 abbrev pub TakesReading : Option ClockFault → Promised → List (List ℕ)
     → Bot → ℕ → Report → Bot → Type 0
 TakesReading (Some fault) promised names old now report new = (report ≡ refused (clock_refusal fault)) × (new ≡ old)
-TakesReading None promised names old now report new = TakesMoment (is_stale old.clock now) promised names old now report new
+TakesReading None promised names old now report new =
+    TakesMoment (is_stale old.config.sends_at_once old.clock now) promised names old now report new
 
 -- ---- any event
 

@@ -27,6 +27,8 @@ pub struct Config {
     pub channels: Texts,
     /// Whether a text for which a `msgm` or `pubm` proc was called is not an event for `msg` or `pub` binds.
     pub exclusive: bool,
+    /// Whether lines leave at any reading of the clock that the pace allows, and not only at one of a new second.
+    pub sends_at_once: bool,
     /// How far its clock is ahead of UTC.
     pub zone: Zone,
 }
@@ -40,6 +42,7 @@ impl Drop for Config {
             nick: _,
             channels: _,
             exclusive: _,
+            sends_at_once: _,
             zone: _,
         } = self;
     }
@@ -72,6 +75,7 @@ impl TryCopy for Config {
             nick,
             channels,
             exclusive: self.exclusive,
+            sends_at_once: self.sends_at_once,
             zone: self.zone.copy(alloc)?,
         })
     }

@@ -7,7 +7,7 @@ ghost use Rattle.bottimers.specs.Seconds.{seconds_between, seconds_run};
 ghost use Rattle.botcore.specs.Happenings.{passed_all};
 ghost use Rattle.botcore.specs.Quiet.{is_still};
 ghost use Rattle.botcore.specs.Rising.{IsReached};
-ghost use Rattle.botcore.specs.Steps.{is_stale};
+ghost use Rattle.botcore.specs.Steps.{is_past};
 
 use crate::bot::Bot;
 use bottimers::{Clock, MAX_SECONDS, Timers};
@@ -20,12 +20,12 @@ impl<D: Disk> Bot<D> {
     ghost use Rattle.bytetext.specs.declared.moment.TheConstants.{MOMENTS_END as end_of_moments};
     ghost use Rattle.outqueue.specs.Sending.{sent, after as after_sending};
     ghost use Rattle.botcore.specs.Quiet.{is_still_until};
-    ghost use Rattle.botcore.specs.Steps.{is_stale, run_to};
+    ghost use Rattle.botcore.specs.Steps.{is_past, run_to};
 
     // Whether at the seconds of a reading no timer is due and no minute begins. Does not allocate.
     pub(crate) fn is_still_until(&self, now: u64) -> bool
         requires moment { now < end_of_moments }
-        requires above { is_stale self.now.clock now ≡ false }
+        requires above { is_past self.now.clock now ≡ false }
         ensures { result ≡ is_still_until self.now now }
     {
         are_still_until(&self.timers, self.clock.last(), now)
@@ -35,7 +35,7 @@ impl<D: Disk> Bot<D> {
     // It does not allocate if no line goes.
     pub(crate) fn pass_to(&mut self, alloc: Global, now: u64) -> Result<Texts, NoMemory>
         requires moment { now < end_of_moments }
-        requires above { is_stale self.old.clock now ≡ false }
+        requires above { is_past self.old.clock now ≡ false }
         ensures lines { IfOk result (λ lines. lines ≡ sent self.old.queues now) }
         ensures ok { OnOk result (self.new ≡ record (run_to self.old now) { queues = after_sending self.old.queues now }) }
         ensures err { OnErr result (self.new ≡ self.old) }
@@ -53,7 +53,7 @@ impl<D: Disk> Bot<D> {
     // Advances the clock and the timers to a reading. Does not allocate.
     fn run_on(&mut self, now: u64)
         requires moment { now < end_of_moments }
-        requires above { is_stale self.old.clock now ≡ false }
+        requires above { is_past self.old.clock now ≡ false }
         ensures { self.new ≡ run_to self.old now }
     {
         pass_until(&mut self.timers, self.clock.last(), now);
@@ -64,7 +64,7 @@ impl<D: Disk> Bot<D> {
 // Whether at the seconds of a reading no timer is due and no minute begins.
 fn are_still_until(timers: &Timers, last: Option<u64>, now: u64) -> bool
     requires moment { now < end_of_moments }
-    requires above { is_stale last now ≡ false }
+    requires above { is_past last now ≡ false }
     requires reached { IsReached timers.now.last last }
     ensures { result ≡ list_all (is_still timers.now.timers) (seconds_run last now) }
 {
@@ -74,7 +74,7 @@ fn are_still_until(timers: &Timers, last: Option<u64>, now: u64) -> bool
 // Lets the seconds of a reading pass without their calls.
 fn pass_until(timers: &mut Timers, last: Option<u64>, now: u64)
     requires moment { now < end_of_moments }
-    requires above { is_stale last now ≡ false }
+    requires above { is_past last now ≡ false }
     requires reached { IsReached timers.old.last last }
     ensures passed { timers.new ≡ passed_all timers.old (seconds_run last now) }
     ensures reached { IsReached timers.new.last (Some now) }
@@ -86,7 +86,7 @@ fn pass_until(timers: &mut Timers, last: Option<u64>, now: u64)
 #[tactic(auto, using(crate::proofs::StillLemmas::above_fresh))]
 fn first_second(last: Option<u64>, now: u64) -> u64
     requires moment { now < end_of_moments }
-    requires above { is_stale last now ≡ false }
+    requires above { is_past last now ≡ false }
     ensures seconds { seconds_run last now ≡ seconds_between result now }
     ensures above { IfSome last (λ last. last < result) }
 {

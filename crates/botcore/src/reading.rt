@@ -1,7 +1,7 @@
 // What a reading of the clock does to a bot.
-ghost use Rattle.std.specs.Prelude.{◌≡◌, [], None, IfOk, OnErr};
+ghost use Rattle.std.specs.Prelude.{◌≡◌, [], None, IfOk, OnErr, false};
 ghost use Rattle.botcore.specs.Reports.{told, cut_short};
-ghost use Rattle.botcore.specs.Steps.{is_stale};
+ghost use Rattle.botcore.specs.Steps.{is_past, is_stale};
 
 use crate::bot::Bot;
 use crate::calls::{Left, Told};
@@ -35,7 +35,7 @@ impl<D: Disk> Bot<D> {
     ghost use Rattle.botcore.specs.Progress.{HasMore};
     ghost use Rattle.botcore.specs.Quiet.{PassesQuietly};
     ghost use Rattle.botcore.specs.Shown.{AreOccasions};
-    ghost use Rattle.botcore.specs.Steps.{TakesReading, is_stale, run_to};
+    ghost use Rattle.botcore.specs.Steps.{TakesReading, is_past, run_to};
 
     /// Makes the step of the reading `now` with the procs of `store`, as [`Bot::step`] does for [`BotEvent::Clock`]. It
     /// sends at most 64 packets.
@@ -52,7 +52,7 @@ impl<D: Disk> Bot<D> {
         if now >= MOMENTS_END {
             return Report::refused(alloc, Refusal::Clock(ClockFault::BadMoment));
         }
-        if is_stale(self.clock.last(), now) {
+        if is_stale(self.config.sends_at_once, self.clock.last(), now) {
             return Report::done(alloc, None);
         }
         if self.is_still_until(now) {
@@ -76,7 +76,7 @@ impl<D: Disk> Bot<D> {
     // Advances copies of the clock and the timers to a reading.
     fn run(&self, alloc: Global, now: u64) -> Result<Ran, NoMemory>
         requires moment { now < end_of_moments }
-        requires above { is_stale self.now.clock now ≡ false }
+        requires above { is_past self.now.clock now ≡ false }
         ensures clock { IfOk result (λ ran. ran.clock ≡ (run_to self.now now).clock) }
         ensures timers { IfOk result (λ ran. ran.timers ≡ (run_to self.now now).timers) }
         ensures reading { IfOk result (λ ran. IsReached ran.timers.last ran.clock) }
@@ -218,12 +218,13 @@ fn quiet_report(alloc: Global, lines: Result<Texts, NoMemory>) -> Report
     }
 }
 
-// Whether a reading is not above the last one.
-fn is_stale(last: Option<u64>, now: u64) -> bool
-    ensures { result ≡ is_stale last now }
+// Whether a reading does nothing: it is not above the last one, or, if the bot sends at once, it is before the last one.
+fn is_stale(at_once: bool, last: Option<u64>, now: u64) -> bool
+    ensures stale { result ≡ is_stale at_once last now }
+    ensures above { result ≡ false → is_past last now ≡ false }
 {
     match last {
-        Some(last) => now <= last,
+        Some(last) => now < last || (now == last && !at_once),
         None => false,
     }
 }

@@ -43,8 +43,8 @@ impl<D: Disk> Bot<D> {
     /// The report ends with `NoMemory` if an allocation failed. The bot is then as it was, except after a restart, and
     /// the calls that were made are the first of those that were due. These events never end with `NoMemory`:
     ///
-    /// - a connect, a line that is not a message, an ask, an unbind, a reading that is refused or not above the last,
-    ///   and each call of the link that does not allocate;
+    /// - a connect, a line that is not a message, an ask, an unbind, a reading that is refused or does nothing, and each
+    ///   call of the link that does not allocate;
     /// - a message, once the bot has taken one in since it connected, if no bind waits for messages, nobody has joined
     ///   a channel on which the bot is op, the bot queues no line, and the channels get no new text or member;
     /// - a reading, if at its seconds no timer is due and no minute begins, and no line may go.

@@ -56,13 +56,27 @@ impl BotFolder {
             return Err(Failure::Refused(FolderFault::LongName));
         }
         make_folder(rt, folder)?;
-        keep_others_out(rt, folder)?;
-        let lock = new_disk(rt, folder, FolderFile::Lock)?;
-        Ok(BotFolder {
-            path: String::from_str(rt.alloc(), folder)?,
-            control: control_of(rt.alloc(), folder)?,
-            lock,
-        })
+        locked(rt, folder)
+    }
+
+    /// Takes the folder of a bot that does not run, as [`take`](BotFolder::take) does, but creates no folder.
+    ///
+    /// # Errors
+    /// `LongName`; `NoBot` if the folder is missing, or holds neither a journal nor a file `lock`; else those of `take`. A
+    /// file `lock` may have been created.
+    pub fn take_stopped<R: AllocGlobal + Files<File = File> + Clock>(
+        rt: &R,
+        folder: &str,
+    ) -> Result<BotFolder, FolderError>
+        ensures long_name { (MAX_PATH < length folder.now) ↔ (result ≡ Err (Refused LongName)) }
+    {
+        if MAX_PATH < folder.len() {
+            return Err(Failure::Refused(FolderFault::LongName));
+        }
+        if !is_there(rt, folder, JOURNAL)? && !is_there(rt, folder, FolderFile::Lock.name())? {
+            return Err(Failure::Refused(FolderFault::NoBot));
+        }
+        locked(rt, folder)
     }
 
     /// Returns the folder's name, as it was given.
@@ -146,12 +160,30 @@ impl BotFolder {
     }
 }
 
+// Takes an existing folder, which keeps others out.
+fn locked<R: AllocGlobal + Files<File = File> + Clock>(
+    rt: &R,
+    folder: &str,
+) -> Result<BotFolder, FolderError>
+    ensures { result ≢ Err (Refused LongName) }
+{
+    keep_others_out(rt, folder)?;
+    let lock = new_disk(rt, folder, FolderFile::Lock)?;
+    Ok(BotFolder {
+        path: String::from_str(rt.alloc(), folder)?,
+        control: control_of(rt.alloc(), folder)?,
+        lock,
+    })
+}
+
 // Whether a folder holds something of this name.
 pub(crate) fn is_there<R: AllocGlobal + Files<File = File>>(
     rt: &R,
     folder: &str,
     name: &str,
-) -> Result<bool, FolderError> {
+) -> Result<bool, FolderError>
+    ensures { result ≢ Err (Refused LongName) }
+{
     let path = below(rt.alloc(), folder, name)?;
     match fs::exists(rt, path.as_str()) {
         Ok(is_there) => Ok(is_there),

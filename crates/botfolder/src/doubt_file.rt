@@ -4,10 +4,9 @@ ghost use Rattle.botfolder.specs.declared.doubt_file.TheConstants.{MAX_DOUBT};
 
 use crate::bot_folder::{BotFolder, remove_below};
 use crate::fault::FolderError;
-use crate::folder_file::{FolderFile, len_of, open_file, read_file};
-use crate::paths::below;
+use crate::folder_file::{FolderFile, front_of};
 use crate::whole_file::{DOUBT, replace_file};
-use std::fs::{File, OpenOptions};
+use std::fs::File;
 use std::rt::Files;
 
 /// The most bytes of the file `doubt` that are read: more than its line has.
@@ -26,16 +25,7 @@ impl BotFolder {
     ) -> Result<Option<Vec<u8>>, FolderError>
         ensures most { IfOk result (λ found. IfSome found (λ line. vec_len line ≤ MAX_DOUBT)) }
     {
-        let path = below(rt.alloc(), self.path(), FolderFile::Doubt.name())?;
-        let mut options = OpenOptions::new();
-        options.read(true);
-        let Some(file) = open_file(rt, path.as_str(), FolderFile::Doubt, &options)? else {
-            return Ok(None);
-        };
-        let len = len_of(&file)?.min(MAX_DOUBT);
-        let mut line = vec![in rt.alloc(); 0; len]?;
-        read_file(&file, &mut line)?;
-        Ok(Some(line))
+        front_of(rt, self.path(), FolderFile::Doubt, MAX_DOUBT)
     }
 
     /// Keeps `line` in the file `doubt`. From now on it is found whole, whatever crash comes.

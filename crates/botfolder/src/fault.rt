@@ -56,6 +56,9 @@ pub enum FolderFault {
     /// No journal was made in it.
     #[error("holds no bot: give the folder of one")]
     NoBot,
+    /// The journal of its net was put aside before, and it holds one of that net again.
+    #[error("holds a journal of its net, and another one that was put aside: move that one out of the folder")]
+    AsideBefore,
     /// The system does not let this user create, open, read or remove it or something in it.
     #[error("can't be used: give a folder that this user may read and write")]
     Unusable,

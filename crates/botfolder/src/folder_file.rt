@@ -1,10 +1,10 @@
 // The files of a bot's folder, and how one is opened.
-ghost use Rattle.std.specs.Prelude.{◌≢◌};
-ghost use Rattle.std.specs.Prelude.{Err};
+ghost use Rattle.std.specs.Prelude.{◌≢◌, ◌≤◌, Err, IfOk, IfSome, vec_len};
 ghost use Rattle.bytetext.specs.declared.failure.Failure.TheVariants.{Refused};
 ghost use Rattle.botfolder.specs.declared.fault.FolderFault.TheVariants.{LongName};
 
 use crate::fault::{FolderError, FolderFault, system_error};
+use crate::paths::below;
 use bytetext::Failure;
 use std::fmt::Display;
 use std::fs::{File, OpenOptions};
@@ -42,6 +42,10 @@ pub enum FolderFile {
     Doubt,
     /// `doubt.new`
     NewDoubt,
+    /// `parent`
+    Parent,
+    /// `parent.new`
+    NewParent,
     /// `room`
     Room,
     /// `control`
@@ -65,6 +69,8 @@ impl FolderFile {
             FolderFile::NewLeaves => "leaves.new",
             FolderFile::Doubt => "doubt",
             FolderFile::NewDoubt => "doubt.new",
+            FolderFile::Parent => "parent",
+            FolderFile::NewParent => "parent.new",
             FolderFile::Room => "room",
             FolderFile::Control => "control",
         }
@@ -130,6 +136,27 @@ pub(crate) fn read_file(file: &File, bytes: &mut [u8]) -> Result<(), FolderError
         Ok(()) => Ok(()),
         Err(error) => Err(system_error(&error)),
     }
+}
+
+// Reads the first bytes of this file of a folder, at most `most`, or returns `None` if it is missing.
+pub(crate) fn front_of<R: AllocGlobal + Files<File = File>>(
+    rt: &R,
+    folder: &str,
+    file: FolderFile,
+    most: usize,
+) -> Result<Option<Vec<u8>>, FolderError>
+    ensures most { IfOk result (λ found. IfSome found (λ front. vec_len front ≤ most)) }
+{
+    let path = below(rt.alloc(), folder, file.name())?;
+    let mut options = OpenOptions::new();
+    options.read(true);
+    let Some(opened) = open_file(rt, path.as_str(), file, &options)? else {
+        return Ok(None);
+    };
+    let len = len_of(&opened)?.min(most);
+    let mut front = vec![in rt.alloc(); 0; len]?;
+    read_file(&opened, &mut front)?;
+    Ok(Some(front))
 }
 
 // Removes `file`, whose path is `path`, if it exists.

@@ -9,6 +9,8 @@
 //!   made            the folder's own number: 16 digits and a line feed
 //!   leaves          at a hub, the book of its leaves: which folder is which leaf, a line each
 //!   doubt           at a hub that may be an older copy of itself: which leaf shows it
+//!   parent          at an heir's hub: the number of the net that it goes on from, and the promoted leaf's version
+//!   journal.NET     the journal of a leaf of the net NET, which was put aside
 //!   room            zeros: the space that is set aside for the bot
 //!   control         a socket, at which the running bot takes commands
 //! ```
@@ -41,6 +43,10 @@
 //!
 //! [`BotFolder::copy_journal`] copies the journal of the running bot into a new folder.
 //!
+//! [`BotFolder::take_stopped`] takes the folder of a bot that does not run, and creates none.
+//! [`BotFolder::put_journal_aside`] has the leaf of that folder begin again. [`BotFolder::take_heir`] takes the folder in
+//! which an heir's hub is made, and [`BotFolder::name_heir`] gives it its name once it is whole.
+//!
 //! A folder that is a symbolic link or belongs to another user is refused. Root may read a folder of another user and
 //! enter it to give its bot commands ([`check_owner`]), but can't run a bot there.
 //!
@@ -49,6 +55,7 @@
 //! it again for two seconds. What has the name of a file and is a FIFO, a device or a folder is not opened.
 #![tactic(auto)]
 
+mod aside;
 mod backup;
 mod begun;
 mod book_file;
@@ -57,12 +64,15 @@ mod doubt_file;
 mod fault;
 mod folder_file;
 mod folders;
+mod heir_folder;
 mod locking;
 mod number_file;
 mod owner;
+mod parent_file;
 mod paths;
 mod room;
 mod stopped;
+mod tunnel_folder;
 mod whole_file;
 
 pub use crate::begun::Begun;
@@ -73,6 +83,8 @@ pub use crate::fault::{FolderError, FolderFault};
 pub use crate::folder_file::FolderFile;
 pub use crate::number_file::NUMBER_DIGITS;
 pub use crate::owner::check_owner;
+pub use crate::parent_file::MAX_PARENT;
 pub use crate::paths::{MAX_PATH, control_of};
 pub use crate::room::{Room, SET_ASIDE};
 pub use crate::stopped::{Stopped, read_stopped};
+pub use crate::tunnel_folder::{keep_tunnel_keys, make_tunnels};

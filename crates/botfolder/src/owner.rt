@@ -82,7 +82,7 @@ fn user_of<R: Files>(rt: &R) -> Option<u32> {
 }
 
 // A folder's name without slashes at its end; `/` stays.
-fn without_slash(folder: &str) -> &str {
+pub(crate) fn without_slash(folder: &str) -> &str {
     let name = folder.trim_end_matches('/');
     if name.is_empty() { folder } else { name }
 }

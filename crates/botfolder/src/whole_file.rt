@@ -38,6 +38,11 @@ pub(crate) const DOUBT: WholeFile = WholeFile {
     new: FolderFile::NewDoubt,
 };
 
+pub(crate) const PARENT: WholeFile = WholeFile {
+    file: FolderFile::Parent,
+    new: FolderFile::NewParent,
+};
+
 // Replaces what this file of a folder holds by `bytes`, and syncs them and the file's name to the device.
 pub(crate) fn replace_file<R: AllocGlobal + Files<File = File>>(
     rt: &R,

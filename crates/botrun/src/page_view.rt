@@ -2,7 +2,7 @@
 use crate::process::Process;
 use administrators::Seconds;
 use bytetext::NoMemory;
-use net::{Log, Watch};
+use net::{Log, Watch, Way};
 use page::{
     ChannelView, LinkView, LinksView, LogView, MAX_ROWS, OwnView, PageAnswer, PageRequest,
     PageView, PageWant, PlaceView, ServerView, SessionView, answer_to,
@@ -12,6 +12,7 @@ use peers::Links;
 use serverlink::IrcConnection;
 use settings::Settings;
 use std::alloc::Global;
+use std::net::{Ipv4Addr, SocketAddr};
 
 // Serves the readers of the page, if there is one: hears them, answers at most one request, and sends. A reader for whom
 // memory runs out is disconnected. Returns whether there may be more to do at once.
@@ -210,6 +211,14 @@ fn row_of(links: &Links, place: usize, version: u32) -> Option<LinkView> {
         behind,
         unsent: facts.unsent,
         since: facts.since,
-        address: facts.address,
+        address: address_of(facts.way),
     })
+}
+
+// The address of a link: 0.0.0.0 with port 0, at which nobody is, if it goes through a tunnel.
+fn address_of(way: Way) -> SocketAddr {
+    match way {
+        Way::Tcp(address) => address,
+        Way::Tunnel => SocketAddr::from((Ipv4Addr::UNSPECIFIED, 0)),
+    }
 }

@@ -112,6 +112,7 @@ fn config_of(alloc: Global, settings: &Settings) -> Result<Config, NoMemory>
         nick: settings.nick.copy(alloc)?,
         channels: Texts::empty(alloc),
         exclusive: settings.exclusive,
+        sends_at_once: true,
         zone: settings.zone.copy(alloc)?,
     })
 }

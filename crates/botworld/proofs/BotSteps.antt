@@ -160,7 +160,7 @@ module _ (promised : Promised) (names : List (List ℕ))
       → BotGoes report new
   reading_goes now report new (Some fault) t =
       same_goes _ _ report new t.0 t.1 (put_goes (Refused _) None old (record { same_layout = λ e. cc; undiverged = λ e. cc }) refl refl)
-  reading_goes now report new None t = moment_goes now report new (is_stale old.clock now) t
+  reading_goes now report new None t = moment_goes now report new (is_stale old.config.sends_at_once old.clock now) t
 
   -- the packet of a delivery
   packet_row : (packet : Packet) → WasSentTo sent place (Receive packet) → (how : How) → RowFollows h all sent place (took old.link packet how)

@@ -1,5 +1,6 @@
 -- Alike bots make the same calls, at any moments of a run; where the promised codes ignore the channels, bots that are alike but for
 -- these do too.
+use Rattle.std.proofs.lemmas.Bool.Decides.{nat_tests}
 use Rattle.std.proofs.Common.{◌≡◌, ℕ, zero, suc, ◌+◌, ◌-◌, ◌≤◌, ◌==◌, max, Bool, true, false, if◌then◌else◌, List, [], ◌∷◌, length, map, slice_get, Option, None, Some, Result, Ok, Err}
 use Rattle.std.proofs.Common.{refl, ap, sym, subst, ◌∙◌, arith}
 use Rattle.std.proofs.lemmas.Bool.{leb-true}
@@ -153,21 +154,26 @@ packet_calls promised names old packet report new done (Some saying) t =
       made = made_calls promised _ (with_device old t.0) (with_device old t.0) _ _ report new report.end done t.2;
     }
 
--- at a reading that is not above the last no second runs
-stale_none : (last : Option ℕ) (now : ℕ) → is_stale last now ≡ true → seconds_run last now ≡ []
-stale_none None now e = refl
-stale_none (Some last) now e =
+-- at a reading that is not above the last no second runs, so at no stale one
+not_above : (at_once : Bool) (last now : ℕ) → is_stale at_once (Some last) now ≡ true → now ≤ last
+not_above true last now e = grind (arith, nat_tests, e)
+not_above false last now e = leb-true now last e
+
+stale_none : (at_once : Bool) (last : Option ℕ) (now : ℕ) → is_stale at_once last now ≡ true → seconds_run last now ≡ []
+stale_none true None now e = refl
+stale_none false None now e = refl
+stale_none at_once (Some last) now e =
     let above : last + 1 ≤ max (last + 1) (now - 599) = le-max_left (last + 1) (now - 599) in
-    let below : now ≤ last = leb-true now last e in
+    let below : now ≤ last = not_above at_once last now e in
     let none : now + 1 - max (last + 1) (now - 599) ≡ 0 = omega (arith, above, below) in
     ap (range_with_len (max (last + 1) (now - 599))) none
 
 moment_calls : (promised : Promised) (names : List (List ℕ)) (old : Bot) (now : ℕ)
-    (report : BotReport) (new : Bot) → report.end ≡ Done → (stale : Bool) → is_stale old.clock now ≡ stale
+    (report : BotReport) (new : Bot) → report.end ≡ Done → (stale : Bool) → is_stale old.config.sends_at_once old.clock now ≡ stale
     → TakesMoment stale promised names old now report new
     → AreCalled promised names old (seconds_of old.config.zone old.timers (seconds_run old.clock now)) (map proc_call report.calls)
 moment_calls promised names old now report new done true e t =
-    rw (stale_none old.clock now e) (none_called promised names old report (ap (λ (r : BotReport). map proc_call r.calls) t.0))
+    rw (stale_none old.config.sends_at_once old.clock now e) (none_called promised names old report (ap (λ (r : BotReport). map proc_call r.calls) t.0))
 moment_calls promised names old now report new done false e t =
     record {
       occasions = t.0;
@@ -182,7 +188,7 @@ reading_calls : (promised : Promised) (names : List (List ℕ)) (old : Bot) (now
     (report : BotReport) (new : Bot) → report.end ≡ Done → (fault : Option ClockFault) → TakesReading fault promised names old now report new
     → AreCalled promised names old (seconds_of old.config.zone old.timers (seconds_run old.clock now)) (map proc_call report.calls)
 reading_calls promised names old now report new done (Some fault) t = absurd (refused_done report (clock_refusal fault) done t.0)
-reading_calls promised names old now report new done None t = moment_calls promised names old now report new done (is_stale old.clock now) refl t
+reading_calls promised names old now report new done None t = moment_calls promised names old now report new done (is_stale old.config.sends_at_once old.clock now) refl t
 
 pub step_calls : (promised : Promised) (names : List (List ℕ)) (old : Bot) (event : BotEvent)
     (report : BotReport) (new : Bot) → report.end ≡ Done → TakesStep promised names old event report new

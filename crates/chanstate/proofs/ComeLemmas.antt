@@ -13,18 +13,19 @@ use Rattle.chanstate.specs.Members.{is_called, has_member, with_address, arrived
 use Rattle.chanstate.specs.declared.state.ChanState.{ChanState}
 use Rattle.rfccase.specs.Casemapping.{is_same_by}
 use Rattle.chanstate.specs.Channels.{is_held, on_channel, opened, put_last, put_each_last}
-use Rattle.chanstate.specs.Items.{Joined, any_named}
+use Rattle.chanstate.specs.Items.{Joined, any_named, channels_in, channels_on}
 use Rattle.chanstate.specs.Announced.{with_join}
 use Rattle.chanstate.specs.Plans.{joined_if}
-use Rattle.chanstate.specs.Memory.{any_adds}
-use Rattle.chanstate.specs.Steps.{steps}
+use Rattle.chanstate.specs.Memory.{any_adds, join_adds}
+use Rattle.chanstate.specs.Steps.{each_step, steps}
 use Rattle.chanstate.specs.Takes.{came_each}
 use Rattle.chanstate.proofs.BoolLemmas.{or-left, or-right}
 use Rattle.bytetext.proofs.Lists.{find-none}
 use Rattle.rfccase.proofs.SameLemmas.{is_same_by-refl}
 use Rattle.chanstate.proofs.FindLemmas.{find-end, or_else, or_else-none}
-use Rattle.chanstate.proofs.KeptLemmas.{any-kept, joined_again, first_changed-kept, some_same}
+use Rattle.chanstate.proofs.KeptLemmas.{any-kept, any_adds-joins, joined_again, first_changed-kept, some_same}
 use Rattle.chanstate.proofs.StepLemmas.{first_changed-twice}
+use Rattle.chanstate.proofs.TypedLemmas.{steps-joins}
 use Rattle.rfccase.specs.declared.casemappings.Casemapping.{Casemapping}
 use Rattle.chanstate.specs.Views.{mapping_of}
 
@@ -82,36 +83,56 @@ any-piece p q (y ∷ ys) (suc i) x less at is one =
 
 -- ---- the joins of a line
 
--- the bot's joins put each of its channels last
-pub steps-own : (nick user host : List ℕ) (names : List (List ℕ)) (s : ChanState) → is_same_by (mapping_of s) nick s.nick ≡ true
-    → steps (map (Joined nick user host) names) s
+each_step-own : (nick user host : List ℕ) (names : List (List ℕ)) (s : ChanState) → is_same_by (mapping_of s) nick s.nick ≡ true
+    → each_step (map (Joined nick user host) names) s
     ≡ record s {
       channels = put_each_last (mapping_of s) (map (λ name. opened name (unmarked nick user host)) names) s.channels;
       support = joined_if (any_named names) s.support;
     }
-steps-own nick user host [] s own = refl
-steps-own nick user host (n ∷ ns) s own =
+each_step-own nick user host [] s own = refl
+each_step-own nick user host (n ∷ ns) s own =
     let one : Channel = opened n (unmarked nick user host) in
     let all = put_each_last (mapping_of s) (map (λ name. opened name (unmarked nick user host)) (n ∷ ns)) s.channels in
-    ap (steps (map (Joined nick user host) ns)) (cond-true _ _ _ own)
-    ∙ (steps-own nick user host ns (record s { channels = put_last (mapping_of s) one s.channels; support = with_join s.support }) own
+    ap (each_step (map (Joined nick user host) ns)) (cond-true _ _ _ own)
+    ∙ (each_step-own nick user host ns (record s { channels = put_last (mapping_of s) one s.channels; support = with_join s.support }) own
     ∙ ap (λ sup. record s { channels = all; support = sup }) (joined_again (any_named ns) s.support))
 
--- another's joins are comings
-pub steps-came : (nick user host : List ℕ) (names : List (List ℕ)) (s : ChanState) → is_same_by (mapping_of s) nick s.nick ≡ false
-    → steps (map (Joined nick user host) names) s
+-- the bot's joins put each of its channels last
+pub steps-own : (nick user host list : List ℕ) (s : ChanState) → is_same_by (mapping_of s) nick s.nick ≡ true
+    → let names = channels_on s.support list in
+    steps (map (Joined nick user host) (channels_in list)) s
+    ≡ record s {
+      channels = put_each_last (mapping_of s) (map (λ name. opened name (unmarked nick user host)) names) s.channels;
+      support = joined_if (any_named names) s.support;
+    }
+steps-own nick user host list s own =
+    steps-joins nick user host list s ∙ each_step-own nick user host (channels_on s.support list) s own
+
+each_step-came : (nick user host : List ℕ) (names : List (List ℕ)) (s : ChanState) → is_same_by (mapping_of s) nick s.nick ≡ false
+    → each_step (map (Joined nick user host) names) s
     ≡ record s {
       channels = came_each (mapping_of s) (unmarked nick user host) names s.channels;
       support = joined_if (any_named names) s.support;
     }
-steps-came nick user host [] s other = refl
-steps-came nick user host (n ∷ ns) s other =
+each_step-came nick user host [] s other = refl
+each_step-came nick user host (n ∷ ns) s other =
     let one : Member = unmarked nick user host in
     let all = came_each (mapping_of s) one (n ∷ ns) s.channels in
-    ap (steps (map (Joined nick user host) ns)) (cond-false _ _ _ other)
-    ∙ (steps-came nick user host ns
+    ap (each_step (map (Joined nick user host) ns)) (cond-false _ _ _ other)
+    ∙ (each_step-came nick user host ns
     (record s { channels = on_channel (mapping_of s) n (arrived (mapping_of s) one) s.channels; support = with_join s.support }) other
     ∙ ap (λ sup. record s { channels = all; support = sup }) (joined_again (any_named ns) s.support))
+
+-- another's joins are comings
+pub steps-came : (nick user host list : List ℕ) (s : ChanState) → is_same_by (mapping_of s) nick s.nick ≡ false
+    → let names = channels_on s.support list in
+    steps (map (Joined nick user host) (channels_in list)) s
+    ≡ record s {
+      channels = came_each (mapping_of s) (unmarked nick user host) names s.channels;
+      support = joined_if (any_named names) s.support;
+    }
+steps-came nick user host list s other =
+    steps-joins nick user host list s ∙ each_step-came nick user host (channels_on s.support list) s other
 
 -- whether some piece of a list names a channel
 pub any_named-some : (p : List ℕ → Bool) (xs : List (List ℕ)) → list_any p xs ≡ any_named (filter p xs)
@@ -126,16 +147,16 @@ pub any_named-long : (names : List (List ℕ)) → 0 < length names → any_name
 any_named-long [] long = absurd (let long : 0 < 0 = long in omega arith)
 any_named-long (name ∷ more) long = refl
 
-pub joins_some : (nick user host : List ℕ) (names : List (List ℕ)) (s : ChanState) → list_any (λ name. is_held (mapping_of s) name s.channels) names ≡ true
-    → any_adds (map (Joined nick user host) names) s ≡ true
-joins_some nick user host [] s some = some
-joins_some nick user host (n ∷ ns) s some = by (is_held (mapping_of s) n s.channels) refl (joins_some nick user host ns s)
+some_joined : (nick : List ℕ) (names : List (List ℕ)) (s : ChanState) → list_any (λ name. is_held (mapping_of s) name s.channels) names ≡ true
+    → list_any (λ name. join_adds nick name s) names ≡ true
+some_joined nick [] s some = some
+some_joined nick (n ∷ ns) s some = by (is_held (mapping_of s) n s.channels) refl (some_joined nick ns s)
   where
     here : Bool
     here = is_same_by (mapping_of s) nick s.nick
 
     rest : Bool
-    rest = any_adds (map (Joined nick user host) ns) s
+    rest = list_any (λ name. join_adds nick name s) ns
 
     later : (b : Bool) → b ≡ false → (b || list_any (λ name. is_held (mapping_of s) name s.channels) ns) ≡ true → list_any (λ name. is_held (mapping_of s) name s.channels) ns ≡ true
     later true none is = cc
@@ -145,3 +166,8 @@ joins_some nick user host (n ∷ ns) s some = by (is_held (mapping_of s) n s.cha
         → ((here || is_held (mapping_of s) n s.channels) || rest) ≡ true
     by true is further = or-left (here || is_held (mapping_of s) n s.channels) rest (or-right here (is_held (mapping_of s) n s.channels) is)
     by false is further = or-right (here || is_held (mapping_of s) n s.channels) rest (further (later (is_held (mapping_of s) n s.channels) is some))
+
+pub joins_some : (nick user host list : List ℕ) (s : ChanState)
+    → list_any (λ name. is_held (mapping_of s) name s.channels) (channels_on s.support list) ≡ true
+    → any_adds (map (Joined nick user host) (channels_in list)) s ≡ true
+joins_some nick user host list s some = any_adds-joins nick user host list s ∙ some_joined nick (channels_on s.support list) s some

@@ -19,6 +19,7 @@ use Rattle.chanstate.specs.Views.{connected, channel_in, members_of, member_in}
 use Rattle.chanstate.specs.History.{own, own_said, support, support_said, held, channel_said, topic, topic_said, spelling, name_said, on, nick_said, known, member_said, has_mark}
 use Rattle.chanstate.specs.History.{marked, mark_begins, mark_says, user_begins, user_says, host_begins, host_says, nick_begins, nick_says, IsAsSaid}
 use Rattle.chanstate.specs.History.{Agrees, mapping_at, before, before_read, history_from, history, after_all, arrival, joins, opening}
+use Rattle.chanstate.proofs.TypedLemmas.{one_support}
 use Rattle.chanstate.proofs.FindLemmas.{list_any-find, find-agree}
 use Rattle.chanstate.proofs.AnnouncedLemmas.{announced-same}
 use Rattle.rfccase.proofs.SameLemmas.{is_same_by-left}
@@ -57,10 +58,6 @@ own-step (Listed d one) s = refl
 own-step (Addressed d nick user host) s = refl
 
 -- ---- what the server has announced
-
-one_support : (b : Bool) (s t : ChanState) → s.support ≡ t.support → (cond b s t).support ≡ t.support
-one_support true s t is = is
-one_support false s t is = refl
 
 support-step : (item : Item) (s : ChanState) → (step item s).support ≡ support_said item s.support
 support-step (Welcomed nick) s = refl

@@ -12,12 +12,12 @@ use Rattle.chanstate.specs.Firsts.{first_changed}
 use Rattle.chanstate.specs.Members.{is_called, has_member, with_marks_of, listed, listed_each, shown_each, arrived, unmarked, renamed}
 use Rattle.chanstate.specs.Channels.{is_named, is_held, with_members, on_channel, all_renamed}
 use Rattle.chanstate.specs.Views.{channel_in, member_in, members_of}
-use Rattle.chanstate.specs.Items.{Item, Joined, Left, NamesTold, Renamed, any_named, names_in}
-use Rattle.chanstate.specs.Steps.{joined, step, steps}
-use Rattle.chanstate.specs.Announced.{with_join}
+use Rattle.chanstate.specs.Items.{Item, Joined, Left, NamesTold, Renamed, any_named, channels_in, channels_on, names_in}
+use Rattle.chanstate.specs.Steps.{joined, step, each_step, steps}
+use Rattle.chanstate.specs.Announced.{is_typed, with_join}
 use Rattle.chanstate.specs.Plans.{joined_if}
 use Rattle.chanstate.specs.declared.support.Support.{Support}
-use Rattle.chanstate.specs.Memory.{adds, any_adds, lacks, readdresses, respells, retitles}
+use Rattle.chanstate.specs.Memory.{adds, any_adds, join_adds, lacks, readdresses, respells, retitles}
 use Rattle.std.specs.Prelude.{nat_eq}
 use Rattle.std.specs.Cmp.Lexicographic.{pointwise}
 use Rattle.std.proofs.lemmas.Slice.Eq.{bytes_eq-Decides}
@@ -25,6 +25,7 @@ use Rattle.chanstate.specs.Members.{with_address, with_nick}
 use Rattle.chanstate.specs.Channels.{with_topic}
 use Rattle.chanstate.proofs.BoolLemmas.{or-parts, or-left, not-false}
 use Rattle.chanstate.proofs.FirstsLemmas.{first_changed-nowhere}
+use Rattle.chanstate.proofs.TypedLemmas.{channels_on-is, steps-joins}
 use Rattle.chanstate.proofs.FindLemmas.{any-agree, list_any-find}
 use Rattle.rfccase.specs.declared.casemappings.Casemapping.{Casemapping}
 use Rattle.chanstate.specs.Views.{mapping_of}
@@ -80,11 +81,10 @@ joined_again true sup = refl
 joined_again false sup = refl
 
 -- which joins take memory does not depend on what else the server has announced
-joins_same : (nick user host : List ℕ) (names : List (List ℕ)) (s : ChanState)
-    → any_adds (map (Joined nick user host) names) (record s { support = with_join s.support }) ≡ any_adds (map (Joined nick user host) names) s
-joins_same nick user host [] s = refl
-joins_same nick user host (n ∷ ns) s =
-    ap (λ b. (is_same_by (mapping_of s) nick s.nick || is_held (mapping_of s) n s.channels) || b) (joins_same nick user host ns s)
+joins_same : (nick : List ℕ) (names : List (List ℕ)) (s : ChanState)
+    → list_any (λ name. join_adds nick name (record s { support = with_join s.support })) names ≡ list_any (λ name. join_adds nick name s) names
+joins_same nick [] s = refl
+joins_same nick (n ∷ ns) s = ap (λ b. join_adds nick n s || b) (joins_same nick ns s)
 
 -- a topic or an address that is there already
 same_text : (xs ys : List ℕ) → not (pointwise nat_eq xs ys) ≡ false → ys ≡ xs
@@ -193,29 +193,63 @@ any_adds-one item s = by (adds item s)
     by true = refl
     by false = refl
 
+-- joins take memory if one of a channel on this server does
+any_adds-typed : (nick user host : List ℕ) (names : List (List ℕ)) (s : ChanState)
+    → any_adds (map (Joined nick user host) names) s ≡ list_any (λ name. join_adds nick name s) (filter (is_typed s.support) names)
+any_adds-typed nick user host [] s = refl
+any_adds-typed nick user host (n ∷ ns) s = by (is_typed s.support n) (any_adds-typed nick user host ns s)
+  where
+    more : Bool
+    more = any_adds (map (Joined nick user host) ns) s
+
+    left : List (List ℕ)
+    left = filter (is_typed s.support) ns
+
+    by : (b : Bool) → more ≡ list_any (λ name. join_adds nick name s) left
+        → ((b && join_adds nick n s) || more) ≡ list_any (λ name. join_adds nick name s) (cond b (n ∷ left) left)
+    by true rest = ap (λ z. join_adds nick n s || z) rest
+    by false rest = rest
+
+pub any_adds-joins : (nick user host list : List ℕ) (s : ChanState)
+    → any_adds (map (Joined nick user host) (channels_in list)) s ≡ list_any (λ name. join_adds nick name s) (channels_on s.support list)
+any_adds-joins nick user host list s =
+    any_adds-typed nick user host (channels_in list) s ∙ ap (list_any (λ name. join_adds nick name s)) (channels_on-is s.support list)
+
 -- the bot's joins take memory, if there are any
-pub any_adds-own : (nick user host : List ℕ) (names : List (List ℕ)) (s : ChanState) → is_same_by (mapping_of s) nick s.nick ≡ true → 0 < length names
-    → any_adds (map (Joined nick user host) names) s ≡ true
-any_adds-own nick user host [] s own some = absurd (let some : 0 < 0 = some in omega arith)
-any_adds-own nick user host (n ∷ ns) s own some =
-    or-left (is_same_by (mapping_of s) nick s.nick || is_held (mapping_of s) n s.channels) (any_adds (map (Joined nick user host) ns) s) (or-left
+any_adds-all : (nick : List ℕ) (names : List (List ℕ)) (s : ChanState) → is_same_by (mapping_of s) nick s.nick ≡ true → 0 < length names
+    → list_any (λ name. join_adds nick name s) names ≡ true
+any_adds-all nick [] s own some = absurd (let some : 0 < 0 = some in omega arith)
+any_adds-all nick (n ∷ ns) s own some =
+    or-left (join_adds nick n s) (list_any (λ name. join_adds nick name s) ns) (or-left
     (is_same_by (mapping_of s) nick s.nick) (is_held (mapping_of s) n s.channels) own)
+
+pub any_adds-own : (nick user host list : List ℕ) (s : ChanState) → is_same_by (mapping_of s) nick s.nick ≡ true → 0 < length (channels_on s.support list)
+    → any_adds (map (Joined nick user host) (channels_in list)) s ≡ true
+any_adds-own nick user host list s own some =
+    any_adds-joins nick user host list s ∙ any_adds-all nick (channels_on s.support list) s own some
 
 -- ---- items that take no memory
 
 pub adds-none : (item : Item) (s : ChanState) → any_adds (item ∷ []) s ≡ false → adds item s ≡ false
 adds-none item s none = (or-parts (adds item s) false none).0
 
-pub joins_none : (nick user host : List ℕ) (names : List (List ℕ)) (s : ChanState) → any_adds (map (Joined nick user host) names) s ≡ false
-    → steps (map (Joined nick user host) names) s ≡ record s { support = joined_if (any_named names) s.support }
-joins_none nick user host [] s none = refl
-joins_none nick user host (n ∷ ns) s none =
-    let parts = or-parts (adds (Joined nick user host n) s) (any_adds (map (Joined nick user host) ns) s) none in
+none_joined : (nick user host : List ℕ) (names : List (List ℕ)) (s : ChanState) → list_any (λ name. join_adds nick name s) names ≡ false
+    → each_step (map (Joined nick user host) names) s ≡ record s { support = joined_if (any_named names) s.support }
+none_joined nick user host [] s none = refl
+none_joined nick user host (n ∷ ns) s none =
+    let parts = or-parts (join_adds nick n s) (list_any (λ name. join_adds nick name s) ns) none in
     let apart = or-parts (is_same_by (mapping_of s) nick s.nick) (is_held (mapping_of s) n s.channels) parts.0 in
     let next : ChanState = record s { support = with_join s.support } in
-    ap (steps (map (Joined nick user host) ns)) (joined-nowhere nick user host n s apart.0 apart.1)
-    ∙ (joins_none nick user host ns next (joins_same nick user host ns s ∙ parts.1)
+    ap (each_step (map (Joined nick user host) ns)) (joined-nowhere nick user host n s apart.0 apart.1)
+    ∙ (none_joined nick user host ns next (joins_same nick ns s ∙ parts.1)
     ∙ ap (λ sup. record s { support = sup }) (joined_again (any_named ns) s.support))
+
+pub joins_none : (nick user host list : List ℕ) (s : ChanState) → any_adds (map (Joined nick user host) (channels_in list)) s ≡ false
+    → steps (map (Joined nick user host) (channels_in list)) s
+    ≡ record s { support = joined_if (any_named (channels_on s.support list)) s.support }
+joins_none nick user host list s none =
+    steps-joins nick user host list s
+    ∙ none_joined nick user host (channels_on s.support list) s (sym (any_adds-joins nick user host list s) ∙ none)
 
 pub shown_none : (channel names : List ℕ) (s : ChanState) → adds (NamesTold channel names) s ≡ false
     → on_channel (mapping_of s) channel (shown_each (mapping_of s) (names_in s.support names)) s.channels ≡ on_channel (mapping_of s) channel (listed_each (mapping_of s) (names_in s.support names)) s.channels

@@ -1,6 +1,7 @@
 pub mod BoolLemmas
 pub mod FirstsLemmas
 pub mod MapLemmas
+pub mod TypedLemmas
 pub mod KeptLemmas
 pub mod WordLemmas
 pub mod StepLemmas

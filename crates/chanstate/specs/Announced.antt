@@ -2,7 +2,7 @@
 -- signs that stand for them before a nick. CHANMODES has the other modes by their type. What the server has not
 -- announced is as in RFC 2812. Sets of ASCII bytes are tables; no other byte is in a set.
 use Rattle.std.specs.Prelude.{ℕ, Bool, true, false, ◌||◌, ◌&&◌, ◌==◌, List, [], ◌∷◌, Option, None, Some, nat_lt, length, drop, take, replicate, codes}
-use Rattle.std.specs.Prelude.{slice_get, slice_set, unwrap_or, if◌then◌else◌}
+use Rattle.std.specs.Prelude.{not, slice_get, slice_index, slice_set, unwrap_or, if◌then◌else◌}
 use Rattle.std.specs.List.{position_or_len}
 use Rattle.std.specs.Str.{bytes_eq}
 use Rattle.rfccase.specs.declared.casemappings.Casemapping.TheVariants.{Rfc1459}
@@ -37,6 +37,8 @@ unannounced = record {
   signs = letters_of (codes "@%+&~");
   always = letters_of (codes "beIk");
   when_set = letters_of (codes "l");
+  status = no_letters;
+  channel_types = letters_of (codes "&#+!");
   casemapping = Rfc1459;
   join_read = false;
 }
@@ -82,10 +84,19 @@ typed_one (Some p) s = typed_two p.0 (cut 44 p.1) s
 abbrev pub with_types : List ℕ → Support → Support
 with_types value s = typed_one (cut 44 value) s
 
+-- STATUSMSG=signs: the signs that may stand before the name of a channel to which a text is sent
+abbrev pub with_status : List ℕ → Support → Support
+with_status value s = record s { status = letters_of value }
+
 -- CASEMAPPING=name: how the server compares names. It counts only while no JOIN has been read, so that no channel or
 -- member is held that was found by another casemapping.
 abbrev pub with_casemapping : List ℕ → Support → Support
 with_casemapping value s = if s.join_read then s else record s { casemapping = mapping_named value }
+
+-- CHANTYPES=bytes: the bytes with which the names of channels begin on this server. As with the casemapping, it counts
+-- only while no JOIN has been read, so that no held channel stops being one.
+abbrev pub with_channel_types : List ℕ → Support → Support
+with_channel_types value s = if s.join_read then s else record s { channel_types = letters_of value }
 
 -- a JOIN has been read
 abbrev pub with_join : Support → Support
@@ -101,7 +112,9 @@ abbrev pub announced_by : List ℕ × List ℕ → Support → Support
 announced_by p s =
     if bytes_eq p.0 (codes "PREFIX") then with_prefix p.1 s
     else (if bytes_eq p.0 (codes "CHANMODES") then with_types p.1 s
-    else (if bytes_eq p.0 (codes "CASEMAPPING") then with_casemapping p.1 s else s))
+    else (if bytes_eq p.0 (codes "CASEMAPPING") then with_casemapping p.1 s
+    else (if bytes_eq p.0 (codes "CHANTYPES") then with_channel_types p.1 s
+    else (if bytes_eq p.0 (codes "STATUSMSG") then with_status p.1 s else s))))
 
 abbrev pub with_token : List ℕ → Support → Support
 with_token token s = announced_by (key_and_value token (cut 61 token)) s
@@ -120,3 +133,11 @@ takes_argument s on b = is_in b s.ranks || (is_in b s.always || (on && is_in b s
 -- whether a byte is a sign that stands before a nick in a list of names
 abbrev pub is_sign : Support → ℕ → Bool
 is_sign s b = is_in b s.signs
+
+-- whether a name begins with a byte with which the names of channels begin
+abbrev pub is_typed : Support → List ℕ → Bool
+is_typed s name = is_in (slice_index name 0) s.channel_types
+
+-- whether a target begins with a sign of STATUSMSG
+abbrev pub has_status : Support → List ℕ → Bool
+has_status s target = not (length target == 0) && is_in (slice_index target 0) s.status

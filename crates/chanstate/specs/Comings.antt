@@ -6,7 +6,7 @@ use Rattle.chanstate.specs.declared.event.IrcEvent.{IrcEvent}
 use Rattle.chanstate.specs.declared.event.EventKind.TheVariants.{Join, Part, Sign, Nick}
 use Rattle.chanstate.specs.declared.state.ChanState.{ChanState}
 use Rattle.rfccase.specs.Casemapping.{is_same_by}
-use Rattle.chanstate.specs.Items.{channels_in}
+use Rattle.chanstate.specs.Items.{channels_on}
 use Rattle.chanstate.specs.Views.{mapping_of, channel_in, channels_with}
 use Rattle.chanstate.specs.EventShape.{event_on}
 use Rattle.chanstate.specs.Given.{when_given, text_at}
@@ -21,9 +21,9 @@ abbrev pub spelled : Bool → ChanState → List ℕ → Option (List ℕ)
 spelled true s name = Some name
 spelled false s name = option_map (λ channel. channel.name) (channel_in name s)
 
--- the channels of a list separated by commas, in its order
+-- the channels of a list separated by commas, in its order; a name that is no channel on this server is left out
 abbrev pub listed_in : Bool → ChanState → List ℕ → List (List ℕ)
-listed_in own s list = filter_map (spelled own s) (channels_in list)
+listed_in own s list = filter_map (spelled own s) (channels_on s.support list)
 
 -- JOIN: on each listed channel that the bot is on, or on every listed channel if the bot itself joins
 abbrev pub joins : List ℕ → List ℕ → List (List ℕ) → ChanState → List IrcEvent

@@ -1,7 +1,7 @@
 -- What a message says of the bot's channels (RFC 2812 sections 3.1.2, 3.1.3, 3.1.7, 3.2 and 5), one item at a time: a
 -- list of channels, of modes or of names gives an item for each, in its order. A line that lacks a needed parameter
 -- says nothing. What mode strings and lists of names say depends on what the server has announced, so each is one item
--- that is only read when it is taken in.
+-- that is only read when it is taken in. So does whether a name that is joined is a channel.
 use Rattle.std.specs.Option.{option_to_list}
 use Rattle.std.specs.Prelude.{ℕ, ◌-◌, unwrap_or, Bool, true, false, ◌||◌, ◌&&◌, not, ◌==◌, List, [], ◌∷◌, ◌++◌, map, filter, drop, take}
 use Rattle.std.specs.Prelude.{length, if◌then◌else◌, codes, find, Option, Some, None, slice_get}
@@ -14,7 +14,7 @@ use Rattle.chanstate.specs.declared.member.Member.{Member}
 use Rattle.chanstate.specs.declared.member.Mark.{Mark}
 use Rattle.chanstate.specs.declared.member.Mark.TheVariants.{Op, Voice, HalfOp}
 use Rattle.chanstate.specs.declared.support.Support.{Support}
-use Rattle.chanstate.specs.Announced.{is_in, is_sign, takes_argument}
+use Rattle.chanstate.specs.Announced.{is_in, is_sign, is_typed, takes_argument}
 use Rattle.chanstate.specs.declared.channel_command.ChannelCommand.{ChannelCommand}
 use Rattle.chanstate.specs.declared.channel_command.ChannelCommand.TheVariants as verb
 
@@ -52,6 +52,14 @@ if_given (Some text) items = items text
 -- the channels of a list separated by commas; a piece that is no channel's name gives none
 abbrev pub channels_in : List ℕ → List (List ℕ)
 channels_in text = filter is_channel_name (slice_split (λ b. b == 44) text)
+
+-- whether a name is a channel on this server: it is a channel's name, and begins with a byte of CHANTYPES
+abbrev pub is_channel_on : Support → List ℕ → Bool
+is_channel_on s name = is_channel_name name && is_typed s name
+
+-- the channels of a list that are channels on this server
+abbrev pub channels_on : Support → List ℕ → List (List ℕ)
+channels_on s text = filter (is_channel_on s) (slice_split (λ b. b == 44) text)
 
 -- whether there is one
 abbrev pub any_named : List (List ℕ) → Bool
@@ -131,6 +139,7 @@ markings s channel (one ∷ more) = marking channel one.on one.argument (rank_of
 abbrev pub read_by : Support → Item → List Item
 read_by s (ModesSet channel modes arguments) = markings s channel (singles s true modes arguments)
 read_by s (NamesTold channel names) = map (Listed channel) (names_in s names)
+read_by s (Joined nick user host channel) = if is_typed s channel then Joined nick user host channel ∷ [] else []
 read_by s item = item ∷ []
 
 -- the command of a message, as far as channels and events are concerned

@@ -9,6 +9,7 @@ use Rattle.chanstate.specs.declared.state.ChanState.{ChanState}
 use Rattle.rfccase.specs.Casemapping.{is_same_by}
 use Rattle.chanstate.specs.Members.{is_called, has_member}
 use Rattle.chanstate.specs.Channels.{is_held}
+use Rattle.chanstate.specs.Announced.{is_typed}
 use Rattle.chanstate.specs.Views.{mapping_of, channel_in, member_in}
 use Rattle.chanstate.specs.Items.{Item, Welcomed, Announced, Joined, Left, Departed, Renamed, ModesSet, Marked, Titled, NamesTold, Listed, Addressed}
 use Rattle.chanstate.specs.Items.{names_in, items_of}
@@ -34,11 +35,15 @@ abbrev pub respells : List ℕ → Option Member → Bool
 respells nick None = false
 respells nick (Some m) = not (pointwise nat_eq m.nick nick)
 
+-- whether the bot joins a channel, or another person one that is held
+abbrev pub join_adds : List ℕ → List ℕ → ChanState → Bool
+join_adds nick channel s = is_same_by (mapping_of s) nick s.nick || is_held (mapping_of s) channel s.channels
+
 -- whether an item concerns a held channel or the bot's own nick, and brings a text to keep
 abbrev pub adds : Item → ChanState → Bool
 adds (Welcomed nick) s = true
 adds (Announced tokens) s = false
-adds (Joined nick user host channel) s = is_same_by (mapping_of s) nick s.nick || is_held (mapping_of s) channel s.channels
+adds (Joined nick user host channel) s = is_typed s.support channel && join_adds nick channel s
 adds (Left nick channel) s = false
 adds (Departed nick) s = false
 adds (Renamed old new) s =

@@ -1,11 +1,12 @@
 -- What people say and note: PRIVMSG and NOTICE (RFC 2812 section 3.3).
-use Rattle.std.specs.Prelude.{ℕ, Bool, ◌==◌, List, [], ◌∷◌, ◌++◌, length, if◌then◌else◌, Option, Some, None, slice_get, slice_index}
+use Rattle.std.specs.Prelude.{ℕ, Bool, ◌==◌, List, [], ◌∷◌, ◌++◌, length, if◌then◌else◌, Option, Some, None, is_some, drop, slice_get, slice_index}
 use Rattle.bytetext.specs.Words.{first_word, after_word}
 use Rattle.chanstate.specs.declared.event.IrcEvent.{IrcEvent}
 use Rattle.chanstate.specs.declared.event.EventKind.TheVariants.{Msg, Msgm, Notc, Pub, Pubm}
 use Rattle.chanstate.specs.declared.channel.Channel.{Channel}
 use Rattle.chanstate.specs.declared.state.ChanState.{ChanState}
 use Rattle.rfccase.specs.Casemapping.{is_same_by}
+use Rattle.chanstate.specs.Announced.{has_status}
 use Rattle.chanstate.specs.Views.{mapping_of, channel_in}
 use Rattle.chanstate.specs.EventShape.{event_with}
 use Rattle.chanstate.specs.Given.{when_given}
@@ -44,20 +45,27 @@ abbrev pub noticed_on : List ℕ → List ℕ → List ℕ → Option Channel �
 noticed_on nick address text None = []
 noticed_on nick address text (Some channel) = noticed nick address (Some channel.name) text channel.name
 
+-- The channel to which a target sends a text: the one of this name, or the one whose name stands after a sign of
+-- STATUSMSG. Such a text is for the members with that status.
+abbrev pub channel_sent : List ℕ → ChanState → Option Channel
+channel_sent target s =
+    if is_some (channel_in target s) then channel_in target s
+    else (if has_status s.support target then channel_in (drop 1 target) s else None)
+
 -- what a person says or notes to the bot, or on a channel that it is on
 abbrev pub said : List ℕ → List ℕ → List ℕ → List ℕ → ChanState → List IrcEvent
 said nick address target text s =
     if is_hidden text then []
     else (if is_same_by (mapping_of s) target s.nick
     then to_bot nick address text
-    else said_on nick address text (channel_in target s))
+    else said_on nick address text (channel_sent target s))
 
 abbrev pub noted : List ℕ → List ℕ → List ℕ → List ℕ → ChanState → List IrcEvent
 noted nick address target text s =
     if is_hidden text then []
     else (if is_same_by (mapping_of s) target s.nick
     then noticed nick address None text target
-    else noticed_on nick address text (channel_in target s))
+    else noticed_on nick address text (channel_sent target s))
 
 -- PRIVMSG
 abbrev pub says : List ℕ → List ℕ → List (List ℕ) → ChanState → List IrcEvent

@@ -2,7 +2,7 @@
 ghost use Rattle.std.specs.Prelude.{◌≡◌, [], ◌∷◌, IfOk, filter, map};
 ghost use Rattle.std.specs.List.{filter_map};
 ghost use Rattle.std.specs.Option.{option_copied, option_to_list};
-ghost use Rattle.rfccase.specs.Channels.{is_channel_name};
+ghost use Rattle.chanstate.specs.Items.{is_channel_on};
 ghost use Rattle.chanstate.specs.Comings.{spelled, listed_in, joins, parts, signs_off, renames};
 ghost use Rattle.chanstate.specs.Deeds.{told};
 ghost use Rattle.chanstate.specs.Members.{has_member};
@@ -15,7 +15,7 @@ use crate::names::is_same;
 use crate::state::ChanState;
 use crate::words::{param, text_at};
 use bytetext::{NoMemory, Text};
-use rfccase::{Casemapping, is_channel_name};
+use rfccase::Casemapping;
 use std::alloc::Global;
 
 // Returns the events of a JOIN.
@@ -106,9 +106,9 @@ pub(crate) fn rename(
 // Returns the channel that `piece` names, as events spell it. If `own`, any channel has events, spelled as in `piece`;
 // if not, only one that the bot is on has, spelled as the bot spells it.
 fn spelled_piece<'a>(own: bool, piece: &'a [u8], state: &'a ChanState) -> Option<&'a [u8]>
-    ensures { option_to_list (option_copied result) ≡ filter_map (spelled own state.now) (filter is_channel_name (piece.now ∷ [])) }
+    ensures { option_to_list (option_copied result) ≡ filter_map (spelled own state.now) (filter (is_channel_on state.now.support) (piece.now ∷ [])) }
 {
-    if !is_channel_name(piece) {
+    if !state.support().is_channel(piece) {
         return None;
     }
     if own { Some(piece) } else { state.held(piece) }

@@ -1,10 +1,9 @@
 // People join channels (RFC 2812 section 3.2.1).
 ghost use Rattle.std.specs.Prelude.{◌≡◌, ◌<◌, ◌++◌, true, false, [], ◌∷◌, length, filter, IfOk, OnOk, OnErr, MatchResult, map};
-ghost use Rattle.rfccase.specs.Channels.{is_channel_name};
 ghost use Rattle.chanstate.specs.Channels.{is_held, opened};
 ghost use Rattle.chanstate.specs.Memory.{any_adds};
 ghost use Rattle.chanstate.specs.Seen.{joins_in};
-ghost use Rattle.chanstate.specs.Items.{Joined, any_named, channels_in};
+ghost use Rattle.chanstate.specs.Items.{any_named, channels_on, is_channel_on};
 ghost use Rattle.chanstate.specs.Views.{mapping_of};
 ghost use Rattle.chanstate.specs.Members.{arrived, unmarked};
 ghost use Rattle.std.specs.List.{list_any};
@@ -18,11 +17,12 @@ use crate::member::Member;
 use crate::message_plan::MessagePlan;
 use crate::names::is_same;
 use crate::state::ChanState;
+use crate::support::Support;
 use crate::take::{Take, is_taken};
 use crate::task::Task;
 use bytetext::NoMemory;
 use ircline::Person;
-use rfccase::{Casemapping, is_channel_name};
+use rfccase::Casemapping;
 use std::alloc::Global;
 
 impl Channels {
@@ -31,6 +31,7 @@ impl Channels {
         &mut self,
         alloc: Global,
         mapping: Casemapping,
+        support: &Support,
         person: Person<'_>,
         piece: &[u8],
         takes: &mut Vec<Take>,
@@ -39,12 +40,12 @@ impl Channels {
         ensures kept { AreKept (arrived mapping (unmarked person.entry.nick.now person.entry.user.now person.entry.host.now)) takes.new.items }
         ensures back { given false takes.new.items self.new ≡ given false takes.old.items self.old }
         ensures done { OnOk result (given true takes.new.items self.new
-            ≡ came_each mapping (unmarked person.entry.nick.now person.entry.user.now person.entry.host.now) (filter is_channel_name (piece.now ∷ []))
+            ≡ came_each mapping (unmarked person.entry.nick.now person.entry.user.now person.entry.host.now) (filter (is_channel_on support.now) (piece.now ∷ []))
             (given true takes.old.items self.old)) }
-        ensures named { OnErr result (is_channel_name piece.now ≡ true) }
+        ensures named { OnErr result (is_channel_on support.now piece.now ≡ true) }
         ensures held { OnErr result (is_held mapping piece.now self.old ≡ true) }
     {
-        if !is_channel_name(piece) {
+        if !support.is_channel(piece) {
             return Ok(());
         }
         let Some(at) = self.place(mapping, piece) else {
@@ -63,17 +64,18 @@ impl Channels {
         &mut self,
         alloc: Global,
         mapping: Casemapping,
+        support: &Support,
         person: Person<'_>,
         list: &[u8],
     ) -> Result<Vec<Take>, NoMemory>
-        ensures memory { OnErr result (list_any (λ name. is_held mapping name self.old) (channels_in list.now) ≡ true) }
+        ensures memory { OnErr result (list_any (λ name. is_held mapping name self.old) (channels_on support.now list.now) ≡ true) }
         ensures ready { MatchResult result (λ takes. IsTaken
-            (came_each mapping (unmarked person.entry.nick.now person.entry.user.now person.entry.host.now) (channels_in list.now)) takes.items self.new self.old)
+            (came_each mapping (unmarked person.entry.nick.now person.entry.user.now person.entry.host.now) (channels_on support.now list.now)) takes.items self.new self.old)
             (λ _. self.new ≡ self.old) }
     {
         let mut takes = Vec::new(alloc);
         for piece in list.split(|byte| *byte == b',') {
-            match self.ready_arrival(alloc, mapping, person, piece, &mut takes) {
+            match self.ready_arrival(alloc, mapping, support, person, piece, &mut takes) {
                 Ok(()) => {}
                 Err(refused) => {
                     self.give(takes, false);
@@ -97,11 +99,11 @@ impl ChanState {
         ensures memory { OnErr result (any_adds (joins_in person.entry list.now) self.old ≡ true) }
         ensures ready { MatchResult result (λ plan. IsPlanFor (joins_in person.entry list.now) plan self.new self.old) (λ _. self.new ≡ self.old) }
     {
-        let opened = opened_each(alloc, self.casemapping(), person, list)?;
+        let opened = opened_each(alloc, self.casemapping(), &self.support, person, list)?;
         let mapping = self.casemapping();
         let opening = self.channels.ready_opening(alloc, mapping, opened)?;
         Ok(MessagePlan::Open {
-            joined: names_channel(list),
+            joined: names_channel(&self.support, list),
             opening,
         })
     }
@@ -120,20 +122,22 @@ impl ChanState {
             return self.ready_own_join(alloc, person, list);
         }
         let mapping = self.casemapping();
-        let takes = self.channels.ready_arrivals(alloc, mapping, person, list)?;
+        let takes = self
+            .channels
+            .ready_arrivals(alloc, mapping, &self.support, person, list)?;
         Ok(MessagePlan::Come {
-            joined: names_channel(list),
+            joined: names_channel(&self.support, list),
             takes,
         })
     }
 }
 
-// Returns whether a piece of `list` is the name of a channel.
-pub(crate) fn names_channel(list: &[u8]) -> bool
-    ensures { result ≡ any_named (channels_in list.now) }
+// Returns whether a piece of `list` is the name of a channel on this server.
+pub(crate) fn names_channel(support: &Support, list: &[u8]) -> bool
+    ensures { result ≡ any_named (channels_on support.now list.now) }
 {
     for piece in list.split(|byte| *byte == b',') {
-        if is_channel_name(piece) {
+        if support.is_channel(piece) {
             return true;
         }
     }
@@ -144,16 +148,17 @@ pub(crate) fn names_channel(list: &[u8]) -> bool
 fn opened_each(
     alloc: Global,
     mapping: Casemapping,
+    support: &Support,
     person: Person<'_>,
     list: &[u8],
 ) -> Result<Vec<Channel>, NoMemory>
     ensures opened { IfOk result (λ channels. channels.items
-        ≡ map (λ name. opened name (unmarked person.entry.nick.now person.entry.user.now person.entry.host.now)) (channels_in list.now)) }
-    ensures memory { OnErr result (0 < length (channels_in list.now)) }
+        ≡ map (λ name. opened name (unmarked person.entry.nick.now person.entry.user.now person.entry.host.now)) (channels_on support.now list.now)) }
+    ensures memory { OnErr result (0 < length (channels_on support.now list.now)) }
 {
     let mut channels = Vec::new(alloc);
     for piece in list.split(|byte| *byte == b',') {
-        open_piece(&mut channels, alloc, mapping, person, piece)?;
+        open_piece(&mut channels, alloc, mapping, support, person, piece)?;
     }
     Ok(channels)
 }
@@ -163,14 +168,15 @@ fn open_piece(
     channels: &mut Vec<Channel>,
     alloc: Global,
     mapping: Casemapping,
+    support: &Support,
     person: Person<'_>,
     piece: &[u8],
 ) -> Result<(), NoMemory>
     ensures opened { OnOk result (channels.new.items ≡ channels.old.items
-        ++ map (λ name. opened name (unmarked person.entry.nick.now person.entry.user.now person.entry.host.now)) (filter is_channel_name (piece.now ∷ []))) }
-    ensures named { OnErr result (is_channel_name piece.now ≡ true) }
+        ++ map (λ name. opened name (unmarked person.entry.nick.now person.entry.user.now person.entry.host.now)) (filter (is_channel_on support.now) (piece.now ∷ []))) }
+    ensures named { OnErr result (is_channel_on support.now piece.now ≡ true) }
 {
-    if is_channel_name(piece) {
+    if support.is_channel(piece) {
         let bot = Member::new(alloc, person.nick, person.user, person.host)?;
         channels.push(Channel::open(alloc, mapping, piece, bot)?)?;
     }

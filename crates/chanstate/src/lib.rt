@@ -10,6 +10,12 @@
 //! the bot can join a channel. Once a JOIN has been read, another casemapping is ignored until the next welcome, which
 //! sets it back to RFC 1459: two people who are held never become one by an announcement.
 //!
+//! The server also announces with which bytes the names of its channels begin (CHANTYPES). Until it does, these are
+//! `&`, `#`, `+` and `!`. A JOIN of any other name says nothing. As with the casemapping, what it announces after a
+//! JOIN is ignored until the next welcome, so that a channel that is held stays one. A sign that it announces by
+//! STATUSMSG may stand before the name of a channel to which a text is sent, as in `@#a`: the text is for the members
+//! with that status, and has the events of a text on the channel.
+//!
 //! Members are looked up by their nicks. A message costs a walk over the names of the held channels, and a look-up on
 //! each channel that it concerns (for QUIT and NICK on every held channel). This doesn't grow with the number of
 //! members, even when people leave and come back. Only making room for more members visits all seats of a channel, and

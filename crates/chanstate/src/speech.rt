@@ -1,7 +1,7 @@
 // The events of what people say.
 ghost use Rattle.std.specs.Prelude.{◌≡◌, IfOk};
-ghost use Rattle.std.specs.Option.{option_copied};
-ghost use Rattle.chanstate.specs.Speech.{to_bot, to_channel, noticed, is_hidden, says, notes};
+ghost use Rattle.std.specs.Option.{option_copied, option_map};
+ghost use Rattle.chanstate.specs.Speech.{to_bot, to_channel, noticed, is_hidden, channel_sent, says, notes};
 
 use crate::deed::{Author, joined};
 use crate::event::{EventKind, IrcEvent};
@@ -85,6 +85,21 @@ fn note(
     Ok(events)
 }
 
+// Returns the channel to which `target` sends a text, as the bot spells it; `None` if the bot isn't on it. A sign of
+// STATUSMSG may stand before the name.
+fn channel_sent<'a>(target: &[u8], state: &'a ChanState) -> Option<&'a [u8]>
+    ensures { option_copied result ≡ option_map (λ c. c.name) (channel_sent target.now state.now) }
+{
+    if let Some(channel) = state.held(target) {
+        return Some(channel);
+    }
+    if state.support().has_status(target) {
+        state.held(&target[1..])
+    } else {
+        None
+    }
+}
+
 // Returns the events of a PRIVMSG.
 pub(crate) fn say(
     alloc: Global,
@@ -106,7 +121,7 @@ pub(crate) fn say(
     if is_same(state.casemapping(), target, state.own_nick()) {
         return say_to_bot(alloc, by, text);
     }
-    match state.held(target) {
+    match channel_sent(target, state) {
         Some(channel) => say_on(alloc, by, channel, text),
         None => Ok(Vec::new(alloc)),
     }
@@ -133,7 +148,7 @@ pub(crate) fn notice(
     if is_same(state.casemapping(), target, state.own_nick()) {
         return note(alloc, by, None, text, target);
     }
-    match state.held(target) {
+    match channel_sent(target, state) {
         Some(channel) => note(alloc, by, Some(channel), text, channel),
         None => Ok(Vec::new(alloc)),
     }

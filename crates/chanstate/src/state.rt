@@ -225,7 +225,10 @@ impl ChanState {
             MessageParts::Topic { .. } => {}
             MessageParts::Address { .. } => {}
             MessageParts::Announce(tokens) => self.support.announce(tokens),
-            MessageParts::Join { list, .. } => self.note_join(names_channel(list)),
+            MessageParts::Join { list, .. } => {
+                let joined = names_channel(&self.support, list);
+                self.note_join(joined);
+            }
             MessageParts::Part { nick, list } => self.leave_all(nick, list),
             MessageParts::Kick { channel, target } => self.leave(target, channel),
             MessageParts::Quit(nick) => self.depart(nick),

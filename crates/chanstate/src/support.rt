@@ -1,14 +1,15 @@
 // What a server announces (RPL_ISUPPORT, numeric 005).
 ghost use Rattle.std.specs.Prelude.{◌≡◌, ◌≤◌, length, MatchOption, None, Some};
 ghost use Rattle.chanstate.specs.Announced.{front_len, cut, key_and_value, with_prefix, with_types, with_token, announced, unannounced, takes_argument};
-ghost use Rattle.chanstate.specs.Announced.{is_sign, is_in, with_casemapping, with_join};
+ghost use Rattle.chanstate.specs.Announced.{is_sign, is_in, has_status, with_casemapping, with_channel_types, with_join};
+ghost use Rattle.chanstate.specs.Items.{is_channel_on};
 
 use crate::letters::Letters;
 use bytetext::Text;
-use rfccase::Casemapping;
+use rfccase::{Casemapping, is_channel_name};
 
-/// What a server announces: its channel modes, as far as they are needed to read a MODE or a list of names, and how it
-/// compares names. Allocates nothing.
+/// What a server announces: its channel modes, as far as they are needed to read a MODE or a list of names, which names
+/// are channels, which signs may stand before them, and how it compares names. Allocates nothing.
 #[derive(Clone, Copy, Debug)]
 pub struct Support {
     // The modes that mark a member, and the signs that stand for them before a nick.
@@ -17,9 +18,13 @@ pub struct Support {
     // Of the other modes, those that always have an argument, and those that have one only when they are set.
     always: Letters,
     when_set: Letters,
+    // The signs that may stand before the name of a channel to which a text is sent.
+    status: Letters,
+    // The bytes with which the names of channels begin.
+    channel_types: Letters,
     // How the server compares names.
     casemapping: Casemapping,
-    // Whether a JOIN has been read since the welcome. From then on the casemapping stays.
+    // Whether a JOIN has been read since the welcome. From then on the casemapping and the types of channels stay.
     join_read: bool,
 }
 
@@ -35,6 +40,8 @@ impl Support {
             signs: Letters::of(b"@%+&~"),
             always: Letters::of(b"beIk"),
             when_set: Letters::of(b"l"),
+            status: Letters::none(),
+            channel_types: Letters::of(b"&#+!"),
             casemapping: Casemapping::Rfc1459,
             join_read: false,
         }
@@ -68,6 +75,20 @@ impl Support {
         self.signs.holds(byte)
     }
 
+    // Returns whether `name` is the name of a channel on this server.
+    pub(crate) fn is_channel(&self, name: &[u8]) -> bool
+        ensures { result ≡ is_channel_on self.now name.now }
+    {
+        !name.is_empty() && is_channel_name(name) && self.channel_types.holds(name[0])
+    }
+
+    // Returns whether `target` begins with a sign that may stand before the name of a channel.
+    pub(crate) fn has_status(&self, target: &[u8]) -> bool
+        ensures { result ≡ has_status self.now target.now }
+    {
+        !target.is_empty() && self.status.holds(target[0])
+    }
+
     /// Takes in `tokens`, the tokens of one line.
     pub fn announce(&mut self, tokens: &[Text])
         ensures { self.new ≡ announced tokens.now self.old }
@@ -87,6 +108,10 @@ impl Support {
             self.set_types(value);
         } else if key == b"CASEMAPPING".as_slice() {
             self.set_casemapping(value);
+        } else if key == b"CHANTYPES".as_slice() {
+            self.set_channel_types(value);
+        } else if key == b"STATUSMSG".as_slice() {
+            self.status = Letters::of(value);
         }
     }
 
@@ -105,6 +130,17 @@ impl Support {
         if !self.join_read {
             self.casemapping = Casemapping::named(value);
         }
+    }
+
+    // Takes in the bytes with which the names of channels begin, unless a JOIN has been read: a channel that is held
+    // then stays one.
+    fn set_channel_types(&mut self, value: &[u8])
+        ensures { self.new ≡ with_channel_types value.now self.old }
+    {
+        if self.join_read {
+            return;
+        }
+        self.channel_types = Letters::of(value);
     }
 
     // Takes in `(letters)signs`, or an empty value if no mode marks a member.

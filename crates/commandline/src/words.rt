@@ -1,7 +1,7 @@
 // What the command line asks for.
 use botjournal::LAYOUT;
 use clap::error::ErrorKind;
-use clap::{Arg, ArgMatches, Command, Error, value_parser};
+use clap::{Arg, ArgAction, ArgMatches, Command, Error, value_parser};
 use replaying::{USAGE, not_written, out_of_memory};
 use settings::MAX_LEAVES;
 use std::alloc::{AllocError, Global};
@@ -30,12 +30,22 @@ pub enum ProgramTask<'a> {
     Check(&'a str),
     /// Look at what the bot of this configuration file needs.
     Doctor(&'a str),
+    /// Print the configuration of stunnel for the tunnels of this configuration file.
+    Tunnel(&'a str),
+    /// Write the file of the keys of the links' tunnels of this configuration file.
+    TunnelKeys(&'a str),
     /// Send this line to the bot of this folder.
     Tell(&'a str, Vec<u8>),
     /// Print the version and the records of this folder's bot.
     Show(&'a str),
     /// Print the secret file of the leaf of this number, by the net's secret in this file.
     Key(&'a str, u16),
+    /// Make the folder of an heir's hub, the second one, of the stopped leaf's folder, the first one.
+    Promote(&'a str, &'a str),
+    /// Say which of the stopped leaves of these folders has the highest version.
+    Which(Vec<&'a str>),
+    /// Put the journal of this folder's stopped leaf aside.
+    StartOver(&'a str),
 }
 
 /// Prints `error`: what clap says of a command line that it rejects, its help, or the version. Returns the exit status.
@@ -85,16 +95,28 @@ fn task_named<'a>(
         "run" => Ok(ProgramTask::Run(word(said, "CONFIG"))),
         "check" => Ok(ProgramTask::Check(word(said, "CONFIG"))),
         "doctor" => Ok(ProgramTask::Doctor(word(said, "CONFIG"))),
+        "tunnel" if said.get_flag("keys") => Ok(ProgramTask::TunnelKeys(word(said, "CONFIG"))),
+        "tunnel" => Ok(ProgramTask::Tunnel(word(said, "CONFIG"))),
         "show" => Ok(ProgramTask::Show(word(said, "FOLDER"))),
         "tell" => {
             let line = joined(alloc, said.get_strs("WORDS").unwrap_or(&[]))?;
             Ok(ProgramTask::Tell(word(said, "FOLDER"), line))
         }
         "key" => Ok(ProgramTask::Key(word(said, "SECRETFILE"), said.get_one("N").unwrap_or(0))),
+        "promote" => promotion_of(alloc, said),
+        "start-over" => Ok(ProgramTask::StartOver(word(said, "FOLDER"))),
         "serve" => Ok(ProgramTask::Serve(said.get_one("PORT").unwrap_or(0))),
         "replay" => Ok(ProgramTask::Replay(said.get_str("FILE"))),
         "picture" => Ok(ProgramTask::Picture(said.get_str("FILE"))),
         _ => Ok(ProgramTask::Live),
+    }
+}
+
+// What the subcommand `promote` is to do.
+fn promotion_of<'a>(alloc: Global, said: &ArgMatches<'a>) -> Result<ProgramTask<'a>, Error> {
+    match said.get_strs("which") {
+        Some(folders) => Ok(ProgramTask::Which(Vec::from_slice(alloc, folders)?)),
+        None => Ok(ProgramTask::Promote(word(said, "LEAF_FOLDER"), word(said, "NEW_FOLDER"))),
     }
 }
 
@@ -121,7 +143,10 @@ fn command<'a>(alloc: Global, version: &'a str) -> Result<Command<'a>, AllocErro
         .about("IRC bots that share a userfile")
         .version(version)
         .subcommand_required(true);
-    with_scripts(alloc, with_keepers(alloc, with_bots(alloc, command)?)?)
+    with_scripts(
+        alloc,
+        with_heirs(alloc, with_keepers(alloc, with_bots(alloc, command)?)?)?,
+    )
 }
 
 // With the commands about a configuration file.
@@ -129,7 +154,8 @@ fn with_bots<'a>(alloc: Global, command: Command<'a>) -> Result<Command<'a>, All
     command
         .subcommand(run_command(alloc)?)?
         .subcommand(check_command(alloc)?)?
-        .subcommand(doctor_command(alloc)?)
+        .subcommand(doctor_command(alloc)?)?
+        .subcommand(tunnel_command(alloc)?)
 }
 
 // With the commands about a bot's folder and a secret.
@@ -138,6 +164,13 @@ fn with_keepers<'a>(alloc: Global, command: Command<'a>) -> Result<Command<'a>, 
         .subcommand(tell_command(alloc)?)?
         .subcommand(show_command(alloc)?)?
         .subcommand(key_command(alloc)?)
+}
+
+// With the commands about a net whose hub is lost.
+fn with_heirs<'a>(alloc: Global, command: Command<'a>) -> Result<Command<'a>, AllocError> {
+    command
+        .subcommand(promote_command(alloc)?)?
+        .subcommand(start_over_command(alloc)?)
 }
 
 // With the commands about scripts, and the small server.
@@ -166,6 +199,17 @@ fn doctor_command<'a>(alloc: Global) -> Result<Command<'a>, AllocError> {
         .about(
             "Look at what a configuration file's bot needs and say what to change; nothing is changed",
         )
+        .arg(config_word(alloc))
+}
+
+fn tunnel_command<'a>(alloc: Global) -> Result<Command<'a>, AllocError> {
+    let keys = Arg::new(alloc, "keys")
+        .long("keys")
+        .help("Print nothing, and write the keys of the links to FOLDER/tls/keys")
+        .action(ArgAction::SetTrue);
+    Command::new(alloc, "tunnel")
+        .about("Print what stunnel needs for the addresses with +PORT of a configuration file")
+        .arg(keys)?
         .arg(config_word(alloc))
 }
 
@@ -206,6 +250,35 @@ fn key_command<'a>(alloc: Global) -> Result<Command<'a>, AllocError> {
         .about("Print the secret file of one leaf, with which it can speak as that leaf alone")
         .arg(file)?
         .arg(leaf)
+}
+
+fn promote_command<'a>(alloc: Global) -> Result<Command<'a>, AllocError> {
+    let leaf = Arg::new(alloc, "LEAF_FOLDER")
+        .help("The folder of a stopped leaf, which is only read")
+        .required_unless_present("which")?;
+    let new = Arg::new(alloc, "NEW_FOLDER")
+        .help("The folder to make: nothing may have this name")
+        .required_unless_present("which")?;
+    let which = Arg::new(alloc, "which")
+        .long("which")
+        .value_name("FOLDER")
+        .help(
+            "Say which of these stopped leaves' folders has the highest version, and make nothing",
+        )
+        .num_args(1..)
+        .conflicts_with("LEAF_FOLDER")?
+        .conflicts_with("NEW_FOLDER")?;
+    Command::new(alloc, "promote")
+        .about("Make a new hub's folder of a stopped leaf's, when the hub is gone")
+        .arg(leaf)?
+        .arg(new)?
+        .arg(which)
+}
+
+fn start_over_command<'a>(alloc: Global) -> Result<Command<'a>, AllocError> {
+    Command::new(alloc, "start-over")
+        .about("Put a stopped leaf's journal aside, so that it joins a new hub as a new leaf")
+        .arg(folder_word(alloc))
 }
 
 fn folder_word<'a>(alloc: Global) -> Arg<'a> {

@@ -1,8 +1,7 @@
 // Whether somebody answers at an address.
 use crate::verdict::{Bad, Fine, Verdict};
 use bytetext::{Failure, NoMemory};
-use net::{DialFault, DialTokens, Dialled, Dialling, TcpSocket, Watch};
-use settings::Address;
+use net::{AnySocket, DialFault, DialTokens, Dialled, Dialling, Watch, Way};
 use std::fs::File;
 use std::io;
 use std::io::ErrorKind;
@@ -11,6 +10,7 @@ use std::random::RandomSource;
 use std::rt::Files;
 use std::time::Clock;
 use streams::{Given, Stream as _};
+use tunnels::{Target, dial};
 
 // How long a name server has, and then the host, in milliseconds.
 const LIMIT: u64 = 5_000;
@@ -26,27 +26,30 @@ const TOKENS: DialTokens = DialTokens {
     lookup: 2,
 };
 
-// Looks the host up and connects to it, for at most `LIMIT` each. Sends nothing.
+// Looks the host up and connects to it, for at most `LIMIT` each; or connects to its tunnel alone. Sends nothing.
 pub(crate) fn dial_verdict<R: AllocGlobal + Net + Clock + Files<File = File> + RandomSource>(
     rt: &R,
-    address: &Address,
+    target: Target<'_>,
 ) -> Result<Verdict, NoMemory> {
-    match dial(rt, address) {
+    match connect(rt, target) {
         Ok(verdict) => Ok(verdict),
         Err(Failure::Refused(bad)) => Ok(Verdict::Bad(bad)),
         Err(Failure::NoMemory) => Err(NoMemory),
     }
 }
 
-fn dial<R: AllocGlobal + Net + Clock + Files<File = File> + RandomSource>(
+fn connect<R: AllocGlobal + Net + Clock + Files<File = File> + RandomSource>(
     rt: &R,
-    address: &Address,
+    target: Target<'_>,
 ) -> Result<Verdict, Failure<Bad>> {
     let mut watch = match Watch::new(rt, 16) {
         Ok(watch) => watch,
         Err(error) => return Err(untried(&error)),
     };
-    let Dialled { socket, address } = begin(rt, &mut watch, address)?;
+    let Dialled { socket, way } = begin(rt, &mut watch, target)?;
+    let Way::Tcp(address) = way else {
+        return Ok(Verdict::Fine(Fine::Tunnel));
+    };
     let mut socket = socket;
     match outcome_of(rt, &mut watch, &mut socket)? {
         Attempt::Made => Ok(Verdict::Fine(Fine::Answers(address))),
@@ -59,15 +62,14 @@ fn dial<R: AllocGlobal + Net + Clock + Files<File = File> + RandomSource>(
 fn begin<R: AllocGlobal + Net + Clock + Files<File = File> + RandomSource>(
     rt: &R,
     watch: &mut Watch,
-    address: &Address,
+    target: Target<'_>,
 ) -> Result<Dialled, Failure<Bad>> {
-    let host = address.host.as_bytes();
     let mut dialling = Dialling::new(0, LONGEST_WAIT, 1);
     let end = milliseconds(rt)?.saturating_add(LIMIT);
     for _ in 0..u64::MAX {
         let now = milliseconds(rt)?;
         let steady = now / 1_000;
-        match dialling.connect(rt, watch.registry(), TOKENS, host, address.port, steady) {
+        match dial(&mut dialling, rt, watch.registry(), TOKENS, target, steady) {
             Ok(Some(dialled)) => return Ok(dialled),
             Ok(None) => {}
             Err(Failure::Refused(fault)) => {
@@ -87,6 +89,8 @@ fn begin<R: AllocGlobal + Net + Clock + Files<File = File> + RandomSource>(
 fn bad_of(fault: DialFault) -> Bad {
     match fault {
         DialFault::Unreached => Bad::NoWay,
+        DialFault::NoTunnel => Bad::NoTunnel,
+        DialFault::TunnelBusy => Bad::TunnelBusy,
         DialFault::Unreadable | DialFault::Unknown | DialFault::Unanswered => Bad::Host(fault),
     }
 }
@@ -104,7 +108,7 @@ enum Attempt {
 fn outcome_of<R: Clock>(
     rt: &R,
     watch: &mut Watch,
-    socket: &mut TcpSocket,
+    socket: &mut AnySocket,
 ) -> Result<Attempt, Failure<Bad>> {
     let end = milliseconds(rt)?.saturating_add(LIMIT);
     for _ in 0..u64::MAX {
@@ -121,8 +125,8 @@ fn outcome_of<R: Clock>(
     Ok(Attempt::Pending)
 }
 
-fn attempt_of(socket: &mut TcpSocket) -> Attempt {
-    if socket.other_port().is_some() {
+fn attempt_of(socket: &mut AnySocket) -> Attempt {
+    if socket.is_made() {
         return Attempt::Made;
     }
     let mut piece = [0; 1];

@@ -19,10 +19,11 @@ use std::random::RandomSource;
 use std::rt::Files;
 use std::str;
 use std::time::Clock;
+use tunnels::Target;
 
 /// Looks at what the bot of these `settings` needs, which `file` says, and prints a line for each finding. Changes
 /// nothing: it writes no file, locks a journal only while it reads it, and connects only to the servers and the hub of
-/// the settings, to which it sends nothing. At the address at which a hub listens it listens for a moment itself, unless
+/// the settings, or to their tunnels, to which it sends nothing. At the address at which a hub listens it listens for a moment itself, unless
 /// a bot runs on the folder. Returns the exit status: 1 if a finding is bad, else 0.
 ///
 /// # Errors
@@ -82,8 +83,10 @@ fn look_at_servers<R: Print + AllocGlobal + Net + Clock + Files<File = File> + R
     report: &mut Report,
     settings: &Settings,
 ) -> Result<(), DoctorFault> {
+    let folder = settings.folder.as_bytes();
     for server in settings.servers.as_slice() {
-        let verdict = dial_verdict(rt, &server.address)?;
+        let address = &server.address;
+        let verdict = dial_verdict(rt, Target { folder, address })?;
         report.tell(rt, Subject::Server(&server.address), verdict)?;
     }
     Ok(())
@@ -97,11 +100,13 @@ fn look_at_net<R: Print + AllocGlobal + Net + Clock + Files<File = File> + Rando
     runs: bool,
 ) -> Result<(), DoctorFault> {
     if let Some(address) = &settings.hub {
-        let verdict = dial_verdict(rt, address)?;
+        let folder = settings.folder.as_bytes();
+        let verdict = dial_verdict(rt, Target { folder, address })?;
         report.tell(rt, Subject::Hub(address), verdict)?;
     }
     match &settings.listen {
-        Some(address) if !runs => {
+        // Where a tunnel comes in, the hub listens in its own folder.
+        Some(address) if !runs && !address.tls => {
             let verdict = door_verdict(rt, address)?;
             report.tell(rt, Subject::Listen(address), verdict)
         }

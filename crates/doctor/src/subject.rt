@@ -34,5 +34,5 @@ impl Display for Subject<'_> {
 
 fn at<W: fmt::Write>(f: &mut fmt::Formatter<W>, word: &str, address: &Address) -> fmt::Result {
     put(f, word, &Shown(address.host.as_bytes()))?;
-    put(f, " ", &address.port)
+    put(f, if address.tls { " +" } else { " " }, &address.port)
 }

@@ -63,6 +63,8 @@ pub(crate) enum Fine {
     Password,
     #[error("answers at {0}")]
     Answers(SocketAddr),
+    #[error("has a tunnel that takes connections; what it says of the other end stands in stunnel's log")]
+    Tunnel,
     #[error("is free")]
     Door,
 }
@@ -113,6 +115,10 @@ pub(crate) enum Bad {
     Host(DialFault),
     #[error("can't be reached: check the routes of this machine, as ip route shows them, and its limit of open files")]
     NoWay,
+    #[error("has no tunnel, as nobody listens at its socket in the folder's tls: run stunnel on what `eggnet tunnel CONFIG` prints, as this user")]
+    NoTunnel,
+    #[error("has a tunnel that takes no connection: see that stunnel runs as this user and is not stuck, and run it again")]
+    TunnelBusy,
     #[error("refuses connections at {0}, or no way leads there: check its host and port, and that it runs")]
     Refuses(SocketAddr),
     #[error("doesn't answer within 5 seconds at {0}: check its host and port, and the firewalls on the way")]

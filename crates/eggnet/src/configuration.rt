@@ -69,8 +69,8 @@ pub fn doctor_file<
     }
 }
 
-// What a configuration file says. If something is wrong with it, reports that and returns the status.
-fn settings_of<R: Eprint + AllocGlobal + Files<File = File>>(
+/// Returns what the configuration file `file` says. If something is wrong with it, reports that and returns the status.
+pub fn settings_of<R: Eprint + AllocGlobal + Files<File = File>>(
     rt: &R,
     file: &str,
 ) -> Result<Settings, u8> {

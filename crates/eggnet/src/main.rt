@@ -1,11 +1,16 @@
 //! Bots of IRC that share a userfile: each as a process of its own, and nets of them for trying things out.
 //!
 //! `eggnet run CONFIG` runs the bot of a configuration file, until it is asked to end. `eggnet check CONFIG` reads the
-//! file and ends; it opens nothing else. `eggnet doctor CONFIG` looks at all that the file names, prints a line for each
-//! finding, and changes nothing ([`doctor`]). `eggnet tell FOLDER WORDS..` gives a command to the bot that runs on this
-//! folder, and prints its answer. `eggnet show FOLDER` prints the version and the records of a bot, whether it runs or
-//! not. `eggnet key SECRETFILE N` prints the secret file of leaf N, by the net's secret in SECRETFILE. A leaf that has
-//! this file alone can't speak as another one.
+//! file and ends; it opens nothing else. `eggnet doctor CONFIG` looks at all that the file names, prints a line for
+//! each finding, and changes nothing ([`doctor`]). `eggnet tunnel CONFIG` prints the configuration with which stunnel
+//! makes the bot's encrypted connections ([`tunnels`]), and creates the folder for their sockets. `eggnet tell FOLDER
+//! WORDS..` gives a command to the bot that runs on this folder, and prints its answer. `eggnet show FOLDER` prints the
+//! version and the records of a bot, whether it runs or not. `eggnet key SECRETFILE N` prints the secret file of leaf
+//! N, by the net's secret in SECRETFILE. A leaf that has this file alone can't speak as another one.
+//!
+//! If a net's hub is lost, `eggnet promote --which FOLDER..` says which of these stopped leaves' folders has the highest
+//! version, `eggnet promote LEAF_FOLDER NEW_FOLDER` makes the folder of a new hub of it, and `eggnet start-over FOLDER` has
+//! another leaf join that one ([`promotion`]).
 //!
 //! `eggnet replay` reads a script from standard input or a named file, runs its commands with a botnet in memory, and
 //! prints the transcript. `eggnet picture` draws such a script's run, as SVG. `eggnet live` reads a live script from
@@ -19,22 +24,26 @@
 //! Binds may call the procs of `eggprocs`, whose first page lists them.
 //!
 //! The program ends with status 0 when all is done; 1 for a faulty configuration, another bot's journal, a file without
-//! the secret of a net, a command that a bot refuses or does not understand, and a script that breaks a rule; 2 for a
-//! command line that is not understood; 3 if reading, writing, a folder, a disk or a socket fails, if no bot runs, or
-//! if a live botnet stalls; 4 if memory runs out. Standard error says which.
+//! the secret of a net, a folder whose leaf can't be promoted, a command that a bot refuses or does not understand, and
+//! a script that breaks a rule; 2 for a command line that is not understood; 3 if reading, writing, a folder, a disk or
+//! a socket fails, if no bot runs, or if a live botnet stalls; 4 if memory runs out. Standard error says which.
 #![tactic(auto)]
 
 mod configuration;
 mod leaf_key;
+mod lost_hub;
 mod scripts;
 mod serve;
 mod talk;
+mod tunnels_of_file;
 
 use crate::configuration::{check_file, doctor_file, run_file};
 use crate::leaf_key::print_leaf_key;
+use crate::lost_hub::{print_which, promote_leaf, start_leaf_over};
 use crate::scripts::live_script;
 use crate::serve::serve_port;
 use crate::talk::print_answer;
+use crate::tunnels_of_file::{print_tunnels, write_tunnel_keys};
 use commandline::{ProgramTask, refused, task_of, version_of};
 use control::{ask, show};
 use eggprocs::store;
@@ -60,6 +69,8 @@ fn main(rt: HostRuntime) -> ExitCode {
         ProgramTask::Run(file) => run_file(&rt, &store, file),
         ProgramTask::Check(file) => check_file(&rt, &store, file),
         ProgramTask::Doctor(file) => doctor_file(&rt, &store, file),
+        ProgramTask::Tunnel(file) => print_tunnels(&rt, file),
+        ProgramTask::TunnelKeys(file) => write_tunnel_keys(&rt, file),
         ProgramTask::Tell(folder, line) => print_answer(
             &rt,
             folder,
@@ -67,6 +78,9 @@ fn main(rt: HostRuntime) -> ExitCode {
         ),
         ProgramTask::Show(folder) => print_answer(&rt, folder, show(&rt, folder)),
         ProgramTask::Key(file, leaf) => print_leaf_key(&rt, file, *leaf),
+        ProgramTask::Promote(folder, heir) => promote_leaf(&rt, folder, heir),
+        ProgramTask::Which(folders) => print_which(&rt, folders.as_slice()),
+        ProgramTask::StartOver(folder) => start_leaf_over(&rt, folder),
         ProgramTask::Replay(Some(file)) => replay_file(&rt, store, file),
         ProgramTask::Replay(None) => replay_input(&rt, store),
         ProgramTask::Picture(file) => picture_script(&rt, store, *file),

@@ -7,7 +7,7 @@ use Rattle.std.proofs.lemmas.Bool.{cases_lt}
 use Rattle.std.proofs.lemmas.List.Elements.{filter_map-append}
 
 -- what is left out of the first so many stays out of them
-take-grown : {X : Type 0} (n : ℕ) (xs ys : List X) → take n (take n xs ++ ys) ≡ take n (xs ++ ys)
+pub take-grown : {X : Type 0} (n : ℕ) (xs ys : List X) → take n (take n xs ++ ys) ≡ take n (xs ++ ys)
 take-grown zero xs ys = refl
 take-grown (suc n) [] ys = refl
 take-grown (suc n) (x ∷ xs) ys = ap (λ l. x ∷ l) (take-grown n xs ys)
@@ -21,7 +21,7 @@ of-one {X} {Y} h x given is = by given ∙ ap (λ (o : Option Y). cons_option o 
     by (Some y) = refl
 
 -- a list that is not full takes what there is, and a full one stays
-put-room : {Y : Type 0} (n : ℕ) (before after : List Y) (given : Option Y) → length before ≤ n
+pub put-room : {Y : Type 0} (n : ℕ) (before after : List Y) (given : Option Y) → length before ≤ n
     → (length before < n → after ≡ before ++ option_to_list given) → (n ≤ length before → after ≡ before)
     → after ≡ take n (before ++ option_to_list given)
 put-room {Y} n before after given within room full = ⊎_elim (λ few. room few ∙ few-taken given few) (λ many. full many ∙ sym (many-taken many)) (cases_lt (length before) n)

@@ -1,5 +1,6 @@
 pub mod BanLines
 pub mod DueLemmas
+pub mod EndLemmas
 pub mod EveryoneLemmas
 pub mod KeepingLemmas
 pub mod LawLemmas

@@ -68,7 +68,7 @@ look-waits turn line (Some address) look is = by (bytes_eq (after_word (look_tex
         same n = and_from (n == n) true (grind arith) refl
     by false here = cc
 
-look-for-waits : (turn : ℕ) (call : Call) (seen : Seen) (action look : Action) → look_for turn call seen action ≡ Some look
+pub look-for-waits : (turn : ℕ) (call : Call) (seen : Seen) (action look : Action) → look_for turn call seen action ≡ Some look
     → is_look_after (turn * LOOK_SECONDS) look ≡ true
 look-for-waits turn call seen (Put wish) look is = look-waits turn wish.line (address_now call seen (target_in wish.line)) look is
 look-for-waits turn call seen (Ask change) look is = cc
@@ -112,7 +112,7 @@ only-looks w call seen above = λ reply kept.
     ∙ later-turn (duty_of w) (turn_of (duty_of w) call seen) call seen (wanted_by w call seen) above
 
 -- a look is a wait, however long
-look-is-wait : (seconds : ℕ) (action : Action) → is_look_after seconds action ≡ true → is_wait action ≡ true
+pub look-is-wait : (seconds : ℕ) (action : Action) → is_look_after seconds action ≡ true → is_wait action ≡ true
 look-is-wait seconds (Utimer wish) is =
     (and_parts (wish.count == 1) (bytes_eq wish.proc (codes "later")) (and_parts (wish.interval == seconds) ((wish.count == 1) && bytes_eq wish.proc (codes "later")) is).1).1
 look-is-wait seconds (Ask change) is = cc

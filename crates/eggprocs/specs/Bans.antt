@@ -1,5 +1,6 @@
 -- What `ban`, `unban` and `lift` request.
-use Rattle.std.specs.Prelude.{ℕ, nat_lt, nat_le, ◌==◌, ◌*◌, ◌&&◌, List, [], ◌∷◌, ◌++◌, take, min, length, Bool, if◌then◌else◌, codes, Option, Some, None}
+use Rattle.std.specs.Prelude.{ℕ, nat_lt, nat_le, ◌==◌, ◌*◌, ◌&&◌, List, [], ◌∷◌, ◌++◌, take, min, length, Bool, true, false, if◌then◌else◌, codes, Option, Some, None}
+use Rattle.std.specs.List.{cons_option}
 use Rattle.bytetext.specs.declared.moment.TheConstants.{MOMENTS_END}
 use Rattle.recordtext.specs.Words.{number_below}
 use Rattle.userfile.specs.declared.change.Change.{Change}
@@ -17,6 +18,7 @@ use Rattle.procs.specs.Seen.{Seen}
 use Rattle.eggprocs.specs.declared.bans.TheConstants.{UTIMER_MINUTES}
 use Rattle.eggprocs.specs.Args.{handle_of, channel_of, said_of, timer_text, has_word}
 use Rattle.eggprocs.specs.Channel.{put}
+use Rattle.eggprocs.specs.Ends.{holds_ended}
 use Rattle.eggprocs.specs.Lines.{mode}
 use Rattle.eggprocs.specs.Rights.{is_timer, is_op_of}
 
@@ -78,11 +80,21 @@ and_then first second (Some third) = first ∷ second ∷ third ∷ []
 abbrev pub mode_of : List ℕ → Call → Action
 mode_of sign call = put mode_queue (mode (channel_of call) sign (mask_of call))
 
--- what `ban` requests: the ban in the userfile, the ban on the channel, and later its end there
+-- the deletion of the command's ban, if the records hold one that has ended: they take no second ban of a mask
+abbrev pub delete_first : Bool → Call → Option Action
+delete_first false call = None
+delete_first true call = Some (Ask (DelBan (channel_of call) (mask_of call)))
+
+abbrev pub deleted_first : Call → Seen → Option Action
+deleted_first call seen = delete_first (holds_ended (channel_of call) (mask_of call) seen) call
+
+-- what `ban` requests: the ban in the userfile, after the deletion of one that has ended, the ban on the channel, and
+-- later its end there
 abbrev pub asked_by_ban : Bool → Call → Seen → List Action
 asked_by_ban may call seen =
     if may && is_hostmask (mask_of call)
-    then and_then (Ask (ban_of call seen)) (mode_of (codes "+b") call) (lift_of call (minutes_in (after_word (said_of call))))
+    then cons_option (deleted_first call seen)
+    (and_then (Ask (ban_of call seen)) (mode_of (codes "+b") call) (lift_of call (minutes_in (after_word (said_of call)))))
     else []
 
 -- what `unban` requests: the end of the ban in the userfile and on the channel

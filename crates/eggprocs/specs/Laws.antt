@@ -6,6 +6,7 @@ use Rattle.bytetext.specs.Words.{after_word}
 use Rattle.flagexpr.specs.Letters.{has_letter}
 use Rattle.userfile.specs.declared.change.Change.{Change}
 use Rattle.userfile.specs.declared.change.Change.TheVariants.{AddUser, DelUser, AddHost, DelHost, SetGlobal, SetChan, SetBot, AddBan, DelBan, SetInfo, SetSticky}
+use Rattle.userfile.specs.declared.ban.Ban.{Ban}
 use Rattle.userfile.specs.declared.flags.PersonFlags.{PersonFlags}
 use Rattle.userfile.specs.Held.{user_of}
 use Rattle.chanstate.specs.declared.member.Member.{Member}
@@ -19,6 +20,7 @@ use Rattle.procs.specs.Seen.{Seen}
 use Rattle.eggprocs.specs.declared.rights.TheConstants.{AUTO_OP, AUTO_VOICE, OP, FRIEND, MASTER, OWNER}
 use Rattle.eggprocs.specs.declared.duties.Duty.TheVariants.{First}
 use Rattle.eggprocs.specs.Args.{handle_of, channel_of, mode_argument}
+use Rattle.eggprocs.specs.Ends.{has_ended_by, holds_ended}
 use Rattle.eggprocs.specs.Everyone.{is_own_join, flags_of_member}
 use Rattle.eggprocs.specs.Infos.{info_by}
 use Rattle.eggprocs.specs.Keeping.{is_by_bot, is_by_server, is_by_trusted, flags_named, is_hit, is_self}
@@ -252,3 +254,56 @@ KeepsChannelsApart name =
     (call : Call) (one other : Seen) → one.sight.records ≡ other.sight.records → shared call one ≡ None → shared call other ≡ None
     → turn_of First call one ≡ turn_of First call other
     → (a b : ProcReply) → IsKept ours name call one a → IsKept ours name call other b → a.actions ≡ b.actions
+
+-- ---- bans that have ended
+
+-- the deletion of this ban from the records
+abbrev pub is_deletion_of : Ban → Action → Bool
+is_deletion_of ban (Ask (DelBan channel mask)) = bytes_eq channel ban.channel && bytes_eq mask ban.mask
+is_deletion_of ban (Ask (AddUser handle)) = false
+is_deletion_of ban (Ask (DelUser handle)) = false
+is_deletion_of ban (Ask (AddHost handle mask)) = false
+is_deletion_of ban (Ask (DelHost handle mask)) = false
+is_deletion_of ban (Ask (SetGlobal handle flags)) = false
+is_deletion_of ban (Ask (SetChan handle channel flags)) = false
+is_deletion_of ban (Ask (SetBot handle flags)) = false
+is_deletion_of ban (Ask (AddBan channel mask creator expires comment)) = false
+is_deletion_of ban (Ask (SetInfo handle info)) = false
+is_deletion_of ban (Ask (SetSticky channel mask on)) = false
+is_deletion_of ban (Timer wish) = false
+is_deletion_of ban (Utimer wish) = false
+is_deletion_of ban (KillTimer name) = false
+is_deletion_of ban (SendBot wish) = false
+is_deletion_of ban (Put wish) = false
+
+-- the end of this ban, on its channel or in the records, if its expiry is not 0 and at most the second that the proc sees
+abbrev pub is_end_of : Seen → Action → Ban → Bool
+is_end_of seen action ban =
+    has_ended_by seen.second ban && (is_line (mode ban.channel (codes "-b") ban.mask) action || is_deletion_of ban action)
+
+-- the same for some ban of the records
+abbrev pub is_end_of_ended : Call → Seen → Action → Bool
+is_end_of_ended call seen action = list_any (is_end_of seen action) seen.sight.records.bans
+
+-- a change that deletes no ban, or one that has ended
+abbrev pub spares_lasting : Seen → Change → Bool
+spares_lasting seen (DelBan channel mask) = holds_ended channel mask seen
+spares_lasting seen (AddUser handle) = true
+spares_lasting seen (DelUser handle) = true
+spares_lasting seen (AddHost handle mask) = true
+spares_lasting seen (DelHost handle mask) = true
+spares_lasting seen (SetGlobal handle flags) = true
+spares_lasting seen (SetChan handle channel flags) = true
+spares_lasting seen (SetBot handle flags) = true
+spares_lasting seen (AddBan channel mask creator expires comment) = true
+spares_lasting seen (SetInfo handle info) = true
+spares_lasting seen (SetSticky channel mask on) = true
+
+-- an action that requests no deletion of a ban, or that of one that has ended
+abbrev pub deletes_no_lasting : Call → Seen → Action → Bool
+deletes_no_lasting call seen (Ask change) = spares_lasting seen change
+deletes_no_lasting call seen (Timer wish) = true
+deletes_no_lasting call seen (Utimer wish) = true
+deletes_no_lasting call seen (KillTimer name) = true
+deletes_no_lasting call seen (SendBot wish) = true
+deletes_no_lasting call seen (Put wish) = true

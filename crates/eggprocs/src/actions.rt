@@ -7,6 +7,7 @@ use crate::basics::{asked_by_adduser, asked_by_echo, asked_by_tell, asked_by_tic
 use crate::channel::{
     asked_by_autoop, asked_by_invite, asked_by_kick, asked_by_topic, asked_for_mode,
 };
+use crate::ends::asked_by_expire;
 use crate::everyone::asked_by_opall;
 use crate::infos::{asked_by_greet, asked_by_info};
 use crate::keeping::{asked_by_bitch, asked_by_enforcebans, asked_by_guard, asked_by_protectops};
@@ -81,5 +82,6 @@ fn wanted_by(
         ProcName::Guard => asked_by_guard(alloc, call, view),
         ProcName::EnforceBans => asked_by_enforcebans(alloc, call, view),
         ProcName::Later => asked_by_later(alloc, call, view),
+        ProcName::Expire => asked_by_expire(alloc, call, view),
     }
 }

@@ -1,11 +1,13 @@
 // The procs that ban.
 ghost use Rattle.std.specs.Prelude.{◌≡◌, IfOk};
-ghost use Rattle.eggprocs.specs.Bans.{mask_of, minutes_in, short, comment_after, end_of, ban_in, lift_wish, lift_after, lift_of, mode_of};
+ghost use Rattle.eggprocs.specs.Bans.{mask_of, minutes_in, short, comment_after, end_of, ban_in, lift_wish, lift_after, lift_of, mode_of, deleted_first};
+ghost use Rattle.eggprocs.specs.Args.{channel_of};
 ghost use Rattle.eggprocs.specs.Bans.{asked_by_ban, asked_by_unban, asked_by_lift};
 
 use crate::args::{channel_of, handle_of, said_of, timer_text};
+use crate::ends::holds_ended;
 use crate::lines::mode;
-use crate::pairs::{and_then, two};
+use crate::pairs::{after_one, and_then, two};
 use crate::rights::{is_op_of, is_timer};
 use bytetext::{MOMENTS_END, NoMemory, Text, after_word, first_word};
 use outqueue::Queue;
@@ -131,7 +133,8 @@ fn mode_of(alloc: Global, sign: &[u8], call: &Call) -> Result<Action, NoMemory>
     Ok(Action::Put(PutWish { queue, line }))
 }
 
-// What `ban` requests: the ban in the userfile, the ban on the channel, and later its end there.
+// What `ban` requests: the ban in the userfile, after the deletion of one that has ended, the ban on the channel, and
+// later its end there.
 pub(crate) fn asked_by_ban(
     alloc: Global,
     may: bool,
@@ -147,7 +150,29 @@ pub(crate) fn asked_by_ban(
     let ban = ban_in(alloc, call, view.second(), rest)?;
     let sets = mode_of(alloc, b"+b", call)?;
     let lift = lift_of(alloc, call, minutes_in(rest))?;
-    and_then(alloc, Action::Ask(ban), sets, lift)
+    match deleted_first(alloc, call, view)? {
+        Some(delete) => after_one(alloc, delete, Action::Ask(ban), sets, lift),
+        None => and_then(alloc, Action::Ask(ban), sets, lift),
+    }
+}
+
+// The deletion of the command's ban, if the records hold one that has ended.
+fn deleted_first(alloc: Global, call: &Call, view: &View<'_>) -> Result<Option<Action>, NoMemory>
+    ensures { IfOk result (λ delete. delete ≡ deleted_first call.now view.now) }
+{
+    if !holds_ended(channel_of(call), mask_of(call), view) {
+        return Ok(None);
+    }
+    Ok(Some(Action::Ask(deletion(alloc, call)?)))
+}
+
+// The deletion of the command's ban from the userfile.
+fn deletion(alloc: Global, call: &Call) -> Result<Change, NoMemory>
+    ensures { IfOk result (λ change. change ≡ Change.DelBan (channel_of call.now) (mask_of call.now)) }
+{
+    let channel = Text::from_slice(alloc, channel_of(call))?;
+    let mask = Text::from_slice(alloc, mask_of(call))?;
+    Ok(Change::DelBan { channel, mask })
 }
 
 // What `unban` requests: the end of the ban in the userfile and on the channel.
@@ -157,10 +182,9 @@ pub(crate) fn asked_by_unban(alloc: Global, may: bool, call: &Call) -> Result<Ac
     if !(may && is_hostmask(mask_of(call))) {
         return Ok(Actions::empty(alloc));
     }
-    let channel = Text::from_slice(alloc, channel_of(call))?;
-    let mask = Text::from_slice(alloc, mask_of(call))?;
+    let change = deletion(alloc, call)?;
     let clears = mode_of(alloc, b"-b", call)?;
-    two(alloc, Action::Ask(Change::DelBan { channel, mask }), clears)
+    two(alloc, Action::Ask(change), clears)
 }
 
 // What `lift` requests, for a timer's text of a channel and a mask: the end of the ban on the channel.

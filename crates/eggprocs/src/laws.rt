@@ -4,6 +4,7 @@ ghost use Rattle.eggprocs.specs.Laws.{IsOnlyForOneOf, IsOnlyByOps, IsOnlyForMast
 ghost use Rattle.eggprocs.specs.Laws.{ChangesOwnInfo, IsOnlyForKnown, IsOnlyWithInfo, GivesWhatIsDue, KeepsChannelsApart};
 ghost use Rattle.eggprocs.specs.Laws.{IsOnlyForOthers, DoesOnly, is_op_of_known, is_deop_of_unknown, is_end_of_ban, is_kick_of_banned};
 ghost use Rattle.eggprocs.specs.Laws.{LeavesTrusted, LeavesServers, DoesOnlyForTrusted, is_end_of_ban_on_bot};
+ghost use Rattle.eggprocs.specs.Laws.{deletes_no_lasting, is_end_of_ended};
 
 use crate::rights::{AUTO_OP, AUTO_VOICE, MASTER, OP, OWNER, VOICE};
 
@@ -119,6 +120,14 @@ pub fn info_is_of_who_asks()
 /// userfile does not know.
 pub fn greetings_want_an_info()
     ensures greet { IsOnlyWithInfo (codes "greet") }
+{}
+
+/// A law; calling it does nothing. A ban has ended if its expiry is not 0, which means never, and is at most the second
+/// that the proc sees. `expire` does nothing but end bans of the records that have ended: it removes them from their
+/// channels, and deletes them. `ban` deletes no ban but one that has ended.
+pub fn bans_end_at_their_second()
+    ensures expire { DoesOnly is_end_of_ended (codes "expire") }
+    ensures ban { DoesOnly deletes_no_lasting (codes "ban") }
 {}
 
 /// A law; calling it does nothing. If the caller shares no channel with the nick in question, `seen` gives the same

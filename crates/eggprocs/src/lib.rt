@@ -36,13 +36,30 @@
 //! - `ban` and `unban` change the ban in the userfile and on the channel. A ban ends MINUTES minutes after the second
 //!   that the bot's clock shows. In the userfile it never ends if no number of minutes below 2^32 follows the mask, if
 //!   that number is 0, or if the clock shows no second yet. COMMENT is what follows, up to 100 bytes.
+//! - If the userfile has a ban of this MASK on the channel that has ended, `ban` requests its deletion first
+//!   ([`bans_end_at_their_second`]).
 //! - `lift` is for the timer that `ban` requests: with the text CHANNEL MASK it requests `MODE CHANNEL -b MASK`. A
-//!   restart loses this timer like all timers of a bot, but the ban in the userfile still ends.
+//!   restart loses this timer like all timers of a bot, but the ban in the userfile still ends, and `expire` removes it
+//!   from the channel.
 //! - `greet` greets a caller who joins and has an info line, whether the bot is an operator or not. It greets nobody
 //!   without one ([`greetings_want_an_info`]).
 //!
 //! A command that lacks its nick, its text or a hostmask does nothing. Modes and kicks go into the mode queue, topics,
 //! invitations and WHO into the server queue, and greetings into the help queue.
+//!
+//! When a minute begins:
+//!
+//! | Proc | Kind | What it requests |
+//! |---|---|---|
+//! | `expire` | `time`, `cron` | `MODE CHANNEL -b MASK`, and the deletion, of bans that have ended |
+//!
+//! - A ban has ended if its expiry is not 0, which means never, and is at most the second that the bot's clock shows
+//!   ([`bans_end_at_their_second`]).
+//! - The first of the bots that are operators of the ban's channel does both: a bot at whose nick the rank below is 0,
+//!   where operators count.
+//! - Any bot deletes a ban of all channels, and a ban that ended a day ago ([`LEFT_SECONDS`]). So the records also lose a
+//!   ban of a channel on which no bot is an operator.
+//! - A call requests at most eight things, for the first bans in the order of the records. The next call goes on.
 //!
 //! When somebody changes the modes of a channel. The flags in this table are those of members, and the caller needs none
 //! ([`keeping_spares_operators`]):
@@ -136,7 +153,8 @@
 //! - A bot counts another one only if it knows that one's host. So bind `opall` to joins.
 //! - A member with the flag `b` who is no bot of the net delays the bots whose nicks come later by five seconds. If its
 //!   nick is the first, nobody greets or answers. So give that flag to bots of the net alone.
-//! - The other procs are each bot's own: those of private messages, `lift`, `later`, `tick`, `tell`, `quiet` and `stop`.
+//! - The other procs are each bot's own: those of private messages, `lift`, `later`, `expire`,
+//!   `tick`, `tell`, `quiet` and `stop`.
 //!
 //! To try things out with, for any caller:
 //!
@@ -163,6 +181,7 @@ mod body;
 mod channel;
 mod duties;
 mod effects;
+mod ends;
 mod everyone;
 mod full_store;
 mod hands;
@@ -187,11 +206,12 @@ pub use crate::bans::UTIMER_MINUTES;
 pub use crate::body::EggProc;
 pub use crate::duties::Duty;
 pub use crate::effects::LineEffect;
+pub use crate::ends::LEFT_SECONDS;
 pub use crate::full_store::store;
 pub use crate::laws::{
-    answers_keep_channels_apart, changes_of_owners_want_an_owner, changes_want_a_master,
-    commands_want_an_operator, commands_want_flags, greetings_want_an_info, info_is_of_who_asks,
-    keeping_answers_others, keeping_spares_operators,
+    answers_keep_channels_apart, bans_end_at_their_second, changes_of_owners_want_an_owner,
+    changes_want_a_master, commands_want_an_operator, commands_want_flags, greetings_want_an_info,
+    info_is_of_who_asks, keeping_answers_others, keeping_spares_operators,
 };
 pub use crate::looks::{LOOK_SECONDS, MAX_TURN};
 pub use crate::orders::Order;

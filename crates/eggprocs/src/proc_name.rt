@@ -6,7 +6,7 @@ use crate::duties::Duty;
 use procs::Code;
 
 /// The number of procs.
-pub const PROC_COUNT: usize = 35;
+pub const PROC_COUNT: usize = 36;
 
 /// Every proc, in the order in which [`store`](crate::store) adds them.
 pub const EVERY: [ProcName; PROC_COUNT] = [
@@ -45,6 +45,7 @@ pub const EVERY: [ProcName; PROC_COUNT] = [
     ProcName::Guard,
     ProcName::EnforceBans,
     ProcName::Later,
+    ProcName::Expire,
 ];
 
 /// A proc of the programs. The crate's first page says what each is for.
@@ -120,6 +121,8 @@ pub enum ProcName {
     EnforceBans,
     /// `later`: does what another bot left undone, for the timers of bots that let that one go first.
     Later,
+    /// `expire`: removes the bans that have ended.
+    Expire,
 }
 
 impl ProcName {
@@ -163,6 +166,7 @@ impl ProcName {
             ProcName::Guard => b"guard",
             ProcName::EnforceBans => b"enforcebans",
             ProcName::Later => b"later",
+            ProcName::Expire => b"expire",
         }
     }
 
@@ -206,7 +210,8 @@ impl ProcName {
             | ProcName::Bitch
             | ProcName::Guard
             | ProcName::EnforceBans
-            | ProcName::Later => Code::Zero,
+            | ProcName::Later
+            | ProcName::Expire => Code::Zero,
         }
     }
     /// Returns who of the bots on a channel does what the proc requests there.
@@ -242,7 +247,8 @@ impl ProcName {
             | ProcName::Unstick
             | ProcName::Bans
             | ProcName::Guard
-            | ProcName::Later => Duty::Each,
+            | ProcName::Later
+            | ProcName::Expire => Duty::Each,
         }
     }
 }

@@ -25,7 +25,7 @@
 //! - Each net's bots do what `processes` allows (`Run`).
 //!
 //! Not promised: changes that the promoted bot did not have; that a request which was made in both nets is accepted only
-//! once. No program uses these laws yet.
+//! once. The crate `promotion` makes the folder of such a hub.
 #![tactic(auto)]
 
 mod laws;

@@ -83,6 +83,7 @@ fn lone_hub(alloc: Global) -> Result<Config, NoMemory> {
         nick: Text::from_slice(alloc, b"keeper")?,
         channels: Texts::empty(alloc),
         exclusive: false,
+        sends_at_once: false,
         zone: Zone::fixed(0).unwrap(),
     })
 }

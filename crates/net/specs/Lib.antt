@@ -4,6 +4,7 @@ pub mod Connections
 pub mod Watching
 pub mod Dials
 pub mod Lookups
+pub mod Ways
 pub mod Addresses
 pub mod Turns
 pub mod LogForms

@@ -23,6 +23,13 @@ pub enum DialFault {
     /// The system does not begin to connect: no route leads to the address, or it has no more sockets.
     #[error("no way leads to the address, or this machine has no more sockets")]
     Unreached,
+    /// Nothing exists at the path, or nobody listens there.
+    #[error("no tunnel listens: run stunnel on what 'eggnet tunnel CONFIG' prints")]
+    NoTunnel,
+    /// The system does not connect to the path for another reason: too many connections wait there, the path is too
+    /// long or bars this user, or the system has no more sockets.
+    #[error("its tunnel takes no connection: look whether stunnel runs as this user, and answers")]
+    TunnelBusy,
 }
 
 /// Returns the address that `host` spells, such as `192.0.2.7` or `2001:db8::7` (RFC 4291 section 2.2), with `port`.

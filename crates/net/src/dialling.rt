@@ -1,16 +1,21 @@
 // Which server is tried, and when.
 ghost use Rattle.std.specs.Prelude.{◌<◌, ℕ};
+ghost use Rattle.net.specs.Addresses.{IsOfTunnel};
 ghost use Rattle.net.specs.Dials.{Dials};
 ghost use Rattle.net.specs.Turns.{IsTriedSoon};
 
 use crate::address::{DialFault, literal, of_round, with_route};
+use crate::any_socket::{AnySocket, Way};
 use crate::lookup::{Lookup, Step, own_addresses};
 use crate::redial::Redial;
 use crate::tcp::TcpSocket;
+use crate::unix::UnixSocket;
 use bytetext::Failure;
 use mio::Registry;
 use resolver::{Addresses, is_host_name};
 use std::fs::File;
+use std::io;
+use std::io::ErrorKind;
 use std::marker::Model;
 use std::net::{Net, SocketAddr};
 use std::random::RandomSource;
@@ -68,21 +73,21 @@ pub struct DialTokens {
     pub lookup: usize,
 }
 
-/// A connection that was begun, and its address.
+/// A connection that was begun, and where it leads.
 #[derive(Drop)]
 pub struct Dialled {
     /// The connection, which may still fail.
-    pub socket: TcpSocket,
-    /// The address to which it connects.
-    pub address: SocketAddr,
+    pub socket: AnySocket,
+    /// The address to which it connects, or that it goes through a tunnel.
+    pub way: Way,
 }
 
 impl Dialling {
-    ghost use Rattle.std.specs.Prelude.{◌≡◌, ◌<◌, ◌≤◌, ◌+◌, ◌↔◌, IfOk, IfSome, IsSome, IsTrue, true, false, length};
+    ghost use Rattle.std.specs.Prelude.{◌≡◌, ◌<◌, ◌≤◌, ◌+◌, ◌↔◌, IfErr, IfOk, IfSome, IsSome, IsTrue, true, false, length};
     ghost use Rattle.bytetext.specs.declared.moment.TheConstants.{MOMENTS_END};
     ghost use Rattle.net.specs.declared.redial.TheConstants.{FIRST_WAIT};
     ghost use Rattle.net.specs.Dials.{good, lost};
-    ghost use Rattle.net.specs.Addresses.{LeadsTo};
+    ghost use Rattle.net.specs.Addresses.{GoesByTunnel, IsOfTunnel, LeadsTo};
     ghost use Rattle.streams.specs.Accounts.{nothing_yet};
 
     /// Creates a `Dialling` over a list of `servers` servers, the first of which is due at once. `number` is the bot's
@@ -212,8 +217,38 @@ impl Dialling {
             }
         };
         match TcpSocket::connect(rt, registry, tokens.connection, address) {
-            Ok(socket) => Ok(Some(Dialled { socket, address })),
+            Ok(socket) => Ok(Some(Dialled {
+                socket: AnySocket::of_tcp(socket),
+                way: Way::Tcp(address),
+            })),
             Err(_) => Err(Failure::Refused(DialFault::Unreached)),
+        }
+    }
+
+    /// Connects to the tunnel that listens at `path`, which is to be that of the server at [`Dialling::place`]. Asks no
+    /// name server, and connects at once. `registry` watches the connection under `token`.
+    ///
+    /// # Errors
+    /// `NoTunnel` and `TunnelBusy`, as [`DialFault`] describes them. The try has then failed: call [`Dialling::lost`]
+    /// next.
+    pub fn connect_path<R: Net>(
+        &self,
+        rt: &R,
+        registry: &Registry,
+        token: usize,
+        path: &str,
+    ) -> Result<Dialled, DialFault>
+        // It goes to the path, and never over TCP.
+        ensures tunnel { IfOk result GoesByTunnel }
+        ensures fresh { IfOk result (λ dialled. dialled.socket.account.past ≡ nothing_yet) }
+        ensures fault { IfErr result IsOfTunnel }
+    {
+        match UnixSocket::connect_path(rt, registry, token, path) {
+            Ok(socket) => Ok(Dialled {
+                socket: AnySocket::of_unix(socket),
+                way: Way::Tunnel,
+            }),
+            Err(error) => Err(tunnel_fault(&error)),
         }
     }
 
@@ -270,6 +305,16 @@ impl Dialling {
         let reached = with_route(rt, found);
         let address = of_round(reached.as_slice(), self.round)?;
         Some(SocketAddr::new(address, port))
+    }
+}
+
+// Why the system does not connect to a tunnel.
+fn tunnel_fault(error: &io::Error) -> DialFault
+    ensures { IsOfTunnel result }
+{
+    match error.kind() {
+        ErrorKind::NotFound | ErrorKind::ConnectionRefused => DialFault::NoTunnel,
+        _ => DialFault::TunnelBusy,
     }
 }
 

@@ -2,9 +2,10 @@
 //! server to try next, the seconds of this machine's clocks, and the log.
 //!
 //! - A [`TcpSocket`] is a connection over TCP, and a [`UnixSocket`] one at a path of this machine; each is a
-//!   [`Stream`](streams::Stream). A [`TcpDoor`] and a [`UnixDoor`] accept connections. A `TcpDoor` returns each as
-//!   an [`Arrival`], with the address that it comes from. A [`Watch`] waits until one of them is ready, and names it by
-//!   the token under which it was opened.
+//!   [`Stream`](streams::Stream). An [`AnySocket`] is either of them. A [`TcpDoor`] and a [`UnixDoor`] accept
+//!   connections, and so does an [`AnyDoor`], which is either of them. A `TcpDoor` returns each as an [`Arrival`], with
+//!   the address that it comes from. A [`Watch`] waits until one of them is ready, and names it by the token under
+//!   which it was opened.
 //! - A [`Connection`] holds a stream with the bytes heard from it and the bytes still to be sent, each within a bound.
 //! - A [`Redial`] decides when a lost connection is tried again.
 //! - A [`Dialling`] decides which server of a list is tried next, at which of its addresses, and when.
@@ -97,6 +98,8 @@
 
 mod address;
 mod answer;
+mod any_door;
+mod any_socket;
 mod connection;
 mod dialling;
 mod door;
@@ -116,6 +119,8 @@ mod unix;
 mod watch;
 
 pub use crate::address::{DialFault, literal};
+pub use crate::any_door::{AnyArrival, AnyDoor};
+pub use crate::any_socket::{AnySocket, AnyStream, Way};
 pub use crate::connection::{Bounds, Connection};
 pub use crate::dialling::{DialTokens, Dialled, Dialling, law_of_turns};
 pub use crate::door::DoorFault;

@@ -15,8 +15,8 @@ use streams::{Account, Given, Obstacle, Stream, Taken, WriteFault, obstacle_of};
 /// being made. An interrupted call is repeated. Each other error is a fault; if the connection is refused, the first
 /// call that learns of it returns the fault.
 pub struct Socket<S> {
-    stream: S,
-    account: Account,
+    pub(crate) stream: S,
+    pub(crate) account: Account,
 }
 
 // By hand, so that this is proved once, and not in each crate in which a connection ends.
@@ -43,6 +43,16 @@ impl<S> Socket<S> {
             stream,
             account: Account::new(),
         })
+    }
+
+    // The socket of the system, and the account of what it gave and took.
+    pub(crate) fn into_parts(self) -> (S, Account)
+    where
+        S: Drop,
+        ensures { result ≡ (self.stream, self.account) }
+    {
+        let Socket { stream, account } = self;
+        (stream, account)
     }
 
     // The socket of the system.

@@ -20,6 +20,7 @@ pub fn new_bot(alloc: Global, number: u16, leaves: u16) -> Result<Bot<MemDisk>, 
         nick: Text::from_slice(alloc, b"egg")?,
         channels: Texts::empty(alloc),
         exclusive: false,
+        sends_at_once: false,
         zone: Zone::fixed(0).unwrap(),
     };
     match Bot::create(alloc, config, MemDisk::new(alloc), MemDisk::new(alloc)) {

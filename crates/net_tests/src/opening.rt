@@ -19,6 +19,7 @@ fn config(alloc: Global, number: u16) -> Result<Config, NoMemory> {
         nick: Text::from_slice(alloc, b"egg")?,
         channels: Texts::empty(alloc),
         exclusive: false,
+        sends_at_once: false,
         zone: Zone::fixed(0).unwrap(),
     })
 }

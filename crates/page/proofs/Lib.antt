@@ -1,2 +1,4 @@
 pub mod MarkLemmas
 pub mod RequestLemmas
+pub mod WritingLemmas
+pub mod PersonLemmas

@@ -1,8 +1,10 @@
--- By which hostmask a person is a user.
-use Rattle.std.specs.Prelude.{ℕ, Bool, ◌&&◌, ◌||◌, not, nat_le, if◌then◌else◌, List, [], ◌∷◌, Option, None, Some}
+-- Who a person would be, and by which hostmask.
+use Rattle.std.specs.Prelude.{◌≡◌, ℕ, Bool, ◌&&◌, ◌||◌, not, nat_le, if◌then◌else◌, List, [], ◌∷◌, Option, None, Some}
 use Rattle.std.specs.List.{list_all}
 use Rattle.rfccase.specs.declared.casemappings.Casemapping.{Casemapping}
 use Rattle.userfile.specs.Hostmasks.{is_match, literals}
+use Rattle.userfile.specs.Persons.{handle_of, user_for}
+use Rattle.userfile.specs.declared.user.User.{User}
 
 -- a mask that does not match the person, or has no more literals than these
 abbrev pub exceeds : Casemapping → ℕ → List ℕ → List ℕ → Bool
@@ -15,3 +17,12 @@ deciding_mask mapping who (mask ∷ masks) =
     if is_match mapping mask who && list_all (exceeds mapping (literals mask) who) masks
     then Some mask
     else deciding_mask mapping who masks
+
+-- of these users, the person is this one, by this hostmask
+pub record IsKnown (mapping : Casemapping) (users : List User) (who : List ℕ) (user : User) (mask : List ℕ) : Type 0 where
+  -- a look-up of the person finds this user
+  pub found : user_for mapping who users ≡ Some user
+  -- so it returns the user's handle
+  pub named : handle_of mapping users who ≡ user.handle
+  -- of the user's masks that match, this is the first of those with most literals
+  pub decides : deciding_mask mapping who user.masks ≡ Some mask

@@ -15,7 +15,7 @@ use crate::net_page::net_page;
 use crate::records_page::records_page;
 use crate::refusals::refusal_text;
 use crate::request::{PageRequest, PageWant};
-use crate::sheet::{MAX_PAGE, Sheet, SheetError};
+use crate::sheet::{MAX_PAGE, Sheet};
 use crate::status::PageStatus;
 use crate::style::style;
 use crate::view::PageView;
@@ -92,17 +92,17 @@ fn page_of(alloc: Global, request: &PageRequest, view: &PageView<'_>) -> Result<
     }
 }
 
-// A page that was written, or why it was not.
-fn shown(alloc: Global, kind: Kind, written: Result<Sheet, SheetError>) -> Result<Page, NoMemory>
+// A page that was written, or why none is shown.
+fn shown(alloc: Global, kind: Kind, sheet: Sheet) -> Result<Page, NoMemory>
     ensures status { IfOk result (λ page. (page.status ≡ Fine) ⊎ (page.status ≡ LongPage)) }
     ensures printed { IfOk result (λ page. ArePrinted page.body.items) }
     ensures bound { IfOk result (λ page. length page.body.items ≤ MAX_PAGE) }
 {
-    match written {
-        Ok(sheet) => Ok(Page {
+    match sheet.finish() {
+        Ok(body) => Ok(Page {
             status: PageStatus::Fine,
             kind,
-            body: sheet.finish(),
+            body,
         }),
         Err(Failure::Refused(_)) => refused(alloc, PageStatus::LongPage),
         Err(Failure::NoMemory) => Err(NoMemory),

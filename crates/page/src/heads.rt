@@ -3,14 +3,14 @@ ghost use Rattle.std.specs.Prelude.{◌≡◌, ◌≤◌, IfOk, length};
 ghost use Rattle.page.specs.Answers.{BeginsWith};
 ghost use Rattle.page.specs.Marks.{ArePrinted};
 ghost use Rattle.page.specs.Statuses.{status_line};
+ghost use Rattle.page.specs.Writing.{AddsSome};
 
 use crate::marks::are_bare;
+use crate::sheet::Sheet;
 use crate::status::PageStatus;
 use bytetext::NoMemory;
 use httpdate::HttpDate;
-use itoa::Buffer;
 use std::alloc::Global;
-use std::marker::Model;
 
 // What the body of an answer is.
 #[derive(Clone, Copy, Debug, PartialEq, Eq)]
@@ -33,33 +33,27 @@ pub(crate) fn head_of(
     ensures printed { IfOk result (λ head. ArePrinted head.items) }
     ensures bound { IfOk result (λ head. length head.items ≤ 1024) }
 {
-    let fields = fields_of(alloc, status, kind, count, now)?;
-    let mut head = Vec::from_slice(alloc, status.line())?;
-    head.extend_from_slice(fields.bytes.as_slice())?;
-    Ok(head)
+    let mut head = Sheet::new(alloc);
+    head.put(status.line());
+    put_fields(&mut head, status, kind, count, now);
+    match head.finish() {
+        Ok(bytes) => Ok(bytes),
+        // It is never too long.
+        Err(_) => Err(NoMemory),
+    }
 }
 
-// The fields of the head, from the end of its first line to the empty line.
-fn fields_of(
-    alloc: Global,
-    status: PageStatus,
-    kind: Kind,
-    count: usize,
-    now: u64,
-) -> Result<HeadFields, NoMemory>
-    ensures bound { IfOk result (λ fields. length fields ≤ 900) }
+// Appends the fields of the head, from the end of its first line to the empty line.
+fn put_fields(head: &mut Sheet, status: PageStatus, kind: Kind, count: usize, now: u64)
+    ensures { AddsSome head.old 900 head.new }
 {
-    let mut fields = HeadFields {
-        bytes: Vec::new(alloc),
-    };
-    fields.put(SAFETY)?;
-    fields.put(status_field(status))?;
-    fields.put(kind_field(kind))?;
-    fields.put_date(now)?;
-    fields.put(b"Content-Length: ")?;
-    fields.put_number(count as u64)?;
-    fields.put(b"\r\n\r\n")?;
-    Ok(fields)
+    head.put(SAFETY);
+    head.put(status_field(status));
+    head.put(kind_field(kind));
+    put_date(head, now);
+    head.put(b"Content-Length: ");
+    head.put_number(count as u64);
+    head.put(b"\r\n\r\n");
 }
 
 // The fields of every answer. A browser runs no script of it, loads nothing but its style sheet, shows it in no frame,
@@ -98,56 +92,18 @@ fn kind_field(kind: Kind) -> &'static [u8]
     }
 }
 
-// Fields that are being written. Contracts see their bytes, each of which is LF, CR or a space to `~`.
-#[derive(Drop)]
-struct HeadFields {
-    bytes: Vec<u8>,
-}
-
-impl Model for HeadFields {
-    ghost use Rattle.std.specs.Prelude.{List, ℕ};
-    ghost use Rattle.page.specs.Marks.{ArePrinted};
-
-    ghost Value = { List ℕ };
-
-    ghost view = { λ fields. fields.bytes.items };
-
-    ghost invariant = { λ fields. ArePrinted fields.bytes.items };
-}
-
-impl HeadFields {
-    ghost use Rattle.std.specs.Prelude.{◌≡◌, ◌≤◌, ◌+◌, OnOk, length};
-    ghost use Rattle.page.specs.Marks.{ArePrinted};
-
-    fn put(&mut self, words: &[u8]) -> Result<(), NoMemory>
-        requires printed { ArePrinted words.now }
-        ensures { OnOk result (length self.new ≡ length self.old + length words.now) }
-    {
-        self.bytes.extend_from_slice(words)?;
-        Ok(())
-    }
-
-    fn put_number(&mut self, number: u64) -> Result<(), NoMemory>
-        ensures { OnOk result (length self.new ≤ length self.old + 40) }
-    {
-        let mut buffer = Buffer::new();
-        self.put(buffer.format(number).as_bytes())
-    }
-
-    // The field of the date; none after the year 9999.
-    #[tactic(auto, using(crate::proofs::MarkLemmas::bare_printed))]
-    fn put_date(&mut self, now: u64) -> Result<(), NoMemory>
-        ensures { OnOk result (length self.new ≤ length self.old + 40) }
-    {
-        let Ok(date) = HttpDate::from_unix_secs(now) else {
-            return Ok(());
-        };
-        let text = date.to_bytes();
-        if !are_bare(&text) {
-            return Ok(());
-        }
-        self.put(b"Date: ")?;
-        self.put(&text)?;
-        self.put(b"\r\n")
+// Appends the field of the date; none after the year 9999.
+#[tactic(auto, using(crate::proofs::MarkLemmas::bare_printed))]
+fn put_date(head: &mut Sheet, now: u64)
+    ensures { AddsSome head.old 40 head.new }
+{
+    let Ok(date) = HttpDate::from_unix_secs(now) else {
+        return;
+    };
+    let text = date.to_bytes();
+    if are_bare(&text) {
+        head.put(b"Date: ");
+        head.put(&text);
+        head.put(b"\r\n");
     }
 }

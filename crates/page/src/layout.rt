@@ -2,72 +2,68 @@
 ghost use Rattle.page.specs.Marks.{ArePrinted};
 
 use crate::request::PagePath;
-use crate::sheet::{Sheet, SheetError};
+use crate::sheet::Sheet;
 use crate::view::{PageView, PlaceView};
 
 /// The most rows of a page; the next ones are on the next page.
 pub const MAX_ROWS: usize = 100;
 
 // Appends what stands before the content of a page: its title, and the links to the others.
-pub(crate) fn put_top(
-    sheet: &mut Sheet,
-    view: &PageView<'_>,
-    here: PagePath,
-) -> Result<(), SheetError> {
-    put_head(sheet, view, here)?;
+pub(crate) fn put_top(sheet: &mut Sheet, view: &PageView<'_>, here: PagePath) {
+    put_head(sheet, view, here);
     sheet.put(
         b"<body>\n<a class=\"skip\" href=\"#content\">Skip to the content</a>\n<header>\n<p>",
-    )?;
-    put_bot(sheet, view)?;
-    sheet.put(b"</p>\n<nav aria-label=\"Pages\">\n")?;
-    put_link(sheet, here, PagePath::Net)?;
-    put_link(sheet, here, PagePath::Records)?;
-    put_link(sheet, here, PagePath::Log)?;
-    put_link(sheet, here, PagePath::Metrics)?;
-    sheet.put(b"</nav>\n</header>\n<main id=\"content\">\n<h1>")?;
-    sheet.put(name_of(here))?;
-    sheet.put(b"</h1>\n")
+    );
+    put_bot(sheet, view);
+    sheet.put(b"</p>\n<nav aria-label=\"Pages\">\n");
+    put_link(sheet, here, PagePath::Net);
+    put_link(sheet, here, PagePath::Records);
+    put_link(sheet, here, PagePath::Log);
+    put_link(sheet, here, PagePath::Metrics);
+    sheet.put(b"</nav>\n</header>\n<main id=\"content\">\n<h1>");
+    sheet.put(name_of(here));
+    sheet.put(b"</h1>\n");
 }
 
 // Appends the head of the document. The page of the net comes again by itself.
-fn put_head(sheet: &mut Sheet, view: &PageView<'_>, here: PagePath) -> Result<(), SheetError> {
-    sheet.put(b"<!DOCTYPE html>\n<html lang=\"en\">\n<head>\n<meta charset=\"utf-8\">\n")?;
-    sheet.put(b"<meta name=\"viewport\" content=\"width=device-width, initial-scale=1\">\n")?;
+fn put_head(sheet: &mut Sheet, view: &PageView<'_>, here: PagePath) {
+    sheet.put(b"<!DOCTYPE html>\n<html lang=\"en\">\n<head>\n<meta charset=\"utf-8\">\n");
+    sheet.put(b"<meta name=\"viewport\" content=\"width=device-width, initial-scale=1\">\n");
     if here == PagePath::Net {
-        sheet.put(b"<meta http-equiv=\"refresh\" content=\"30\">\n")?;
+        sheet.put(b"<meta http-equiv=\"refresh\" content=\"30\">\n");
     }
-    sheet.put(b"<link rel=\"stylesheet\" href=\"/style.css\">\n<title>")?;
-    sheet.put(name_of(here))?;
-    sheet.put(b": ")?;
-    put_bot(sheet, view)?;
-    sheet.put(b"</title>\n</head>\n")
+    sheet.put(b"<link rel=\"stylesheet\" href=\"/style.css\">\n<title>");
+    sheet.put(name_of(here));
+    sheet.put(b": ");
+    put_bot(sheet, view);
+    sheet.put(b"</title>\n</head>\n");
 }
 
 // Appends which bot this is.
-fn put_bot(sheet: &mut Sheet, view: &PageView<'_>) -> Result<(), SheetError> {
-    sheet.put(b"bot ")?;
-    sheet.put_number(u64::from(view.own.number))?;
+fn put_bot(sheet: &mut Sheet, view: &PageView<'_>) {
+    sheet.put(b"bot ");
+    sheet.put_number(u64::from(view.own.number));
     match view.links.place {
-        PlaceView::Alone => Ok(()),
+        PlaceView::Alone => {}
         PlaceView::Hub => {
-            sheet.put(b", the hub of ")?;
-            sheet.put_number(u64::from(view.own.leaves))?;
-            sheet.put(b" leaves")
+            sheet.put(b", the hub of ");
+            sheet.put_number(u64::from(view.own.leaves));
+            sheet.put(b" leaves");
         }
         PlaceView::Leaf => sheet.put(b", a leaf"),
     }
 }
 
 // Appends the link to a page.
-fn put_link(sheet: &mut Sheet, here: PagePath, page: PagePath) -> Result<(), SheetError> {
-    sheet.put(b"<a href=\"")?;
-    sheet.put(address_of(page))?;
+fn put_link(sheet: &mut Sheet, here: PagePath, page: PagePath) {
+    sheet.put(b"<a href=\"");
+    sheet.put(address_of(page));
     if here == page {
-        sheet.put(b"\" aria-current=\"page")?;
+        sheet.put(b"\" aria-current=\"page");
     }
-    sheet.put(b"\">")?;
-    sheet.put(name_of(page))?;
-    sheet.put(b"</a>\n")
+    sheet.put(b"\">");
+    sheet.put(name_of(page));
+    sheet.put(b"</a>\n");
 }
 
 // The name of a page.
@@ -97,83 +93,78 @@ fn address_of(page: PagePath) -> &'static [u8]
 }
 
 // Appends what stands after the content of a page.
-pub(crate) fn put_end(sheet: &mut Sheet, view: &PageView<'_>) -> Result<(), SheetError> {
-    sheet.put(b"</main>\n<footer>\n<p>As of ")?;
-    sheet.put_time(view.now)?;
-    sheet.put(b".</p>\n</footer>\n</body>\n</html>\n")
+pub(crate) fn put_end(sheet: &mut Sheet, view: &PageView<'_>) {
+    sheet.put(b"</main>\n<footer>\n<p>As of ");
+    sheet.put_time(view.now);
+    sheet.put(b".</p>\n</footer>\n</body>\n</html>\n");
 }
 
 // Appends the links to the rows before those from `from` on, and to those from `next` on.
-pub(crate) fn put_turns(
-    sheet: &mut Sheet,
-    page: PagePath,
-    from: u64,
-    next: Option<u64>,
-) -> Result<(), SheetError> {
+pub(crate) fn put_turns(sheet: &mut Sheet, page: PagePath, from: u64, next: Option<u64>) {
     if from == 0 && next.is_none() {
-        return Ok(());
+        return;
     }
-    sheet.put(b"<nav class=\"turns\" aria-label=\"Rows\">\n")?;
+    sheet.put(b"<nav class=\"turns\" aria-label=\"Rows\">\n");
     if from > 0 {
-        put_turn(sheet, page, from.saturating_sub(MAX_ROWS as u64))?;
-        sheet.put(b"\" rel=\"prev\">Previous</a>\n")?;
+        put_turn(sheet, page, from.saturating_sub(MAX_ROWS as u64));
+        sheet.put(b"\" rel=\"prev\">Previous</a>\n");
     }
     if let Some(next) = next {
-        put_turn(sheet, page, next)?;
-        sheet.put(b"\" rel=\"next\">Next</a>\n")?;
+        put_turn(sheet, page, next);
+        sheet.put(b"\" rel=\"next\">Next</a>\n");
     }
-    sheet.put(b"</nav>\n")
+    sheet.put(b"</nav>\n");
 }
 
 // Appends a link to the rows from `from` on, up to its address.
-fn put_turn(sheet: &mut Sheet, page: PagePath, from: u64) -> Result<(), SheetError> {
-    sheet.put(b"<a href=\"")?;
-    sheet.put(address_of(page))?;
-    sheet.put(b"?from=")?;
-    sheet.put_number(from)
+fn put_turn(sheet: &mut Sheet, page: PagePath, from: u64) {
+    sheet.put(b"<a href=\"");
+    sheet.put(address_of(page));
+    sheet.put(b"?from=");
+    sheet.put_number(from);
 }
 
 // Appends a row of a list of facts: a name, and a number.
-pub(crate) fn put_count(sheet: &mut Sheet, name: &[u8], count: u64) -> Result<(), SheetError>
+pub(crate) fn put_count(sheet: &mut Sheet, name: &[u8], count: u64)
     requires printed { ArePrinted name.now }
 {
-    put_name(sheet, name)?;
-    sheet.put_number(count)?;
-    sheet.put(b"</dd></div>\n")
+    put_name(sheet, name);
+    sheet.put_number(count);
+    sheet.put(b"</dd></div>\n");
 }
 
 // Appends a row of a list of facts: a name, and a second.
-pub(crate) fn put_moment(sheet: &mut Sheet, name: &[u8], second: u64) -> Result<(), SheetError>
+pub(crate) fn put_moment(sheet: &mut Sheet, name: &[u8], second: u64)
     requires printed { ArePrinted name.now }
 {
-    put_name(sheet, name)?;
-    sheet.put_time(second)?;
-    sheet.put(b"</dd></div>\n")
+    put_name(sheet, name);
+    sheet.put_time(second);
+    sheet.put(b"</dd></div>\n");
 }
 
 // Appends a row of a list of facts: a name, and a text from outside.
-pub(crate) fn put_fact(sheet: &mut Sheet, name: &[u8], text: &[u8]) -> Result<(), SheetError>
+pub(crate) fn put_fact(sheet: &mut Sheet, name: &[u8], text: &[u8])
     requires printed { ArePrinted name.now }
 {
-    put_name(sheet, name)?;
-    sheet.put_text(text)?;
-    sheet.put(b"</dd></div>\n")
+    put_name(sheet, name);
+    sheet.put_text(text);
+    sheet.put(b"</dd></div>\n");
 }
 
 // Appends the name of a fact.
-pub(crate) fn put_name(sheet: &mut Sheet, name: &[u8]) -> Result<(), SheetError>
+pub(crate) fn put_name(sheet: &mut Sheet, name: &[u8])
     requires printed { ArePrinted name.now }
 {
-    sheet.put(b"<div><dt>")?;
-    sheet.put(name)?;
-    sheet.put(b"</dt><dd>")
+    sheet.put(b"<div><dt>");
+    sheet.put(name);
+    sheet.put(b"</dt><dd>");
 }
 
 // Appends the begin of a cell of a table, under this heading.
-pub(crate) fn put_cell(sheet: &mut Sheet, heading: &[u8]) -> Result<(), SheetError>
+pub(crate) fn put_cell(sheet: &mut Sheet, heading: &[u8])
     requires printed { ArePrinted heading.now }
 {
-    sheet.put(b"<td data-label=\"")?;
-    sheet.put(heading)?;
-    sheet.put(b"\">")
+    sheet.put(b"<td data-label=\"");
+    sheet.put(heading);
+    sheet.put(b"\">");
 }

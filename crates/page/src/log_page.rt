@@ -3,7 +3,7 @@ ghost use Rattle.std.specs.Prelude.{◌≤◌, length};
 
 use crate::layout::{put_end, put_top};
 use crate::request::PagePath;
-use crate::sheet::{Sheet, SheetError};
+use crate::sheet::Sheet;
 use crate::view::PageView;
 use std::alloc::Global;
 
@@ -14,21 +14,21 @@ const LINES: usize = 500;
 const BYTES: usize = 65_536;
 
 // Returns the page of the log: its last lines, the last one first.
-pub(crate) fn log_page(alloc: Global, view: &PageView<'_>) -> Result<Sheet, SheetError> {
+pub(crate) fn log_page(alloc: Global, view: &PageView<'_>) -> Sheet {
     let mut sheet = Sheet::new(alloc);
-    put_top(&mut sheet, view, PagePath::Log)?;
+    put_top(&mut sheet, view, PagePath::Log);
     sheet.put(
         b"<p>The last lines come first. Reload the page for newer ones.</p>\n<ol class=\"log\">\n",
-    )?;
+    );
     let room = Room {
         lines: LINES,
         bytes: BYTES,
     };
-    let room = put_lines(&mut sheet, view.log.latest, room)?;
-    let _left = put_lines(&mut sheet, view.log.earlier, room)?;
-    sheet.put(b"</ol>\n")?;
-    put_end(&mut sheet, view)?;
-    Ok(sheet)
+    let room = put_lines(&mut sheet, view.log.latest, room);
+    let _left = put_lines(&mut sheet, view.log.earlier, room);
+    sheet.put(b"</ol>\n");
+    put_end(&mut sheet, view);
+    sheet
 }
 
 // How much of the log may still be shown.
@@ -40,31 +40,31 @@ struct Room {
 
 // Appends the last of these lines for which there is room, the last one first. Returns what room is left: none if a line
 // did not fit.
-fn put_lines(sheet: &mut Sheet, lines: &[u8], room: Room) -> Result<Room, SheetError> {
+fn put_lines(sheet: &mut Sheet, lines: &[u8], room: Room) -> Room {
     let mut rest = lines;
     let mut left = room;
     for _line in 0..LINES {
         if rest.is_empty() {
-            return Ok(left);
+            return left;
         }
         let (before, line) = last_line(rest);
         if left.lines == 0 || line.len() > left.bytes {
             break;
         }
-        put_line(sheet, line)?;
+        put_line(sheet, line);
         left = Room {
             lines: left.lines - 1,
             bytes: left.bytes - line.len(),
         };
         rest = before;
     }
-    Ok(Room { lines: 0, bytes: 0 })
+    Room { lines: 0, bytes: 0 }
 }
 
-fn put_line(sheet: &mut Sheet, line: &[u8]) -> Result<(), SheetError> {
-    sheet.put(b"<li>")?;
-    sheet.put_text(without_end(line))?;
-    sheet.put(b"</li>\n")
+fn put_line(sheet: &mut Sheet, line: &[u8]) {
+    sheet.put(b"<li>");
+    sheet.put_text(without_end(line));
+    sheet.put(b"</li>\n");
 }
 
 // Cuts lines before the last one.

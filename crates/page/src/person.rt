@@ -1,8 +1,9 @@
 // Who a person would be, and by which hostmask.
-ghost use Rattle.std.specs.Prelude.{◌≡◌, IfSome};
+ghost use Rattle.std.specs.Prelude.{◌≡◌, MatchOption, None};
 ghost use Rattle.std.specs.List.{list_all};
 ghost use Rattle.std.specs.Option.{option_copied};
-ghost use Rattle.page.specs.Persons.{deciding_mask, exceeds};
+ghost use Rattle.userfile.specs.Persons.{user_for};
+ghost use Rattle.page.specs.Persons.{IsKnown, deciding_mask, exceeds};
 
 use rfccase::Casemapping;
 use userfile::{Hostmask, User, Userfile};
@@ -14,18 +15,24 @@ pub(crate) struct KnownPerson<'a> {
     pub(crate) mask: &'a Hostmask,
 }
 
-// Returns the user that the person `who` would be by a server's casemapping, and the hostmask that decides it. `None` if
-// no hostmask matches.
+// Returns the user that the person `who` would be by a server's casemapping, and the hostmask that decides it. `None` just
+// if no hostmask of any user matches.
 pub(crate) fn person_of<'a>(
     mapping: Casemapping,
     userfile: &'a Userfile,
     who: &[u8],
 ) -> Option<KnownPerson<'a>>
-    ensures { IfSome result (λ known. IfSome (deciding_mask mapping who.now known.user.now.masks) (λ mask. known.mask.now ≡ mask)) }
+    ensures { MatchOption result (user_for mapping who.now userfile.now.users ≡ None)
+        (λ known. IsKnown mapping userfile.now.users who.now known.user.now known.mask.now) }
 {
-    let user = userfile.user(userfile.handle_of(mapping, who))?;
-    let mask = deciding_mask(mapping, user.masks.as_slice(), who)?;
-    Some(KnownPerson { user, mask })
+    userfile.are_sound();
+    let Some(user) = userfile.user(userfile.handle_of(mapping, who)) else {
+        return None;
+    };
+    match deciding_mask(mapping, user.masks.as_slice(), who) {
+        Some(mask) => Some(KnownPerson { user, mask }),
+        None => None,
+    }
 }
 
 // Returns the first of a user's hostmasks that matches `who`, of those with most literals.

@@ -1,8 +1,12 @@
 // The page of the records.
+ghost use Rattle.flagexpr.specs.Letters.{spelling};
+ghost use Rattle.page.specs.Marks.{ArePrinted, shown_text};
+ghost use Rattle.page.specs.Writing.{Adds};
+
 use crate::layout::{MAX_ROWS, put_cell, put_end, put_top, put_turns};
 use crate::person::person_of;
 use crate::request::PagePath;
-use crate::sheet::{Sheet, SheetError};
+use crate::sheet::Sheet;
 use crate::view::PageView;
 use bytetext::Text;
 use flagexpr::Flags;
@@ -19,93 +23,79 @@ pub(crate) fn records_page(
     view: &PageView<'_>,
     from: usize,
     who: &Option<Text>,
-) -> Result<Sheet, SheetError> {
+) -> Sheet {
     let mut sheet = Sheet::new(alloc);
-    put_top(&mut sheet, view, PagePath::Records)?;
-    put_search(&mut sheet, view, who)?;
-    let next = put_records(alloc, &mut sheet, view.userfile, from)?;
-    put_turns(&mut sheet, PagePath::Records, from as u64, next)?;
-    put_end(&mut sheet, view)?;
-    Ok(sheet)
+    put_top(&mut sheet, view, PagePath::Records);
+    put_search(&mut sheet, view, who);
+    let next = put_records(alloc, &mut sheet, view.userfile, from);
+    put_turns(&mut sheet, PagePath::Records, from as u64, next);
+    put_end(&mut sheet, view);
+    sheet
 }
 
 // The form of the search, and its answer.
-fn put_search(
-    sheet: &mut Sheet,
-    view: &PageView<'_>,
-    who: &Option<Text>,
-) -> Result<(), SheetError> {
+fn put_search(sheet: &mut Sheet, view: &PageView<'_>, who: &Option<Text>) {
     sheet.put(
         b"<form action=\"/records\" method=\"get\" role=\"search\">\n<label for=\"who\">Who would this be? nick!user@host</label>\n",
-    )?;
+    );
     sheet.put(
         b"<input id=\"who\" name=\"who\" autocomplete=\"off\" autocapitalize=\"off\" spellcheck=\"false\" value=\"",
-    )?;
+    );
     match who {
         Some(who) => {
-            sheet.put_text(who.as_bytes())?;
-            sheet.put(b"\">\n<button>Search</button>\n</form>\n")?;
-            put_person(sheet, view, who.as_bytes())
+            sheet.put_text(who.as_bytes());
+            sheet.put(b"\">\n<button>Search</button>\n</form>\n");
+            put_person(sheet, view, who.as_bytes());
         }
         None => sheet.put(b"\">\n<button>Search</button>\n</form>\n"),
     }
 }
 
 // Who a person would be, and by which hostmask.
-fn put_person(sheet: &mut Sheet, view: &PageView<'_>, who: &[u8]) -> Result<(), SheetError> {
-    sheet.put(b"<p class=\"found\" role=\"status\"><strong>")?;
-    sheet.put_text(who)?;
+fn put_person(sheet: &mut Sheet, view: &PageView<'_>, who: &[u8]) {
+    sheet.put(b"<p class=\"found\" role=\"status\"><strong>");
+    sheet.put_text(who);
     match person_of(view.mapping, view.userfile, who) {
         Some(known) => {
-            sheet.put(b"</strong> would be <strong>")?;
-            sheet.put_text(known.user.handle.as_bytes())?;
-            sheet.put(b"</strong> by the hostmask <code>")?;
-            sheet.put_text(known.mask.as_bytes())?;
-            sheet.put(b"</code>.</p>\n")
+            sheet.put(b"</strong> would be <strong>");
+            sheet.put_text(known.user.handle.as_bytes());
+            sheet.put(b"</strong> by the hostmask <code>");
+            sheet.put_text(known.mask.as_bytes());
+            sheet.put(b"</code>.</p>\n");
         }
         None => sheet.put(b"</strong> would be nobody: no hostmask matches.</p>\n"),
     }
 }
 
 // The records from place `from` on, and the place of the first one after them, if there is one.
-fn put_records(
-    alloc: Global,
-    sheet: &mut Sheet,
-    userfile: &Userfile,
-    from: usize,
-) -> Result<Option<u64>, SheetError> {
+fn put_records(alloc: Global, sheet: &mut Sheet, userfile: &Userfile, from: usize) -> Option<u64> {
     let users = userfile.user_count();
     let end = users.saturating_add(userfile.ban_count());
-    let place = put_users(alloc, sheet, userfile, from)?;
+    let place = put_users(alloc, sheet, userfile, from);
     let shown = place.saturating_sub(from);
     let place = if place >= users && shown < MAX_ROWS {
-        put_bans(sheet, userfile, place, MAX_ROWS - shown)?
+        put_bans(sheet, userfile, place, MAX_ROWS - shown)
     } else {
         place
     };
-    Ok(if place < end {
+    if place < end {
         Some(place as u64)
     } else {
         None
-    })
+    }
 }
 
 // The users from place `from` on. Returns the place after them.
-fn put_users(
-    alloc: Global,
-    sheet: &mut Sheet,
-    userfile: &Userfile,
-    from: usize,
-) -> Result<usize, SheetError> {
+fn put_users(alloc: Global, sheet: &mut Sheet, userfile: &Userfile, from: usize) -> usize {
     if from >= userfile.user_count() {
-        return Ok(from);
+        return from;
     }
     sheet.put(
         b"<h2>Users</h2>\n<table>\n<thead><tr><th scope=\"col\">Handle</th><th scope=\"col\">Flags</th><th scope=\"col\">As a bot</th>",
-    )?;
+    );
     sheet.put(
         b"<th scope=\"col\">Hostmasks</th><th scope=\"col\">On channels</th><th scope=\"col\">Info</th></tr></thead>\n<tbody>\n",
-    )?;
+    );
     let mut place = from;
     for _row in 0..MAX_ROWS {
         let Some(user) = userfile.user_at(place) else {
@@ -114,92 +104,84 @@ fn put_users(
         if sheet.len() > FULL {
             break;
         }
-        put_user(alloc, sheet, user)?;
+        put_user(alloc, sheet, user);
         place = place.saturating_add(1);
     }
-    sheet.put(b"</tbody>\n</table>\n")?;
-    Ok(place)
+    sheet.put(b"</tbody>\n</table>\n");
+    place
 }
 
-fn put_user(alloc: Global, sheet: &mut Sheet, user: &User) -> Result<(), SheetError> {
-    sheet.put(b"<tr><th scope=\"row\">")?;
-    sheet.put_text(user.handle.as_bytes())?;
-    sheet.put(b"</th>")?;
-    put_flags(alloc, sheet, b"Flags", user.global)?;
-    put_flags(alloc, sheet, b"As a bot", user.bot)?;
-    put_masks(sheet, user.masks.as_slice())?;
-    put_entries(alloc, sheet, user.channels.as_slice())?;
-    put_cell(sheet, b"Info")?;
-    sheet.put_text(user.info.as_bytes())?;
-    sheet.put(b"</td></tr>\n")
+fn put_user(alloc: Global, sheet: &mut Sheet, user: &User) {
+    sheet.put(b"<tr><th scope=\"row\">");
+    sheet.put_text(user.handle.as_bytes());
+    sheet.put(b"</th>");
+    put_flags(alloc, sheet, b"Flags", user.global);
+    put_flags(alloc, sheet, b"As a bot", user.bot);
+    put_masks(sheet, user.masks.as_slice());
+    put_entries(alloc, sheet, user.channels.as_slice());
+    put_cell(sheet, b"Info");
+    sheet.put_text(user.info.as_bytes());
+    sheet.put(b"</td></tr>\n");
 }
 
-ghost use Rattle.page.specs.Marks.{ArePrinted};
-
-// A cell of flags: letters, or `-` if there are none.
-fn put_flags(
-    alloc: Global,
-    sheet: &mut Sheet,
-    heading: &[u8],
-    flags: Flags,
-) -> Result<(), SheetError>
+// A cell of flags.
+fn put_flags(alloc: Global, sheet: &mut Sheet, heading: &[u8], flags: Flags)
     requires printed { ArePrinted heading.now }
 {
-    put_cell(sheet, heading)?;
-    let letters = flags.text(alloc)?;
-    sheet.put_text(letters.as_bytes())?;
-    sheet.put(b"</td>")
+    put_cell(sheet, heading);
+    put_letters(alloc, sheet, flags);
+    sheet.put(b"</td>");
+}
+
+// The letters of flags, or `-` if there are none.
+fn put_letters(alloc: Global, sheet: &mut Sheet, flags: Flags)
+    ensures { Adds sheet.old (shown_text (spelling flags)) sheet.new }
+{
+    match flags.text(alloc) {
+        Ok(letters) => sheet.put_text(letters.as_bytes()),
+        Err(_) => sheet.lack_memory(),
+    }
 }
 
 // A cell of hostmasks, each on a line of its own.
-fn put_masks(sheet: &mut Sheet, masks: &[Hostmask]) -> Result<(), SheetError> {
-    put_cell(sheet, b"Hostmasks")?;
+fn put_masks(sheet: &mut Sheet, masks: &[Hostmask]) {
+    put_cell(sheet, b"Hostmasks");
     for mask in masks {
-        sheet.put_text(mask.as_bytes())?;
-        sheet.put(b"<br>")?;
+        sheet.put_text(mask.as_bytes());
+        sheet.put(b"<br>");
     }
-    sheet.put(b"</td>")
+    sheet.put(b"</td>");
 }
 
 // A cell of the flags on channels, each on a line of its own.
-fn put_entries(
-    alloc: Global,
-    sheet: &mut Sheet,
-    entries: &[ChannelFlags],
-) -> Result<(), SheetError> {
-    put_cell(sheet, b"On channels")?;
+fn put_entries(alloc: Global, sheet: &mut Sheet, entries: &[ChannelFlags]) {
+    put_cell(sheet, b"On channels");
     for entry in entries {
-        put_entry(alloc, sheet, entry)?;
+        put_entry(alloc, sheet, entry);
     }
-    sheet.put(b"</td>")
+    sheet.put(b"</td>");
 }
 
-fn put_entry(alloc: Global, sheet: &mut Sheet, entry: &ChannelFlags) -> Result<(), SheetError> {
-    sheet.put_text(entry.channel.as_bytes())?;
-    sheet.put(b" ")?;
-    let letters = entry.flags.text(alloc)?;
-    sheet.put_text(letters.as_bytes())?;
-    sheet.put(b"<br>")
+fn put_entry(alloc: Global, sheet: &mut Sheet, entry: &ChannelFlags) {
+    sheet.put_text(entry.channel.as_bytes());
+    sheet.put(b" ");
+    put_letters(alloc, sheet, entry.flags);
+    sheet.put(b"<br>");
 }
 
 // At most `most` bans from place `from` on, where the first ban's place is the number of users. Returns the place after
 // them.
-fn put_bans(
-    sheet: &mut Sheet,
-    userfile: &Userfile,
-    from: usize,
-    most: usize,
-) -> Result<usize, SheetError> {
+fn put_bans(sheet: &mut Sheet, userfile: &Userfile, from: usize, most: usize) -> usize {
     let users = userfile.user_count();
     if from < users || from - users >= userfile.ban_count() {
-        return Ok(from);
+        return from;
     }
     sheet.put(
         b"<h2>Bans</h2>\n<table>\n<thead><tr><th scope=\"col\">Hostmask</th><th scope=\"col\">Channel</th><th scope=\"col\">By</th>",
-    )?;
+    );
     sheet.put(
         b"<th scope=\"col\">Until</th><th scope=\"col\">Sticky</th><th scope=\"col\">Comment</th></tr></thead>\n<tbody>\n",
-    )?;
+    );
     let mut place = from;
     for _row in 0..most {
         let Some(ban) = userfile.ban_at(place.saturating_sub(users)) else {
@@ -208,46 +190,46 @@ fn put_bans(
         if sheet.len() > FULL {
             break;
         }
-        put_ban(sheet, ban)?;
+        put_ban(sheet, ban);
         place = place.saturating_add(1);
     }
-    sheet.put(b"</tbody>\n</table>\n")?;
-    Ok(place)
+    sheet.put(b"</tbody>\n</table>\n");
+    place
 }
 
-fn put_ban(sheet: &mut Sheet, ban: &Ban) -> Result<(), SheetError> {
-    sheet.put(b"<tr><th scope=\"row\">")?;
-    sheet.put_text(ban.mask.as_bytes())?;
-    sheet.put(b"</th>")?;
-    put_cell(sheet, b"Channel")?;
+fn put_ban(sheet: &mut Sheet, ban: &Ban) {
+    sheet.put(b"<tr><th scope=\"row\">");
+    sheet.put_text(ban.mask.as_bytes());
+    sheet.put(b"</th>");
+    put_cell(sheet, b"Channel");
     if ban.channel.is_empty() {
-        sheet.put(b"all")?;
+        sheet.put(b"all");
     } else {
-        sheet.put_text(ban.channel.as_bytes())?;
+        sheet.put_text(ban.channel.as_bytes());
     }
-    sheet.put(b"</td>")?;
-    put_cell(sheet, b"By")?;
-    sheet.put_text(ban.creator.as_bytes())?;
-    sheet.put(b"</td>")?;
-    put_terms(sheet, ban)?;
-    put_cell(sheet, b"Comment")?;
-    sheet.put_text(ban.comment.as_bytes())?;
-    sheet.put(b"</td></tr>\n")
+    sheet.put(b"</td>");
+    put_cell(sheet, b"By");
+    sheet.put_text(ban.creator.as_bytes());
+    sheet.put(b"</td>");
+    put_terms(sheet, ban);
+    put_cell(sheet, b"Comment");
+    sheet.put_text(ban.comment.as_bytes());
+    sheet.put(b"</td></tr>\n");
 }
 
 // Until when a ban holds, and whether it comes back when somebody removes it.
-fn put_terms(sheet: &mut Sheet, ban: &Ban) -> Result<(), SheetError> {
-    put_cell(sheet, b"Until")?;
+fn put_terms(sheet: &mut Sheet, ban: &Ban) {
+    put_cell(sheet, b"Until");
     if ban.expires == 0 {
-        sheet.put(b"ever</td>")?;
+        sheet.put(b"ever</td>");
     } else {
-        sheet.put_time(ban.expires)?;
-        sheet.put(b"</td>")?;
+        sheet.put_time(ban.expires);
+        sheet.put(b"</td>");
     }
-    put_cell(sheet, b"Sticky")?;
+    put_cell(sheet, b"Sticky");
     if ban.sticky {
-        sheet.put(b"yes</td>")
+        sheet.put(b"yes</td>");
     } else {
-        sheet.put(b"no</td>")
+        sheet.put(b"no</td>");
     }
 }

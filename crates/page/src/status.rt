@@ -1,5 +1,5 @@
 // The status of an answer.
-ghost use Rattle.std.specs.Prelude.{◌≡◌};
+ghost use Rattle.std.specs.Prelude.{◌≡◌, ◌≤◌, length};
 ghost use Rattle.page.specs.Statuses.{code, status_line};
 
 /// The status of an answer (RFC 9110 section 15, RFC 6585 section 5).
@@ -42,7 +42,8 @@ impl PageStatus {
 
     // The first line of an answer, without its CR LF.
     pub(crate) fn line(self) -> &'static [u8]
-        ensures { result.now ≡ status_line self }
+        ensures value { result.now ≡ status_line self }
+        ensures short { length result.now ≤ 100 }
     {
         match self {
             PageStatus::Fine => b"HTTP/1.1 200 OK",

@@ -48,6 +48,11 @@ line_of_digits leaf digits = codes "leaf-key " ++ decimal leaf ++ codes " " ++ d
 abbrev pub leaf_file_line : List ℕ → ℕ → List ℕ
 leaf_file_line secret leaf = line_of_digits leaf (encode_lower (hmac_of secret (leaf_key_text leaf)))
 
+-- leafN:KEY: the HMAC of a word by the leaf's key, as digits
+abbrev pub tunnel_key_line : List ℕ → ℕ → List ℕ
+tunnel_key_line key leaf =
+    codes "leaf" ++ decimal leaf ++ codes ":" ++ encode_lower (hmac_of key (codes "tunnel")) ++ line_feed
+
 abbrev pub decoded : Result (List ℕ) FromHexError → Option (List ℕ)
 decoded (Ok bytes) = Some bytes
 decoded (Err error) = None

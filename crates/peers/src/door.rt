@@ -14,18 +14,20 @@ use crate::home::{Home, home_of};
 use crate::hub_links::{HubLinks, ListenFault, MAX_GUESTS};
 use crate::hub_net::HubNet;
 use crate::links::FIRST_TOKEN;
+use crate::listening::{ListenPlace, listen};
 use crate::places::empty_places;
 use crate::turn_time::TurnTime;
 use bytetext::NoMemory;
-use net::{Arrival, Log, Registry, TcpDoor};
-use std::net::{Net, SocketAddr};
+use net::{AnyArrival, AnyDoor, Log, Registry};
+use std::net::Net;
 use std::random::RandomSource;
+use std::rt::Files;
 
 /// The most guests of one address: of IPv6, of the addresses that begin with the same 64 bits.
 pub const MAX_OF_ADDRESS: usize = 16;
 
 // The token under which the door is watched.
-const DOOR: usize = 4;
+pub(crate) const DOOR: usize = 4;
 
 // Which connection a token names.
 #[derive(Clone, Copy)]
@@ -36,7 +38,7 @@ pub(crate) enum Who {
 
 // The hub's door, the guests that came in at it, and which connection each token names.
 pub(crate) struct Door {
-    listener: TcpDoor,
+    listener: AnyDoor,
     pub(crate) guests: Guests,
     // By token.
     pub(crate) slots: Vec<Option<Who>>,
@@ -82,15 +84,15 @@ impl HubLinks {
 }
 
 impl Door {
-    // Opens the door at `address`, with this many tokens for connections.
-    pub(crate) fn open<R: AllocGlobal + Net>(
+    // Opens the door at `place`, with this many tokens for connections.
+    pub(crate) fn open<R: AllocGlobal + Net + Files>(
         rt: &R,
         registry: &Registry,
-        address: SocketAddr,
+        place: ListenPlace<'_>,
         tokens: usize,
     ) -> Result<Door, ListenFault> {
         let slots = empty_places(rt.alloc(), tokens)?;
-        match TcpDoor::open(rt, registry, DOOR, address) {
+        match listen(rt, registry, place) {
             Ok(listener) => Ok(Door {
                 listener,
                 guests: Guests::new(rt.alloc()),
@@ -122,7 +124,7 @@ impl Door {
             let Some(arrival) = self.listener.let_in(registry, token) else {
                 return Ok(());
             };
-            self.make_way(log, home_of(&arrival.address), time)?;
+            self.make_way(log, home_of(&arrival.way), time)?;
             self.greet(rt, dice, net, arrival, slot, time.steady)?;
         }
         Ok(())
@@ -134,7 +136,7 @@ impl Door {
         rt: &R,
         dice: &mut Dice,
         net: &HubNet,
-        arrival: Arrival,
+        arrival: AnyArrival,
         slot: usize,
         steady: u64,
     ) -> Result<(), NoMemory>
@@ -285,7 +287,7 @@ fn hear_last(guest: &mut Guest, steady: u64) -> Result<Option<Gone>, NoMemory>
 
 // Logs that a guest is disconnected.
 fn note_gone(log: &mut Log, guest: &Guest, gone: Gone, now: u64) {
-    log.note(now, &Entry::GuestGone(leaf_of(guest), guest.address, gone));
+    log.note(now, &Entry::GuestGone(leaf_of(guest), guest.way, gone));
 }
 
 // Whether a guest is being entered in the book as this leaf.

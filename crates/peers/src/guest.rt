@@ -18,20 +18,19 @@ use crate::seat::Seat;
 use crate::verdict::{Verdict, verdict_at};
 use crate::welcome::Welcome;
 use bytetext::NoMemory;
-use net::{Arrival, Connection, TcpSocket};
+use net::{AnyArrival, AnySocket, Connection, Way};
 use std::alloc::Global;
-use std::net::SocketAddr;
 
 // A connection that has not been welcomed.
 pub(crate) struct Guest {
-    pub(crate) connection: Connection<TcpSocket>,
+    pub(crate) connection: Connection<AnySocket>,
     pub(crate) side: HubSide,
     pub(crate) stage: GuestStage,
     // The second of the monotonic clock at which it arrived.
     pub(crate) began: u64,
     // Which of the hub's tokens names it.
     pub(crate) slot: usize,
-    pub(crate) address: SocketAddr,
+    pub(crate) way: Way,
     pub(crate) home: Home,
     // How many guests are of its home, with itself.
     pub(crate) crowd: usize,
@@ -50,7 +49,7 @@ impl Drop for Guest {
             stage: _,
             began: _,
             slot: _,
-            address: _,
+            way: _,
             home: _,
             crowd: _,
         } = self;
@@ -77,14 +76,14 @@ impl Guest {
     // Greets a connection that arrived at second `steady` of the monotonic clock, and has the token of `slot`.
     pub(crate) fn greet(
         alloc: Global,
-        arrival: Arrival,
+        arrival: AnyArrival,
         side: HubSide,
         slot: usize,
         steady: u64,
     ) -> Result<Guest, NoMemory>
         ensures { IfOk result (λ guest. guest.side ≡ side) }
     {
-        let Arrival { socket, address } = arrival;
+        let AnyArrival { socket, way } = arrival;
         let mut connection = Connection::new(alloc, socket, BOUNDS);
         let _fits = connection.tell(side.greeting().as_bytes(), b"")?;
         Ok(Guest {
@@ -93,8 +92,8 @@ impl Guest {
             stage: GuestStage::Meets,
             began: steady,
             slot,
-            address,
-            home: home_of(&address),
+            way,
+            home: home_of(&way),
             crowd: 0,
         })
     }
@@ -228,7 +227,7 @@ impl Guest {
             stage: _,
             began: _,
             slot,
-            address,
+            way,
             home: _,
             crowd: _,
         } = self;
@@ -246,7 +245,7 @@ impl Guest {
             held: HeldParts::nothing(),
             beat: None,
             slot,
-            address,
+            way,
             since: welcome.since,
         }))
     }

@@ -22,14 +22,14 @@ use crate::pumps::Pumps;
 use crate::stations::LeafStation;
 use crate::turn_time::TurnTime;
 use bytetext::{Failure, NoMemory};
-use net::{DialTokens, Dialled, Dialling, Log, Registry};
-use settings::Address;
+use net::{DialFault, DialTokens, Dialled, Dialling, Log, Registry};
 use sharewire::Packet;
 use std::alloc::Global;
 use std::fs::File;
 use std::net::Net;
 use std::random::RandomSource;
 use std::rt::Files;
+use tunnels::{Target, dial, tunnel_path};
 
 /// The longest wait before an attempt to connect, in seconds.
 pub const LONGEST_WAIT: u16 = 30;
@@ -132,7 +132,7 @@ impl HubConnection {
         }
     }
 
-    /// Begins to connect to the hub at `address` if there is no connection and an attempt is due at second `now`. Returns
+    /// Begins to connect to the hub at `target` if there is no connection and an attempt is due at second `now`. Returns
     /// whether a connection began.
     ///
     /// While the hub's name is looked up, no connection begins, and the attempt stays due: call this in each turn. `log`
@@ -142,18 +142,19 @@ impl HubConnection {
     ///
     /// # Errors
     /// `NoMemory` if an allocation fails: never if there is a connection, if no attempt is due, or if the host is an
-    /// address. The attempt stays due.
+    /// address. The attempt stays due. A hub whose port has a plus is connected to through its tunnel alone
+    /// ([`dial`](tunnels::dial)).
     pub fn connect<R: AllocGlobal + Net + Files<File = File> + RandomSource>(
         &mut self,
         rt: &R,
         dice: &mut Dice,
         log: &mut Log,
         registry: &Registry,
-        address: &Address,
+        target: Target<'_>,
         now: u64,
     ) -> Result<bool, NoMemory>
         requires moment { now < MOMENTS_END }
-        ensures memory { IfErr result (λ _. LooksUp self.old (Some address.now) now) }
+        ensures memory { IfErr result (λ _. LooksUp self.old (Some target.entry.address.now) now) }
         ensures stays { OnErr result (self.new.dialling ≡ self.old.dialling) }
         // The leaf says a nonce that the dice rolled for this connection.
         ensures nonces { Draws (nonces_at self.old.hub) (nonces_at self.new.hub) dice.old.rolled dice.new.rolled }
@@ -161,7 +162,7 @@ impl HubConnection {
         if self.hub.is_some() || !self.dialling.is_due(now) {
             return Ok(false);
         }
-        self.dial(rt, dice, log, registry, address, now)
+        self.dial(rt, dice, log, registry, target, now)
     }
 
     // Connects to the hub, which is due.
@@ -171,11 +172,11 @@ impl HubConnection {
         dice: &mut Dice,
         log: &mut Log,
         registry: &Registry,
-        address: &Address,
+        target: Target<'_>,
         now: u64,
     ) -> Result<bool, NoMemory>
         requires moment { now < MOMENTS_END }
-        ensures name { IfErr result (λ _. IsName address.now.host) }
+        ensures name { IfErr result (λ _. IsName target.entry.address.now.host) }
         ensures stays { OnErr result (self.new.dialling ≡ self.old.dialling) }
         ensures nonces { Draws (nonces_at self.old.hub) (nonces_at self.new.hub) dice.old.rolled dice.new.rolled }
     {
@@ -183,7 +184,7 @@ impl HubConnection {
             now,
             steady: self.steady,
         };
-        match dialled(&mut self.dialling, rt, log, registry, address, time)? {
+        match dialled(&mut self.dialling, rt, log, registry, target, time)? {
             Some(dialled) => Ok(self.begin(rt, dice, dialled, now)),
             None => Ok(false),
         }
@@ -307,7 +308,7 @@ impl HubConnection {
             steady: self.steady,
         };
         if let Some((link, may)) = hub.into_link(self.alloc, time) {
-            log.note(now, &Entry::Linked(link.address));
+            log.note(now, &Entry::Linked(link.way));
             self.hub = Some(Hub::Linked(link));
             self.may = may;
             self.dialling.good();
@@ -413,36 +414,50 @@ impl HubConnection {
     }
 }
 
-// Begins to connect to the hub at `address`, which is due. Returns the connection once the system makes one.
+// Begins to connect to the hub at `target`, which is due. Returns the connection once the system makes one.
 fn dialled<R: AllocGlobal + Net + Files<File = File> + RandomSource>(
     dialling: &mut Dialling,
     rt: &R,
     log: &mut Log,
     registry: &Registry,
-    address: &Address,
+    target: Target<'_>,
     time: TurnTime,
 ) -> Result<Option<Dialled>, NoMemory>
     requires moment { time.now < MOMENTS_END }
-    ensures name { IfErr result (λ _. IsName address.now.host) }
+    ensures name { IfErr result (λ _. IsName target.entry.address.now.host) }
     ensures stays { OnErr result (dialling.new ≡ dialling.old) }
 {
-    let host = address.host.as_bytes();
+    let host = target.address.host.as_bytes();
     let tokens = DialTokens {
         connection: TOKEN,
         lookup: LOOKUP,
     };
-    match dialling.connect(rt, registry, tokens, host, address.port, time.steady) {
+    match dial(dialling, rt, registry, tokens, target, time.steady) {
         Ok(Some(dialled)) => {
-            log.note(time.now, &Entry::Dialled(host, dialled.address));
+            log.note(time.now, &Entry::Dialled(host, dialled.way));
             Ok(Some(dialled))
         }
         Ok(None) => Ok(None),
         Err(Failure::Refused(fault)) => {
             dialling.lost(time.now);
-            log.note(time.now, &Entry::NotDialled(host, fault, dialling.due()));
+            note_not_dialled(log, target, fault, dialling.due(), time.now);
             Ok(None)
         }
         Err(Failure::NoMemory) => Err(NoMemory),
+    }
+}
+
+// Logs that no connection to the hub can begin: names its host, or the path of its tunnel.
+fn note_not_dialled(log: &mut Log, target: Target<'_>, fault: DialFault, due: u64, now: u64) {
+    let host = target.address.host.as_bytes();
+    match tunnel_path(target.folder, target.address) {
+        Some(path) if target.address.tls => {
+            log.note(
+                now,
+                &Entry::NotDialled(path.as_str().as_bytes(), fault, due),
+            );
+        }
+        Some(_) | None => log.note(now, &Entry::NotDialled(host, fault, due)),
     }
 }
 

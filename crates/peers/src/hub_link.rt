@@ -10,9 +10,9 @@ use crate::frame_reader::FrameReader;
 use crate::gone::Gone;
 use crate::link_wire::LinkWire;
 use bytetext::NoMemory;
+use net::Way;
 use sharewire::Packet;
 use std::alloc::Global;
-use std::net::SocketAddr;
 
 // A leaf's link to its hub.
 pub(crate) struct HubLink {
@@ -22,7 +22,7 @@ pub(crate) struct HubLink {
     said: Beat,
     // The version that the hub said last.
     pub(crate) version: u32,
-    pub(crate) address: SocketAddr,
+    pub(crate) way: Way,
     // The second at which it was linked.
     pub(crate) since: u64,
 }
@@ -35,7 +35,7 @@ impl Drop for HubLink {
             reader: _,
             said: _,
             version: _,
-            address: _,
+            way: _,
             since: _,
         } = self;
     }
@@ -48,7 +48,7 @@ impl HubLink {
         wire: LinkWire,
         said: Beat,
         version: u32,
-        address: SocketAddr,
+        way: Way,
         now: u64,
     ) -> HubLink {
         HubLink {
@@ -56,7 +56,7 @@ impl HubLink {
             reader: FrameReader::new(alloc),
             said,
             version,
-            address,
+            way,
             since: now,
         }
     }

@@ -17,6 +17,7 @@ use crate::handshake_progress::LeafRights;
 use crate::hub_net::HubNet;
 use crate::inbox::Inbox;
 use crate::links::FIRST_TOKEN;
+use crate::listening::ListenPlace;
 use crate::own::Own;
 use crate::picking::is_request;
 use crate::places::empty_places;
@@ -27,7 +28,8 @@ use bytetext::NoMemory;
 use net::{DoorFault, Registry};
 use sharewire::Packet;
 use std::alloc::Global;
-use std::net::{Net, SocketAddr};
+use std::net::Net;
+use std::rt::Files;
 
 /// The most connections that have not been welcomed.
 pub const MAX_GUESTS: usize = 1_024;
@@ -91,19 +93,19 @@ impl From<NoMemory> for ListenFault {
 }
 
 impl HubLinks {
-    /// Listens at `address` for the leaves of the net of `station`. `registry` watches the door and the connections.
+    /// Listens at `place` for the leaves of the net of `station`. `registry` watches the door and the connections.
     ///
     /// # Errors
     /// `Door` if the system refuses, and `NoMemory` if an allocation fails.
-    pub fn open<R: AllocGlobal + Net>(
+    pub fn open<R: AllocGlobal + Net + Files>(
         rt: &R,
         registry: &Registry,
-        address: SocketAddr,
+        place: ListenPlace<'_>,
         station: HubStation,
     ) -> Result<HubLinks, ListenFault> {
         let places = usize::from(station.leaves) + 1;
         let leaves = LeafPlaces::new(rt.alloc(), places, &station)?;
-        let door = Door::open(rt, registry, address, places + MAX_GUESTS)?;
+        let door = Door::open(rt, registry, place, places + MAX_GUESTS)?;
         Ok(leaves.into_links(station, door))
     }
 

@@ -2,7 +2,7 @@
 use crate::hub_connection::{Hub, HubConnection};
 use crate::hub_links::HubLinks;
 use crate::links::Links;
-use std::net::SocketAddr;
+use net::Way;
 
 /// Another bot of the net that is linked.
 #[derive(Clone, Copy, Debug)]
@@ -13,8 +13,8 @@ pub struct LinkFacts {
     pub unsent: usize,
     /// The second since which it is linked.
     pub since: u64,
-    /// Its address.
-    pub address: SocketAddr,
+    /// Its address, or that it is linked through a tunnel.
+    pub way: Way,
 }
 
 impl Links {
@@ -44,7 +44,7 @@ fn leaf_at(hub: &HubLinks, place: usize) -> Option<LinkFacts> {
             version: seat.version,
             unsent: seat.wire.waiting(),
             since: seat.since,
-            address: seat.address,
+            way: seat.way,
         }),
         Some(None) | None => None,
     }
@@ -56,7 +56,7 @@ fn hub_at(leaf: &HubConnection, place: usize) -> Option<LinkFacts> {
             version: link.version,
             unsent: link.wire.waiting(),
             since: link.since,
-            address: link.address,
+            way: link.way,
         }),
         Some(Hub::Linked(_) | Hub::Meets(_)) | None => None,
     }

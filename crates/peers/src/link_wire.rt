@@ -10,7 +10,7 @@ use crate::handshake_keys::LinkKeys;
 use crate::outbox::Outbox;
 use crate::pulse::Pulse;
 use bytetext::NoMemory;
-use net::{Bounds, Connection, TcpSocket};
+use net::{AnySocket, Bounds, Connection};
 use sealing::{Key, Kind, OpenedPiece, Opener, SealFault, Sealer};
 use sharewire::{Packet, WireFault};
 use std::alloc::Global;
@@ -35,7 +35,7 @@ const SLOW: usize = 65_536;
 
 // A sealed connection to another bot.
 pub(crate) struct LinkWire {
-    pub(crate) connection: Connection<TcpSocket>,
+    pub(crate) connection: Connection<AnySocket>,
     // The frames that wait to be sealed.
     pub(crate) outbox: Outbox,
     pub(crate) sealer: Sealer,
@@ -110,7 +110,7 @@ impl LinkWire {
     // the first records. Allocates nothing.
     pub(crate) fn new(
         alloc: Global,
-        connection: Connection<TcpSocket>,
+        connection: Connection<AnySocket>,
         keys: &WireKeys,
         steady: u64,
     ) -> LinkWire
@@ -368,7 +368,7 @@ impl LinkWire {
 
 // Offers the socket the unsent bytes. Returns whether it took a byte. Once none is left, gives back their room: a hub has
 // a connection for each leaf, mostly at rest.
-fn send_unsent(connection: &mut Connection<TcpSocket>) -> bool
+fn send_unsent(connection: &mut Connection<AnySocket>) -> bool
     ensures sends { Sends (talk_of connection.old) result (talk_of connection.new) }
     ensures bounds { connection.new.bounds ≡ connection.old.bounds }
     ensures frees { result ≡ true → vec_len connection.new.unsent ≡ 0 → vec_capacity connection.new.unsent ≡ 0 }

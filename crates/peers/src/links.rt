@@ -30,6 +30,7 @@ use std::fs::File;
 use std::net::Net;
 use std::random::RandomSource;
 use std::rt::Files;
+use tunnels::Target;
 
 /// The first token of a hub's connections. A leaf's connection and both doors have lower tokens.
 pub const FIRST_TOKEN: usize = 16;
@@ -94,7 +95,11 @@ impl Links {
                 Ok(false)
             }
             Links::Leaf(leaf) => match &settings.hub {
-                Some(address) => leaf.connect(rt, dice, log, registry, address, now),
+                Some(address) => {
+                    let folder = settings.folder.as_bytes();
+                    let target = Target { folder, address };
+                    leaf.connect(rt, dice, log, registry, target, now)
+                }
                 None => Ok(false),
             },
         }

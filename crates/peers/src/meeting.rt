@@ -15,13 +15,12 @@ use crate::link_wire::{BOUNDS, LinkWire, WireKeys};
 use crate::own::Own;
 use crate::turn_time::TurnTime;
 use bytetext::NoMemory;
-use net::{Connection, Dialled, TcpSocket};
+use net::{AnySocket, Connection, Dialled, Way};
 use std::alloc::Global;
-use std::net::SocketAddr;
 
 // A connection to the hub before the first record.
 pub(crate) struct Meeting {
-    pub(crate) connection: Connection<TcpSocket>,
+    pub(crate) connection: Connection<AnySocket>,
     pub(crate) side: LeafSide,
     // What the process has told about the leaf, if it has.
     pub(crate) said: Option<Said>,
@@ -31,7 +30,7 @@ pub(crate) struct Meeting {
     gone: Option<Gone>,
     // The second of the monotonic clock at which the connection began.
     began: u64,
-    address: SocketAddr,
+    way: Way,
     // There is room for all that will be sealed.
     ghost wide: { MAX_SEALED ≤ connection.bounds.unsent },
 }
@@ -46,7 +45,7 @@ impl Drop for Meeting {
             joined: _,
             gone: _,
             began: _,
-            address: _,
+            way: _,
         } = self;
     }
 }
@@ -71,7 +70,7 @@ impl Meeting {
     pub(crate) fn begin(alloc: Global, dialled: Dialled, side: LeafSide, steady: u64) -> Meeting
         ensures { result.side ≡ side }
     {
-        let Dialled { socket, address } = dialled;
+        let Dialled { socket, way } = dialled;
         Meeting {
             connection: Connection::new(alloc, socket, BOUNDS),
             side,
@@ -79,7 +78,7 @@ impl Meeting {
             joined: None,
             gone: None,
             began: steady,
-            address,
+            way,
         }
     }
 
@@ -188,13 +187,13 @@ impl Meeting {
             joined: _,
             gone: _,
             began: _,
-            address,
+            way,
         } = self;
         let keys = WireKeys::of_leaf(&joined.keys);
         let mut wire = LinkWire::new(alloc, connection, &keys, time.steady);
         wire.put_beat(said.beat);
         let version = joined.answer.progress.version;
-        let link = HubLink::new(alloc, wire, said.beat, version, address, time.now);
+        let link = HubLink::new(alloc, wire, said.beat, version, way, time.now);
         Some((link, joined.answer.may))
     }
 }

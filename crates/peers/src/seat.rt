@@ -19,9 +19,9 @@ use crate::own::HeldParts;
 use crate::picking::picked;
 use crate::speaker::is_said_by;
 use bytetext::NoMemory;
+use net::Way;
 use sharewire::Packet;
 use std::alloc::Global;
-use std::net::SocketAddr;
 
 // A linked leaf.
 pub(crate) struct Seat {
@@ -39,8 +39,8 @@ pub(crate) struct Seat {
     pub(crate) beat: Option<Beat>,
     // Which of the hub's tokens names it.
     pub(crate) slot: usize,
-    // Its address.
-    pub(crate) address: SocketAddr,
+    // Its address, or that it came through a tunnel.
+    pub(crate) way: Way,
     // The second at which it was linked.
     pub(crate) since: u64,
 }
@@ -58,7 +58,7 @@ impl Drop for Seat {
             held: _,
             beat: _,
             slot: _,
-            address: _,
+            way: _,
             since: _,
         } = self;
     }

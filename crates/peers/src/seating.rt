@@ -209,7 +209,7 @@ impl HubLinks {
         self.unseat(log, leaf, Gone::Replaced, now);
         self.door.name(seat.slot, Some(Who::Leaf(leaf)));
         if let Some(place) = self.seats.get_mut(usize::from(leaf)) {
-            log.note(now, &Entry::Joined(leaf, seat.address));
+            log.note(now, &Entry::Joined(leaf, seat.way));
             *place = Some(seat);
         }
     }
@@ -224,7 +224,7 @@ impl HubLinks {
         self.inbox.forget(usize::from(leaf));
         if let Some(seat) = leave(&mut self.seats, leaf) {
             self.door.name(seat.slot, None);
-            log.note(now, &Entry::LeafGone(leaf, seat.address, gone));
+            log.note(now, &Entry::LeafGone(leaf, seat.way, gone));
         }
     }
 

@@ -3,7 +3,7 @@ ghost use Rattle.std.specs.Prelude.{◌≡◌, ◌≢◌, ◌<◌, ◌≤◌, �
 ghost use Rattle.hex.specs.Hex.{encode_lower};
 ghost use Rattle.peers.specs.Keys.{leaf_key};
 ghost use Rattle.peers.specs.Secrets.{leaf_file_line, leaf_secret, leaf_secret_in, line_of_digits, net_secret_in, raw_key_in};
-ghost use Rattle.peers.specs.Secrets.{secret_cause, secret_in, secret_in_line, secret_line, without_cr};
+ghost use Rattle.peers.specs.Secrets.{secret_cause, secret_in, secret_in_line, secret_line, tunnel_key_line, without_cr};
 ghost use Rattle.peers.specs.declared.secret.SecretFault.TheVariants.{Length as too_short};
 
 use crate::digits::are_digits;
@@ -124,6 +124,22 @@ fn line_of_digits(leaf: u16, digits: &[u8; 64]) -> HandshakeLine
     line.put(buffer.format(leaf).as_bytes());
     line.put(b" ");
     line.put(digits);
+    line.put(b"\n");
+    line
+}
+
+/// Returns the line of the leaf numbered `leaf` in the file of the tunnels' keys, with its line feed: `leafN:KEY`, whose
+/// KEY is the HMAC of `tunnel` by the leaf's `key` in 64 hexadecimal digits. Both ends of the leaf's tunnel have the line.
+/// Who has it learns nothing of the leaf's key.
+pub fn tunnel_key_line(key: &Key, leaf: u16) -> HandshakeLine
+    ensures { result ≡ tunnel_key_line key.now leaf }
+{
+    let mut buffer = Buffer::new();
+    let mut line = HandshakeLine::empty();
+    line.put(b"leaf");
+    line.put(buffer.format(leaf).as_bytes());
+    line.put(b":");
+    line.put(&digits_of(&key.mac(b"tunnel")));
     line.put(b"\n");
     line
 }

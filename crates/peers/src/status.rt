@@ -10,8 +10,8 @@ use crate::links::Links;
 use crate::seat::Seat;
 use bytetext::NoMemory;
 use itoa::Buffer;
+use net::Way;
 use std::fmt::Display;
-use std::net::SocketAddr;
 
 /// Appends to `text` the lines that say which bots of `links` are linked. `version` is the version of this bot's records.
 ///
@@ -51,20 +51,15 @@ fn put_seat(text: &mut Vec<u8>, leaf: usize, seat: &Seat, version: u32) -> Resul
         b" behind ",
         u64::from(version.saturating_sub(seat.version)),
     )?;
-    put_wire(text, &seat.wire, seat.since, &seat.address)
+    put_wire(text, &seat.wire, seat.since, &seat.way)
 }
 
 // What waits for the other end, since when it is linked, and its address.
-fn put_wire(
-    text: &mut Vec<u8>,
-    wire: &LinkWire,
-    since: u64,
-    address: &SocketAddr,
-) -> Result<(), NoMemory> {
+fn put_wire(text: &mut Vec<u8>, wire: &LinkWire, since: u64, way: &Way) -> Result<(), NoMemory> {
     put_count(text, b" unsent ", wire.waiting() as u64)?;
     put_count(text, b" since ", since)?;
     put(text, b" address ")?;
-    put_text(text, address)?;
+    put_text(text, way)?;
     put(text, b"\n")
 }
 
@@ -105,7 +100,7 @@ fn put_link(text: &mut Vec<u8>, link: &HubLink, version: u32) -> Result<(), NoMe
         b" ahead ",
         u64::from(link.version.saturating_sub(version)),
     )?;
-    put_wire(text, &link.wire, link.since, &link.address)
+    put_wire(text, &link.wire, link.since, &link.way)
 }
 
 fn put_count(text: &mut Vec<u8>, word: &[u8], count: u64) -> Result<(), NoMemory> {

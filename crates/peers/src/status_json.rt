@@ -6,10 +6,10 @@ use crate::link_wire::LinkWire;
 use crate::links::Links;
 use crate::seat::Seat;
 use bytetext::NoMemory;
+use net::Way;
 use recordjson::JsonLine;
 use std::alloc::Global;
 use std::fmt::Display;
-use std::net::SocketAddr;
 
 /// Appends to `line` the object that says which bots of `links` are linked. `version` is the version of this bot's
 /// records. The facts are those of [`put_status`](crate::put_status):
@@ -83,7 +83,7 @@ fn put_seat(
     line.put_number(u64::from(seat.version))?;
     line.put_next(b"behind")?;
     line.put_number(u64::from(behind))?;
-    put_wire(alloc, line, &seat.wire, seat.since, &seat.address)
+    put_wire(alloc, line, &seat.wire, seat.since, &seat.way)
 }
 
 // What waits for the other end, since when it is linked, and its address; and the end of the object.
@@ -92,14 +92,14 @@ fn put_wire(
     line: &mut JsonLine,
     wire: &LinkWire,
     since: u64,
-    address: &SocketAddr,
+    way: &Way,
 ) -> Result<(), NoMemory> {
     line.put_next(b"unsent")?;
     line.put_number(wire.waiting() as u64)?;
     line.put_next(b"since")?;
     line.put_number(since)?;
     line.put_next(b"address")?;
-    put_shown(alloc, line, address)?;
+    put_shown(alloc, line, way)?;
     line.put_words(b"}")
 }
 
@@ -147,7 +147,7 @@ fn put_link(
     line.put_number(u64::from(link.version))?;
     line.put_next(b"ahead")?;
     line.put_number(u64::from(ahead))?;
-    put_wire(alloc, line, &link.wire, link.since, &link.address)
+    put_wire(alloc, line, &link.wire, link.since, &link.way)
 }
 
 fn put_shown<T: Display>(alloc: Global, line: &mut JsonLine, value: &T) -> Result<(), NoMemory> {

@@ -130,7 +130,7 @@ module _ (promised : Promised) (names : List (List ℕ)) where
   reading_device : (fault : Option ClockFault) (old : Bot) (now : ℕ) (report : Report) (new : Bot)
       → TakesReading fault promised names old now report new → new.link.device ≡ old.link.device
   reading_device (Some fault) old now report new t = ap (λ (b : Bot). b.link.device) t.1
-  reading_device None old now report new t = moment_device (is_stale old.clock now) old now report new t
+  reading_device None old now report new t = moment_device (is_stale old.config.sends_at_once old.clock now) old now report new t
 
   step_left : (event : BotEvent) (old : Bot) (report : Report) (new : Bot) → TakesStep promised names old event report new
       → IsLeft old.link (failing old.link (Telling event)) new.link.device

@@ -165,7 +165,7 @@ module _ (promised : Promised) (names : List (List ℕ)) where
   reading_keeps : (fault : Option ClockFault) (old : Bot) (now : ℕ) (report : Report) (new : Bot)
       → TakesReading fault promised names old now report new → BotKeeps old new
   reading_keeps (Some fault) old now report new t = same_bot old new (ap (λ (b : Bot). b.link.end) t.1)
-  reading_keeps None old now report new t = moment_keeps (is_stale old.clock now) old now report new t
+  reading_keeps None old now report new t = moment_keeps (is_stale old.config.sends_at_once old.clock now) old now report new t
 
   pub step_keeps : (event : BotEvent) (old : Bot) (report : Report) (new : Bot) → TakesStep promised names old event report new
       → EndKeeps old.link.end new.link.end

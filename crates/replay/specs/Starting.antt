@@ -20,6 +20,7 @@ config_of leaves zone number = record {
   nick = codes "egg" ++ decimal number;
   channels = codes "#egg" ∷ [];
   exclusive = false;
+  sends_at_once = false;
   zone = zone;
 }
 

@@ -96,6 +96,7 @@ fn config(alloc: Global, leaves: u16, zone: &Zone, number: u16) -> Result<Config
         nick: Text::new(nick),
         channels,
         exclusive: false,
+        sends_at_once: false,
         zone: zone.copy(alloc)?,
     })
 }

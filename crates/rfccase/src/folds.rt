@@ -60,8 +60,7 @@ pub fn fold_by(mapping: Casemapping, byte: u8) -> u8
     ensures { result ≡ low_by mapping byte }
 {
     match byte {
-        b'A'..=b'Z' => byte + 32,
-        b'['..=b']' if mapping.folds_brackets() => byte + 32,
+        b'A'..=b']' if byte <= b'Z' || mapping.folds_brackets() => byte + 32,
         b'~' if mapping.folds_tilde() => b'^',
         _ => byte,
     }

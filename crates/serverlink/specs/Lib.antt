@@ -6,5 +6,6 @@ pub mod Casings
 pub mod Cues
 pub mod Seats
 pub mod Talks
+pub mod Listing
 pub mod Told
 pub mod Logins

@@ -1,10 +1,13 @@
 -- A channel on which the bot is to be, and when the process asks to join it.
 use Rattle.std.specs.Prelude.{ℕ, ◌+◌, ◌-◌, ◌^◌, ◌&&◌, not, min, nat_le, Bool, true, false, List, Option, None, Some, if◌then◌else◌}
 use Rattle.std.specs.List.{list_any}
+use Rattle.std.specs.Option.{option_map}
+use Rattle.std.specs.Str.{bytes_eq}
 use Rattle.rfccase.specs.declared.casemappings.Casemapping.{Casemapping}
 use Rattle.rfccase.specs.Casemapping.{is_same_by}
 use Rattle.net.specs.declared.redial.TheConstants.{FIRST_WAIT}
 use Rattle.net.specs.Waits.{Waits, lost as lost_wait}
+use Rattle.settings.specs.declared.settings.ChannelSetting.{ChannelSetting}
 use Rattle.serverlink.specs.declared.seat.TheConstants.{ASK_AGAIN, LONGEST_WAIT}
 use Rattle.serverlink.specs.declared.vigil.TheConstants.{GOOD}
 
@@ -69,6 +72,17 @@ is_due seat now = not seat.on && is_past seat.asks now
 abbrev pub retried : Seated → ℕ → Seated
 retried seat now = record seat { asks = later now }
 
--- whether a channel is among these names, by the casemapping of the server
-abbrev pub is_named : Casemapping → List (List ℕ) → List ℕ → Bool
-is_named mapping names channel = list_any (λ name. is_same_by mapping name channel) names
+-- whether two keys are the same, or there is neither
+abbrev pub same_key : Option (List ℕ) → Option (List ℕ) → Bool
+same_key None None = true
+same_key None (Some new) = false
+same_key (Some old) None = false
+same_key (Some old) (Some new) = bytes_eq old new
+
+-- another key: a bot that is not on the channel need not wait with it
+abbrev pub rekeyed : Seated → Option (List ℕ) → ℕ → Seated
+rekeyed seat key now = record seat { key = key; asks = option_map (λ second. now) seat.asks }
+
+-- whether a channel is among these, by the casemapping of the server
+abbrev pub is_named : Casemapping → List ChannelSetting → List ℕ → Bool
+is_named mapping listed channel = list_any (λ other. is_same_by mapping other.name channel) listed

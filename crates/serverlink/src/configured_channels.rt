@@ -1,11 +1,13 @@
 // The channels on which a bot is to be.
-ghost use Rattle.std.specs.Prelude.{◌≡◌, ◌<◌, length, IfErr};
+ghost use Rattle.std.specs.Prelude.{◌≡◌, ◌<◌, length, map, IfErr, IfOk, OnOk};
 ghost use Rattle.bytetext.specs.declared.moment.TheConstants.{MOMENTS_END};
+ghost use Rattle.serverlink.specs.Listing.{begun_as, rekeyed_at};
 ghost use Rattle.serverlink.specs.Seats.{is_named};
 
 use crate::seat::Seat;
 use bytetext::{NoMemory, Text, TryCopy};
 use rfccase::{Casemapping, same_by};
+use settings::ChannelSetting;
 use std::alloc::Global;
 use std::marker::Model;
 
@@ -27,21 +29,23 @@ impl Model for ConfiguredChannels {
 }
 
 impl ConfiguredChannels {
-    ghost use Rattle.std.specs.Prelude.{◌≡◌, ◌<◌, ◌++◌, ◌∷◌, [], None, Some, true, false, length, slice_get, IfOk, IfSome, IfErr, MatchOption, OnOk};
+    ghost use Rattle.std.specs.Prelude.{◌≡◌, ◌<◌, ◌++◌, ◌∷◌, [], None, Some, true, false, length, map, slice_get, IfOk, IfSome, IfErr, MatchOption, OnOk};
     ghost use Rattle.std.specs.List.{list_all};
+    ghost use Rattle.serverlink.specs.Listing.{begun_as, has_seat, rekeyed_at};
     ghost use Rattle.serverlink.specs.Seats.{is_named};
 
     // The bot numbered `number` is on none of these yet.
     pub(crate) fn new(
         alloc: Global,
-        names: &[Text],
+        listed: &[ChannelSetting],
         number: u16,
     ) -> Result<ConfiguredChannels, NoMemory>
-        ensures memory { IfErr result (λ _. 0 < length names.now) }
+        ensures seats { IfOk result (λ channels. channels ≡ map (begun_as number) listed.now) }
+        ensures memory { IfErr result (λ _. 0 < length listed.now) }
     {
         let mut seats = Vec::new(alloc);
-        for name in names {
-            seats.push(Seat::new(name.copy(alloc)?, None, number))?;
+        for channel in listed {
+            seats.push(seat_of(alloc, channel, number)?)?;
         }
         Ok(ConfiguredChannels { seats })
     }
@@ -66,7 +70,9 @@ impl ConfiguredChannels {
     }
 
     // Whether a channel of this name is among them.
-    pub(crate) fn has(&self, mapping: Casemapping, name: &[u8]) -> bool {
+    pub(crate) fn has(&self, mapping: Casemapping, name: &[u8]) -> bool
+        ensures { result ≡ has_seat mapping name.now self.now }
+    {
         self.seats
             .iter()
             .any(|seat| same_by(mapping, seat.channel(), name))
@@ -89,15 +95,34 @@ impl ConfiguredChannels {
         Some(self.seats.remove(place))
     }
 
-    // Removes the first channel that is not among `names`, and returns it. So a channel that is still named stays.
-    pub(crate) fn remove_unnamed(&mut self, mapping: Casemapping, names: &[Text]) -> Option<Seat>
-        ensures unnamed { IfSome result (λ seat. is_named mapping names.now seat.channel ≡ false) }
+    // Removes the first channel that is not `listed`, and returns it. So a channel that is still named stays.
+    pub(crate) fn remove_unnamed(
+        &mut self,
+        mapping: Casemapping,
+        listed: &[ChannelSetting],
+    ) -> Option<Seat>
+        ensures unnamed { IfSome result (λ seat. is_named mapping listed.now seat.channel ≡ false) }
     {
         let place = self
             .seats
             .iter()
-            .position(|seat| !is_named(mapping, names, seat.channel()))?;
+            .position(|seat| !is_named(mapping, listed, seat.channel()))?;
         Some(self.seats.remove(place))
+    }
+
+    // Has the bot join the channel of this name by `key` from second `now` on. Returns whether another key was held.
+    // On `NoMemory` some of the channels of this name may have the key.
+    pub(crate) fn take_key(
+        &mut self,
+        alloc: Global,
+        mapping: Casemapping,
+        name: &[u8],
+        key: &Option<Text>,
+        now: u64,
+    ) -> Result<bool, NoMemory>
+        ensures { OnOk result (self.new ≡ map (rekeyed_at mapping name.now key.now now) self.old) }
+    {
+        rekey_all(alloc, self.seats.as_mut_slice(), mapping, name, key, now)
     }
 
     // Notes that a server welcomed the bot at second `now`.
@@ -177,11 +202,67 @@ impl ConfiguredChannels {
     }
 }
 
-// Whether a channel is among these names.
-fn is_named(mapping: Casemapping, names: &[Text], channel: &[u8]) -> bool
-    ensures { result ≡ is_named mapping names.now channel.now }
+// The seat of a channel as the configuration has it.
+fn seat_of(alloc: Global, channel: &ChannelSetting, number: u16) -> Result<Seat, NoMemory>
+    ensures { IfOk result (λ seat. seat ≡ begun_as number channel.now) }
 {
-    names
+    let name = channel.name.copy(alloc)?;
+    let key = key_copy(alloc, &channel.key)?;
+    Ok(Seat::new(name, key, number))
+}
+
+// A copy of a key, if there is one.
+pub(crate) fn key_copy(alloc: Global, key: &Option<Text>) -> Result<Option<Text>, NoMemory>
+    ensures { IfOk result (λ copy. copy ≡ key.now) }
+{
+    match key {
+        Some(key) => Ok(Some(key.copy(alloc)?)),
+        None => Ok(None),
+    }
+}
+
+// Gives the key to each seat whose channel has this name. Returns whether one had another key.
+fn rekey_all(
+    alloc: Global,
+    seats: &mut [Seat],
+    mapping: Casemapping,
+    name: &[u8],
+    key: &Option<Text>,
+    now: u64,
+) -> Result<bool, NoMemory>
+    ensures { OnOk result (seats.new ≡ map (rekeyed_at mapping name.now key.now now) seats.old) }
+{
+    let mut is_new = false;
+    for seat in seats.iter_mut() {
+        let rekeyed = rekey(alloc, seat, mapping, name, key, now)?;
+        is_new |= rekeyed;
+    }
+    Ok(is_new)
+}
+
+// Gives the key to a seat if its channel has this name. Returns whether the seat had another key.
+fn rekey(
+    alloc: Global,
+    seat: &mut Seat,
+    mapping: Casemapping,
+    name: &[u8],
+    key: &Option<Text>,
+    now: u64,
+) -> Result<bool, NoMemory>
+    ensures { OnOk result (seat.new ≡ rekeyed_at mapping name.now key.now now seat.old) }
+{
+    if !same_by(mapping, seat.channel(), name) || seat.has_key(key) {
+        return Ok(false);
+    }
+    seat.take_key(key_copy(alloc, key)?, now);
+    Ok(true)
+}
+
+// Whether a channel is among those listed.
+fn is_named(mapping: Casemapping, listed: &[ChannelSetting], channel: &[u8]) -> bool
+    ensures { result ≡ is_named mapping listed.now channel.now }
+{
+    listed
         .iter()
-        .any(|name| same_by(mapping, name.as_bytes(), channel))
+        .any(|other| same_by(mapping, other.name.as_bytes(), channel))
 }

@@ -1,18 +1,18 @@
 // What the log says about the server.
 use crate::shown::{Shown, put};
 use crate::why::Why;
-use net::DialFault;
+use net::{DialFault, Way};
 use rfccase::{Casemapping, same};
 use std::fmt;
 use std::fmt::Display;
-use std::net::SocketAddr;
 
 // An event of the connection to a server, as the log shows it.
 #[derive(Drop)]
 pub(crate) enum Entry<'a> {
     // The bot begins to connect to a server.
-    Dialled(&'a [u8], SocketAddr),
-    // An attempt to connect to a server could not begin; the second at which the next one is due.
+    Dialled(&'a [u8], Way),
+    // An attempt to connect to a server, or to the path of its tunnel, could not begin; the second at which the next one
+    // is due.
     NotDialled(&'a [u8], DialFault, u64),
     // The bot disconnects from the server; the second at which the next attempt is due.
     Lost(Why, u64),
@@ -84,9 +84,12 @@ fn name_of(mapping: Casemapping) -> &'static [u8] {
 impl Display for Entry<'_> {
     fn fmt<W: fmt::Write>(&self, f: &mut fmt::Formatter<W>) -> fmt::Result {
         match *self {
-            Entry::Dialled(host, address) => {
+            Entry::Dialled(host, way) => {
                 put(f, "connecting to ", &Shown(host))?;
-                put(f, " at ", &address)
+                match way {
+                    Way::Tcp(address) => put(f, " at ", &address),
+                    Way::Tunnel => f.write_str(" through its tunnel"),
+                }
             }
             Entry::NotDialled(host, fault, due) => {
                 put(f, "not connecting to ", &Shown(host))?;

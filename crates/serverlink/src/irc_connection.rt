@@ -10,7 +10,7 @@ use crate::registering::begin_login;
 use crate::session::Session;
 use crate::why::Why;
 use bytetext::{Failure, NoMemory, Text};
-use net::{DialTokens, Dialled, Dialling, Log, Registry};
+use net::{DialFault, DialTokens, Dialled, Dialling, Log, Registry};
 use registration::Credentials;
 use rfccase::Casemapping;
 use settings::{Server, Settings};
@@ -19,6 +19,7 @@ use std::fs::File;
 use std::net::Net;
 use std::random::RandomSource;
 use std::rt::Files;
+use tunnels::{Target, dial, tunnel_path};
 
 // The most pieces that one turn reads.
 const PIECES: usize = 16;
@@ -26,8 +27,11 @@ const PIECES: usize = 16;
 // The token under which the connection to a server is watched.
 const TOKEN: usize = 1;
 
-// The token under which the lookup of a server's name is watched.
-const LOOKUP: usize = 6;
+// With the token under which the lookup of a server's name is watched.
+const TOKENS: DialTokens = DialTokens {
+    connection: TOKEN,
+    lookup: 6,
+};
 
 // The longest wait before an attempt to connect, in seconds.
 const LONGEST_WAIT: u16 = 300;
@@ -134,6 +138,8 @@ impl IrcConnection {
     /// `now`. Returns whether a connection began; if it did, the first line of a login is queued, if the bot has an
     /// account, and the server's PASS, if it has one.
     ///
+    /// A server whose port has a plus is connected to through its tunnel alone ([`dial`](tunnels::dial)).
+    ///
     /// While the server's name is looked up, no connection begins, and the attempt stays due: call this in each turn,
     /// after [`wake`](IrcConnection::wake). `log` shows an attempt that begins or cannot begin; if it cannot, the next
     /// server is due after a wait.
@@ -159,8 +165,9 @@ impl IrcConnection {
         if self.session.is_some() || !self.dialling.is_due(now) {
             return Ok(false);
         }
+        let folder = settings.folder.as_bytes();
         match settings.servers.as_slice().get(self.dialling.place()) {
-            Some(server) => self.dial(rt, log, registry, server, now),
+            Some(server) => self.dial(rt, log, registry, folder, server, now),
             None => Ok(false),
         }
     }
@@ -170,6 +177,7 @@ impl IrcConnection {
         rt: &R,
         log: &mut Log,
         registry: &Registry,
+        folder: &[u8],
         server: &Server,
         now: u64,
     ) -> Result<bool, NoMemory>
@@ -177,25 +185,26 @@ impl IrcConnection {
         ensures due { OnErr result (self.new.dialling ≡ self.old.dialling) }
         ensures login { IfOk result (λ began. BeginsIn began self.old.account self.new.session) }
     {
-        let host = server.address.host.as_bytes();
-        let port = server.address.port;
-        let tokens = DialTokens {
-            connection: TOKEN,
-            lookup: LOOKUP,
-        };
-        match self
-            .dialling
-            .connect(rt, registry, tokens, host, port, self.steady)
-        {
+        let address = &server.address;
+        let target = Target { folder, address };
+        match dial(
+            &mut self.dialling,
+            rt,
+            registry,
+            TOKENS,
+            target,
+            self.steady,
+        ) {
             Ok(Some(dialled)) => {
-                log.note(now, &Entry::Dialled(host, dialled.address));
+                log.note(now, &Entry::Dialled(address.host.as_bytes(), dialled.way));
                 self.begin(rt, log, server, dialled, now)
             }
             Ok(None) => Ok(false),
             Err(Failure::NoMemory) => Err(NoMemory),
             Err(Failure::Refused(fault)) => {
                 self.dialling.lost(now);
-                log.note(now, &Entry::NotDialled(host, fault, self.dialling.due()));
+                let due = self.dialling.due();
+                note_not_dialled(log, target, fault, due, now);
                 Ok(false)
             }
         }
@@ -345,6 +354,20 @@ impl IrcConnection {
         self.channels.lose_all();
         self.own.clear();
         log.note(now, &Entry::Lost(why, self.dialling.due()));
+    }
+}
+
+// Logs that no connection to `target` can begin: names the host, or the path of its tunnel.
+fn note_not_dialled(log: &mut Log, target: Target<'_>, fault: DialFault, due: u64, now: u64) {
+    let host = target.address.host.as_bytes();
+    match tunnel_path(target.folder, target.address) {
+        Some(path) if target.address.tls => {
+            log.note(
+                now,
+                &Entry::NotDialled(path.as_str().as_bytes(), fault, due),
+            );
+        }
+        Some(_) | None => log.note(now, &Entry::NotDialled(host, fault, due)),
     }
 }
 

@@ -7,7 +7,7 @@ use crate::server_wire::ServerWire;
 use crate::session::Session;
 use bytetext::{Failure, NoMemory, Text};
 use ircline::Line;
-use net::{Log, TcpSocket};
+use net::{AnySocket, Log};
 use registration::{
     Capabilities, Credentials, FIRST_LINE, Mechanisms, Registration, RegistrationFault, ScramNonce,
     ScramNonces, Wish,
@@ -145,7 +145,7 @@ fn drawn_nonce<R: RandomSource>(rt: &R) -> io::Result<ScramNonce> {
 
 // Queues lines of a login, in order.
 fn tell_all(
-    wire: &mut ServerWire<TcpSocket>,
+    wire: &mut ServerWire<AnySocket>,
     log: &mut Log,
     lines: &[Text],
     shows: Shows,

@@ -2,43 +2,48 @@
 // channel.
 ghost use Rattle.std.specs.Prelude.{◌≡◌, ◌<◌, length, IfSome};
 
+use crate::configured_channels::key_copy;
 use crate::irc_connection::{IrcConnection, joined};
 use crate::seat::Seat;
 use bytetext::{NoMemory, Text, TryCopy};
 use rfccase::{Casemapping, same_by};
-use settings::Server;
+use settings::{ChannelSetting, Server};
 use std::alloc::Global;
 
 impl IrcConnection {
-    ghost use Rattle.std.specs.Prelude.{◌≡◌, ◌<◌, length, IfSome};
+    ghost use Rattle.std.specs.Prelude.{◌≡◌, ◌<◌, ◌++◌, ◌∷◌, [], false, length, IfSome, OnOk};
+    ghost use Rattle.serverlink.specs.Casings.{mapping_in};
+    ghost use Rattle.serverlink.specs.Listing.{has_seat, is_welcomed, seated, with_all_listed, with_listed};
+    ghost use Rattle.serverlink.specs.Seats.{begun};
 
-    /// Has the bot numbered `number` be on the channels of `names`, at second `now`: leaves the others, and joins those
-    /// on which it was not to be. A channel that is still named stays as it is. Returns whether anything changed.
+    /// Has the bot numbered `number` be on the channels that are `listed`, at second `now`: leaves the others, and joins
+    /// those on which it was not to be. A channel that is still listed stays as it is, but the bot joins it by its new
+    /// key from now on: at once, if the bot is not on it. Returns whether anything changed.
     ///
     /// # Errors
     /// `NoMemory` if an allocation fails. The bot may have left or joined some of them.
     pub fn take_channels(
         &mut self,
         alloc: Global,
-        names: &[Text],
+        listed: &[ChannelSetting],
         number: u16,
         now: u64,
     ) -> Result<bool, NoMemory>
         ensures session { self.new.session ≡ self.old.session }
     {
-        let left = self.leave_unnamed(alloc, names)?;
-        let joins = self.join_named(alloc, names, number, now)?;
+        let left = self.leave_unnamed(alloc, listed)?;
+        let joins = self.join_named(alloc, listed, number, now)?;
         Ok(left || joins)
     }
 
-    // Leaves the channels that are not among `names`. Returns whether there was one.
-    fn leave_unnamed(&mut self, alloc: Global, names: &[Text]) -> Result<bool, NoMemory>
+    // Leaves the channels that are not listed. Returns whether there was one.
+    fn leave_unnamed(&mut self, alloc: Global, listed: &[ChannelSetting]) -> Result<bool, NoMemory>
         ensures { self.new.session ≡ self.old.session }
     {
         let mut left = false;
         for _channel in 0..self.channels.len() {
             let mapping = self.casemapping();
-            let Some(seat) = self.channels.remove_unnamed(mapping, names) else {
+            let Some(seat) = self.channels.remove_unnamed(mapping, listed) else {
                 break;
             };
             self.part(alloc, seat.channel())?;
@@ -47,21 +52,47 @@ impl IrcConnection {
         Ok(left)
     }
 
-    // Joins the channels of `names` on which the bot was not to be. Returns whether there was one.
+    // Joins the channels that are listed and on which the bot was not to be, and takes the keys of the others. Returns
+    // whether anything changed.
     fn join_named(
         &mut self,
         alloc: Global,
-        names: &[Text],
+        listed: &[ChannelSetting],
         number: u16,
         now: u64,
     ) -> Result<bool, NoMemory>
-        ensures { self.new.session ≡ self.old.session }
+        ensures session { self.new.session ≡ self.old.session }
+        ensures channels { OnOk result (self.new.channels
+            ≡ with_all_listed (mapping_in self.old.session) (is_welcomed self.old.session) number now listed.now self.old.channels) }
     {
-        let mut joins = false;
-        for name in names {
-            joins |= self.add_channel(alloc, name.as_bytes(), None, number, now)?;
+        let mut changed = false;
+        for channel in listed {
+            changed |= self.take_channel(alloc, channel, number, now)?;
         }
-        Ok(joins)
+        Ok(changed)
+    }
+
+    // Has the bot be on a channel that is listed, by its key. Returns whether anything changed.
+    fn take_channel(
+        &mut self,
+        alloc: Global,
+        channel: &ChannelSetting,
+        number: u16,
+        now: u64,
+    ) -> Result<bool, NoMemory>
+        ensures session { self.new.session ≡ self.old.session }
+        ensures channels { OnOk result (self.new.channels
+            ≡ with_listed (mapping_in self.old.session) (is_welcomed self.old.session) number now channel.now self.old.channels) }
+    {
+        let name = channel.name.as_bytes();
+        let mapping = self.casemapping();
+        if self.channels.has(mapping, name) {
+            return self
+                .channels
+                .take_key(alloc, mapping, name, &channel.key, now);
+        }
+        let key = key_copy(alloc, &channel.key)?;
+        self.add_channel(alloc, name, key, number, now)
     }
 
     /// Has the bot numbered `number` be on `channel` from second `now` on, and join it with this `key`, if it has one.
@@ -78,6 +109,9 @@ impl IrcConnection {
         now: u64,
     ) -> Result<bool, NoMemory>
         ensures session { self.new.session ≡ self.old.session }
+        ensures added { OnOk result (has_seat (mapping_in self.old.session) channel.now self.old.channels ≡ false
+            → self.new.channels ≡ self.old.channels
+            ++ seated (is_welcomed self.old.session) now (begun channel.now key number) ∷ []) }
     {
         if self.channels.has(self.casemapping(), channel) {
             return Ok(false);
@@ -165,7 +199,9 @@ impl IrcConnection {
     }
 
     // Whether a server has welcomed the bot.
-    fn is_welcomed(&self) -> bool {
+    fn is_welcomed(&self) -> bool
+        ensures { result ≡ is_welcomed self.now.session }
+    {
         match &self.session {
             Some(session) => session.is_welcomed,
             None => false,
@@ -173,8 +209,9 @@ impl IrcConnection {
     }
 }
 
-// Whether two servers have the same host and port. Their passwords may differ.
+// Whether two servers have the same host and port, and both a plus or none. Their passwords may differ.
 fn is_at(one: &Server, other: &Server) -> bool {
     one.address.port == other.address.port
+        && one.address.tls == other.address.tls
         && one.address.host.as_bytes() == other.address.host.as_bytes()
 }

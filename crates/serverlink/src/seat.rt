@@ -1,7 +1,7 @@
 // A channel on which the bot is to be.
 ghost use Rattle.std.specs.Prelude.{◌≡◌};
 ghost use Rattle.net.specs.Waits.{lost as lost_wait};
-ghost use Rattle.serverlink.specs.Seats.{begun, is_due, joined, kicked, later, lost, not_let_in, parted, retried, waiting, welcomed};
+ghost use Rattle.serverlink.specs.Seats.{begun, is_due, joined, kicked, later, lost, not_let_in, parted, rekeyed, retried, same_key, waiting, welcomed};
 
 use crate::vigil::GOOD;
 use bytetext::Text;
@@ -82,6 +82,28 @@ impl Seat {
         match &self.key {
             Some(key) => Some(key.as_bytes()),
             None => None,
+        }
+    }
+
+    // Whether this is its key, or it has none as here.
+    pub(crate) fn has_key(&self, key: &Option<Text>) -> bool
+        ensures { result ≡ same_key self.now.key key.now }
+    {
+        match (&self.key, key) {
+            (Some(own), Some(key)) => own.as_bytes() == key.as_bytes(),
+            (None, None) => true,
+            (Some(_), None) | (None, Some(_)) => false,
+        }
+    }
+
+    // Notes at second `now` that the bot joins the channel with this `key`, or with none. If the bot is not on it, the
+    // process is due to ask.
+    pub(crate) fn take_key(&mut self, key: Option<Text>, now: u64)
+        ensures { self.new ≡ rekeyed self.old key now }
+    {
+        self.key = key;
+        if self.asks.is_some() {
+            self.asks = Some(now);
         }
     }
 

@@ -7,13 +7,13 @@ ghost use Rattle.serverlink.specs.Vigils.{begun, care_of};
 use crate::casing::Casing;
 use crate::server_wire::ServerWire;
 use crate::vigil::{Care, Vigil};
-use net::TcpSocket;
+use net::AnySocket;
 use registration::Registration;
 use std::alloc::Global;
 
 /// A connection to a server, and what is known about it.
 pub struct Session {
-    pub(crate) wire: ServerWire<TcpSocket>,
+    pub(crate) wire: ServerWire<AnySocket>,
     // By the monotonic clock, which nobody sets: a step of the wall clock is no silence.
     pub(crate) vigil: Vigil,
     // The second of the bot's clock at which the connection began.
@@ -46,7 +46,7 @@ impl Drop for Session {
 impl Session {
     // A connection over a new socket, which begins at second `now`, and at second `steady` of the monotonic clock.
     // Allocates nothing.
-    pub(crate) fn new(alloc: Global, socket: TcpSocket, now: u64, steady: u64) -> Session
+    pub(crate) fn new(alloc: Global, socket: AnySocket, now: u64, steady: u64) -> Session
         requires fresh { socket.account.past ≡ nothing_yet }
         ensures began { result.began ≡ now }
         ensures vigil { result.vigil ≡ begun steady }

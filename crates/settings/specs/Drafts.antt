@@ -61,7 +61,7 @@ refusal_of draft (Wrong advice) = Some advice
 refusal_of draft (Account account) = once account_word (is_some draft.account)
 refusal_of draft (Bind words) = None
 refusal_of draft (Bot station) = once bot_word (is_some draft.station)
-refusal_of draft (Channel name) = None
+refusal_of draft (Channel channel) = None
 refusal_of draft (Data folder) = once data_word (is_some draft.folder)
 refusal_of draft Exclusive = once exclusive_word draft.exclusive
 refusal_of draft (Hub address) = once hub_word (is_some draft.hub)
@@ -84,7 +84,7 @@ added line draft (Wrong advice) = draft
 added line draft (Account account) = record draft { account = Some account }
 added line draft (Bind words) = record draft { binds = draft.binds ++ record { line = line; words = words } ∷ [] }
 added line draft (Bot station) = record draft { station = Some station }
-added line draft (Channel name) = record draft { channels = draft.channels ++ name ∷ [] }
+added line draft (Channel channel) = record draft { channels = draft.channels ++ channel ∷ [] }
 added line draft (Data folder) = record draft { folder = Some folder }
 added line draft Exclusive = record draft { exclusive = true }
 added line draft (Hub address) = record draft { hub = Some address }

@@ -1,5 +1,5 @@
 -- What a line says by itself.
-use Rattle.std.specs.Prelude.{ℕ, ◌==◌, ◌||◌, ◌&&◌, ◌-◌, not, nat_le, nat_lt, Bool, List, [], ◌∷◌, length, slice_index, Option, None, Some, if◌then◌else◌, codes}
+use Rattle.std.specs.Prelude.{ℕ, ◌==◌, ◌||◌, ◌&&◌, ◌-◌, not, nat_le, nat_lt, Bool, false, List, [], ◌∷◌, length, slice_index, Option, None, Some, if◌then◌else◌, codes}
 use Rattle.std.specs.List.{list_all}
 use Rattle.std.specs.Str.{bytes_eq}
 use Rattle.rfccase.specs.Channels.{is_channel_name}
@@ -10,13 +10,14 @@ use Rattle.settings.specs.declared.setting_word.SettingWord.TheVariants.{Account
 use Rattle.settings.specs.declared.setting_word.SettingWord.TheVariants.{Data as data_word, Exclusive as exclusive_word, Hub as hub_word, Leaf as leaf_word}
 use Rattle.settings.specs.declared.setting_word.SettingWord.TheVariants.{Listen as listen_word, Log as log_word, Nick as nick_word, Page as page_word, Perform as perform_word}
 use Rattle.settings.specs.declared.setting_word.SettingWord.TheVariants.{Secret as secret_word, Server as server_word, Zone as zone_word}
-use Rattle.settings.specs.declared.advice.SettingAdvice.TheVariants.{Form, Leaves, Address, PageAddress, PagePassword, Port, Unknown, CarriageReturn, Control, ByteOrderMark}
+use Rattle.settings.specs.declared.advice.SettingAdvice.TheVariants.{Form, Key, Leaves, Address, PageAddress, PagePassword, Port, TlsHost, Unknown, CarriageReturn, Control, ByteOrderMark}
 use Rattle.settings.specs.declared.saying.SettingSaying.{SettingSaying}
 use Rattle.settings.specs.declared.saying.SettingSaying.TheVariants.{Nothing, Wrong, Account, Bind, Bot, Channel, Data, Exclusive, Hub, Leaf, Listen}
 use Rattle.settings.specs.declared.saying.SettingSaying.TheVariants.{LogFile, LogJson, LogLines, Nick, Page, Perform, Secret, Server, Zone}
-use Rattle.settings.specs.Names.{is_nick}
+use Rattle.settings.specs.Names.{is_key, is_nick}
 use Rattle.settings.specs.Addresses.{is_address, is_loopback}
 use Rattle.settings.specs.Words.{word_of, rest_of, after_spaces, number_of, port_of}
+use Rattle.settings.specs.Pluses.{has_plus, without_plus, is_tls_host}
 use Rattle.settings.specs.Vocabulary.{word_named}
 
 abbrev pub is_empty : List ℕ → Bool
@@ -39,11 +40,6 @@ perform_said rest = if is_empty rest || nat_lt MAX_LINE (length rest) then Wrong
 -- nick NICK
 abbrev pub nick_said : List ℕ → SettingSaying
 nick_said rest = if is_nick (word_of rest) && is_empty (rest_of rest) then Nick (word_of rest) else Wrong (Form nick_word)
-
--- channel NAME
-abbrev pub channel_said : List ℕ → SettingSaying
-channel_said rest =
-    if is_channel_name (word_of rest) && is_empty (rest_of rest) then Channel (word_of rest) else Wrong (Form channel_word)
 
 -- exclusive
 abbrev pub exclusive_said : List ℕ → SettingSaying
@@ -82,25 +78,31 @@ bot_of number rest =
 abbrev pub bot_said : List ℕ → SettingSaying
 bot_said rest = bot_of (word_of rest) (rest_of rest)
 
--- hub HOST PORT
-abbrev pub hub_found : List ℕ → Option ℕ → SettingSaying
-hub_found host None = Wrong Port
-hub_found host (Some port) = Hub (record { host = host; port = port })
+-- a host before a port with a plus is one that a tunnel may lead to
+abbrev pub is_reached : List ℕ → Bool → Bool
+is_reached host tls = not tls || is_tls_host host
+
+-- hub HOST PORT, and hub HOST +PORT
+abbrev pub hub_found : List ℕ → Bool → Option ℕ → SettingSaying
+hub_found host tls None = Wrong Port
+hub_found host tls (Some port) =
+    if is_reached host tls then Hub (record { host = host; port = port; tls = tls }) else Wrong TlsHost
 
 abbrev pub hub_said : List ℕ → SettingSaying
 hub_said rest =
     if is_empty (rest_of rest) || not (is_empty (rest_of (rest_of rest))) then Wrong (Form hub_word)
-    else hub_found (word_of rest) (port_of (word_of (rest_of rest)))
+    else hub_found (word_of rest) (has_plus (word_of (rest_of rest))) (port_of (without_plus (word_of (rest_of rest))))
 
--- listen ADDRESS PORT
-abbrev pub listen_found : List ℕ → Option ℕ → SettingSaying
-listen_found host None = Wrong Port
-listen_found host (Some port) = if is_address host then Listen (record { host = host; port = port }) else Wrong Address
+-- listen ADDRESS PORT, and listen ADDRESS +PORT
+abbrev pub listen_found : List ℕ → Bool → Option ℕ → SettingSaying
+listen_found host tls None = Wrong Port
+listen_found host tls (Some port) =
+    if is_address host then Listen (record { host = host; port = port; tls = tls }) else Wrong Address
 
 abbrev pub listen_said : List ℕ → SettingSaying
 listen_said rest =
     if is_empty (rest_of rest) || not (is_empty (rest_of (rest_of rest))) then Wrong (Form listen_word)
-    else listen_found (word_of rest) (port_of (word_of (rest_of rest)))
+    else listen_found (word_of rest) (has_plus (word_of (rest_of rest))) (port_of (without_plus (word_of (rest_of rest))))
 
 -- leaf N reads
 abbrev pub leaf_found : Option ℕ → SettingSaying
@@ -112,25 +114,38 @@ leaf_said rest =
     if bytes_eq (word_of (rest_of rest)) (codes "reads") && is_empty (rest_of (rest_of rest)) then leaf_found (number_of (word_of rest))
     else Wrong (Form leaf_word)
 
--- server HOST PORT PASS; the PASS may be left out
+-- a last word that may be left out
 abbrev pub pass_of : List ℕ → Option (List ℕ)
 pass_of rest = if is_empty rest then None else Some rest
 
-abbrev pub server_found : List ℕ → Option ℕ → List ℕ → SettingSaying
-server_found host None pass = Wrong Port
-server_found host (Some port) pass = Server (record { address = record { host = host; port = port }; pass = pass_of pass })
+-- channel NAME KEY; the KEY may be left out
+abbrev pub channel_keyed : List ℕ → List ℕ → SettingSaying
+channel_keyed name key = if not (is_empty key) && not (is_key key) then Wrong Key else Channel (record { name = name; key = pass_of key })
+
+abbrev pub channel_said : List ℕ → SettingSaying
+channel_said rest =
+    if is_channel_name (word_of rest) && is_empty (rest_of (rest_of rest)) then channel_keyed (word_of rest) (word_of (rest_of rest))
+    else Wrong (Form channel_word)
+
+-- server HOST PORT PASS, and server HOST +PORT PASS; the PASS may be left out
+abbrev pub server_found : List ℕ → Bool → Option ℕ → List ℕ → SettingSaying
+server_found host tls None pass = Wrong Port
+server_found host tls (Some port) pass =
+    if is_reached host tls
+    then Server (record { address = record { host = host; port = port; tls = tls }; pass = pass_of pass }) else Wrong TlsHost
 
 abbrev pub server_said : List ℕ → SettingSaying
 server_said rest =
     if is_empty (rest_of rest) then Wrong (Form server_word)
-    else server_found (word_of rest) (port_of (word_of (rest_of rest))) (rest_of (rest_of rest))
+    else server_found (word_of rest) (has_plus (word_of (rest_of rest))) (port_of (without_plus (word_of (rest_of rest))))
+    (rest_of (rest_of rest))
 
 -- page ADDRESS PORT FILE; the FILE may be left out if no other machine reaches the address
 abbrev pub page_placed : List ℕ → ℕ → List ℕ → SettingSaying
 page_placed host port file =
     if not (is_address host) then Wrong PageAddress
     else if is_empty file && not (is_loopback host) then Wrong PagePassword
-    else Page (record { address = record { host = host; port = port }; password = pass_of file })
+    else Page (record { address = record { host = host; port = port; tls = false }; password = pass_of file })
 
 abbrev pub page_found : List ℕ → Option ℕ → List ℕ → SettingSaying
 page_found host None file = Wrong Port

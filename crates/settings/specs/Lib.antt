@@ -1,6 +1,7 @@
 pub mod Words
 pub mod Names
 pub mod Addresses
+pub mod Pluses
 pub mod Vocabulary
 pub mod Grammar
 pub mod Drafts

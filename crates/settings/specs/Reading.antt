@@ -11,12 +11,13 @@ use Rattle.settings.specs.declared.advice.SettingAdvice.TheVariants.{NoLeaf, Hub
 use Rattle.settings.specs.declared.fault.SettingsFault.{SettingsFault}
 use Rattle.settings.specs.declared.fault.SettingsFault.TheVariants.{TooLong, Line, Lacks}
 use Rattle.settings.specs.declared.fault.Lack.{Lack}
-use Rattle.settings.specs.declared.fault.Lack.TheVariants.{Data, Nick, Server, Hub, LeafListens, Listen, HubOfHub, Secret}
+use Rattle.settings.specs.declared.fault.Lack.TheVariants.{Data, Nick, Server, Hub, LeafListens, Listen, HubOfHub, Secret, Tunnel}
 use Rattle.settings.specs.declared.settings.Settings.{Settings}
 use Rattle.settings.specs.declared.settings.LeafLine.{LeafLine}
 use Rattle.settings.specs.declared.settings.Station.{Station}
 use Rattle.settings.specs.declared.draft.Draft.{Draft}
 use Rattle.settings.specs.Grammar.{saying_of}
+use Rattle.settings.specs.Pluses.{all_fit, may_fit}
 use Rattle.settings.specs.Drafts.{no_line, refusal_of, added}
 
 -- ---- line by line
@@ -86,13 +87,23 @@ role_lack station hub listen secret =
     then first_of_two (needs listen Listen) (first_of_two (bars hub HubOfHub) (needs secret Secret))
     else bars hub HubOfHub
 
+-- the path of each tunnel's socket is short enough
+abbrev pub folder_len : Draft → ℕ
+folder_len draft = length (unwrap_or draft.folder [])
+
+abbrev pub tunnels_fit : Draft → Bool
+tunnels_fit draft =
+    may_fit (folder_len draft) draft.hub && (may_fit (folder_len draft) draft.listen
+    && all_fit (folder_len draft) draft.servers)
+
 -- the first thing that right lines lack together
 abbrev pub lack_of : Draft → Option Lack
 lack_of draft =
     first_of_two (needs (is_some draft.folder) Data)
     (first_of_two (needs (is_some draft.nick) Nick)
     (first_of_two (needs (nat_lt 0 (length draft.servers)) Server)
-    (role_lack (station_of draft) (is_some draft.hub) (is_some draft.listen) (is_some draft.secret))))
+    (first_of_two (role_lack (station_of draft) (is_some draft.hub) (is_some draft.listen) (is_some draft.secret))
+    (needs (tunnels_fit draft) Tunnel))))
 
 -- what lines say that lack nothing
 abbrev pub settings_of : Draft → Settings

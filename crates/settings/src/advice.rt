@@ -10,6 +10,8 @@ pub enum SettingAdvice {
     Form(SettingWord),
     /// An earlier line has this word, which may stand once.
     Once(SettingWord),
+    /// A channel's key is none that a JOIN can give.
+    Key,
     /// The bot's number is above the number of leaves, or these are above 1,000.
     Leaves,
     /// The line names no leaf of the net: its number is 0, or above the number of leaves.
@@ -28,6 +30,8 @@ pub enum SettingAdvice {
     PagePassword,
     /// The port is not a number from 1 to 65,535.
     Port,
+    /// A plus stands before the port, and the host has other bytes than letters, digits, `.`, `-`, `_` and `:`.
+    TlsHost,
     /// The first word is unknown.
     Unknown,
     /// The line ends in a carriage return.
@@ -53,6 +57,8 @@ fn words_of(advice: SettingAdvice) -> &'static str {
     match advice {
         SettingAdvice::Once(_) => " once: a line above has it",
         SettingAdvice::Form(word) => form_of(word),
+        SettingAdvice::Key =>
+            "say a key of 1 to 50 bytes, without commas and without a colon in front, as in channel #egg key",
         SettingAdvice::Leaves => "say a number of at most LEAVES, and at most 1000 leaves",
         SettingAdvice::NoLeaf => "say the number of a leaf of this net, from 1 to LEAVES",
         SettingAdvice::HubAlone => "a leaf has no line leaf: take it out",
@@ -63,6 +69,8 @@ fn words_of(advice: SettingAdvice) -> &'static str {
         SettingAdvice::PagePassword =>
             "name a FILE with a password, as in page 0.0.0.0 7180 /etc/eggnet/page: without one, say 127.0.0.1 or ::1",
         SettingAdvice::Port => "say a port of 1 to 65535",
+        SettingAdvice::TlsHost =>
+            "say a name or an address before +PORT, in letters, digits, dots, dashes and colons, as in server irc.example.net +6697",
         SettingAdvice::Unknown =>
             "begin with account, bind, bot, channel, data, exclusive, hub, leaf, listen, log, nick, page, perform, secret, server, zone or #",
         SettingAdvice::CarriageReturn => "end lines with a line feed alone",
@@ -77,7 +85,8 @@ fn form_of(word: SettingWord) -> &'static str {
         SettingWord::Account => "say account NAME FILE, as in account egg /etc/eggnet/password",
         SettingWord::Bind => "say bind TYPE FLAGS PROC MASK, as in bind pub - echo !echo",
         SettingWord::Bot => "say bot NUMBER of LEAVES, as in bot 1 of 40",
-        SettingWord::Channel => "say channel NAME, as in channel #egg",
+        SettingWord::Channel =>
+            "say channel NAME, as in channel #egg, and its key after that if it has one",
         SettingWord::Data => "say data FOLDER, as in data /var/lib/eggnet/egg1",
         SettingWord::Exclusive => "say exclusive alone",
         SettingWord::Hub => "say hub HOST PORT, as in hub hub.example.net 7100",

@@ -8,7 +8,8 @@ use crate::reading::{ALONE, utc};
 use crate::saying::SettingSaying;
 use crate::setting_word::SettingWord;
 use crate::settings::{
-    Address, BindLines, LeafLine, LeafLines, Login, PageSetting, Servers, Settings, Station,
+    Address, BindLines, ChannelSettings, LeafLine, LeafLines, Login, PageSetting, Servers,
+    Settings, Station,
 };
 use bottimers::Zone;
 use bytetext::{Text, Texts};
@@ -23,7 +24,7 @@ pub struct Draft {
     /// The bot's nick.
     pub nick: Option<Text>,
     /// The channels to join, in order.
-    pub channels: Texts,
+    pub channels: ChannelSettings,
     /// The servers to try, in order.
     pub servers: Servers,
     /// Where the hub listens.
@@ -89,7 +90,7 @@ impl Draft {
             folder: None,
             station: None,
             nick: None,
-            channels: Texts::empty(alloc),
+            channels: ChannelSettings::empty(alloc),
             servers: Servers::empty(alloc),
             hub: None,
             listen: None,

@@ -49,6 +49,9 @@ pub enum Lack {
     /// A bot of a net of several without a line `secret`.
     #[error("a bot with others needs a line: secret FILE")]
     Secret,
+    /// A folder and a host before `+PORT` of more than 96 bytes together ([`MAX_TUNNEL`](crate::MAX_TUNNEL)).
+    #[error("FOLDER/tls/HOST_PORT is too long for a socket: say a FOLDER and a HOST before +PORT of at most 96 bytes together")]
+    Tunnel,
 }
 
 /// Why [`Settings::read`](crate::Settings::read) returns no settings: the file is refused, or an allocation failed

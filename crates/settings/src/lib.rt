@@ -14,7 +14,7 @@
 //! | `listen` address port | a hub with leaves: once | where it listens, such as `0.0.0.0 7100` |
 //! | `leaf` number `reads` | a hub: any, each leaf once | this leaf may only read |
 //! | `secret FILE` | once if there are leaves | the file of the secret that both ends of the link know |
-//! | `channel` name | any | a channel to join, in order |
+//! | `channel` name key | any | a channel to join, in order; the key may be left out |
 //! | `bind` type flags proc MASK | any | a bind, in order |
 //! | `perform LINE` | any | a line of 1 to 510 bytes for the server, once after each registration |
 //! | `account` name FILE | once or not at all | the account that it authenticates as, and the file of the password |
@@ -24,6 +24,11 @@
 //! | `log json` | once or not at all | each line of the log is a JSON object |
 //! | `log file PATH` | once or not at all | the log is appended to this file, instead of standard output |
 //! | `page` address port FILE | once or not at all | where a page that shows the bot is served, and the file of its password |
+//!
+//! A plus before the port of a `server`, a `hub` or a `listen`, as in `server irc.example.net +6697`, says that the
+//! connection is encrypted by TLS ([`Address::tls`]). It then goes through a tunnel on this machine, whose socket is
+//! `FOLDER/tls/HOST_PORT`. So such a host has only letters, digits, `.`, `-`, `_` and `:`, and together with the folder
+//! at most [`MAX_TUNNEL`] bytes.
 //!
 //! A `page` may lack its FILE if other machines can't reach the address ([`is_loopback`]).
 //!
@@ -46,19 +51,22 @@ mod fault;
 mod names;
 mod net_saying;
 mod numeral;
+mod plus;
 mod reading;
 mod saying;
 mod setting_word;
 mod settings;
+mod tunnels;
 
 pub use crate::address::{is_address, is_loopback};
 pub use crate::advice::SettingAdvice;
 pub use crate::fault::{Lack, SettingsError, SettingsFault};
+pub use crate::names::is_key;
 pub use crate::numeral::value_of_digits;
 pub use crate::setting_word::SettingWord;
 pub use crate::settings::{
-    Address, BindLine, BindLines, BindWords, LeafLine, LeafLines, Login, PageSetting, Server,
-    Servers, Settings, Station,
+    Address, BindLine, BindLines, BindWords, ChannelSetting, ChannelSettings, LeafLine, LeafLines,
+    Login, PageSetting, Server, Servers, Settings, Station,
 };
 
 /// The most bytes that a file has.
@@ -67,8 +75,15 @@ pub const MAX_FILE: usize = 65_536;
 /// The most leaves that a hub has.
 pub const MAX_LEAVES: u16 = 1_000;
 
+/// The most bytes of a channel's key.
+pub const MAX_KEY: usize = 50;
+
 /// The most bytes of a nick.
 pub const MAX_NICK: usize = 30;
+
+/// The most bytes that the folder and the host of a line with a plus before its port have together. The path of the
+/// tunnel's socket, `FOLDER/tls/HOST_PORT`, then has at most the 107 bytes that the system takes.
+pub const MAX_TUNNEL: usize = 96;
 
 /// The most bytes of a line for the server, without its CR and LF (RFC 2812 section 2.3).
 pub const MAX_LINE: usize = 510;

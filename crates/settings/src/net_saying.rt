@@ -7,6 +7,7 @@ use crate::address::{is_address, is_loopback};
 use crate::advice::SettingAdvice;
 use crate::cutting::cut_word;
 use crate::numeral::{number, port};
+use crate::plus::{has_plus, is_reached, without_plus};
 use crate::saying::{SettingSaying, pass_of};
 use crate::setting_word::SettingWord;
 use crate::settings::{Address, PageSetting, Station};
@@ -53,11 +54,15 @@ pub(crate) fn hub_said(alloc: Global, rest: &[u8]) -> Result<SettingSaying, NoMe
     if host.rest.is_empty() || !numeral.rest.is_empty() {
         return Ok(SettingSaying::Wrong(SettingAdvice::Form(SettingWord::Hub)));
     }
-    let Some(port) = port(numeral.word) else {
+    let Some(port) = port(without_plus(numeral.word)) else {
         return Ok(SettingSaying::Wrong(SettingAdvice::Port));
     };
+    let tls = has_plus(numeral.word);
+    if !is_reached(host.word, tls) {
+        return Ok(SettingSaying::Wrong(SettingAdvice::TlsHost));
+    }
     let host = Text::from_slice(alloc, host.word)?;
-    Ok(SettingSaying::Hub(Address { host, port }))
+    Ok(SettingSaying::Hub(Address { host, port, tls }))
 }
 
 // `N reads`, of a leaf.
@@ -81,14 +86,15 @@ pub(crate) fn listen_said(alloc: Global, rest: &[u8]) -> Result<SettingSaying, N
     if host.rest.is_empty() || !numeral.rest.is_empty() {
         return Ok(SettingSaying::Wrong(SettingAdvice::Form(SettingWord::Listen)));
     }
-    let Some(port) = port(numeral.word) else {
+    let Some(port) = port(without_plus(numeral.word)) else {
         return Ok(SettingSaying::Wrong(SettingAdvice::Port));
     };
     if !is_address(host.word) {
         return Ok(SettingSaying::Wrong(SettingAdvice::Address));
     }
+    let tls = has_plus(numeral.word);
     let host = Text::from_slice(alloc, host.word)?;
-    Ok(SettingSaying::Listen(Address { host, port }))
+    Ok(SettingSaying::Listen(Address { host, port, tls }))
 }
 
 pub(crate) fn page_said(alloc: Global, rest: &[u8]) -> Result<SettingSaying, NoMemory>
@@ -122,6 +128,10 @@ fn page_placed(
     }
     let host = Text::from_slice(alloc, host)?;
     let password = pass_of(alloc, file)?;
-    let address = Address { host, port };
+    let address = Address {
+        host,
+        port,
+        tls: false,
+    };
     Ok(SettingSaying::Page(PageSetting { address, password }))
 }

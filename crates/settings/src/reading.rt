@@ -9,6 +9,7 @@ use crate::draft::Draft;
 use crate::fault::{Lack, SettingsError, SettingsFault};
 use crate::saying::saying_of;
 use crate::settings::{LeafLine, Settings, Station};
+use crate::tunnels::tunnels_fit;
 use bottimers::Zone;
 use bytetext::Failure;
 use std::alloc::{AllocError, Global};
@@ -135,12 +136,16 @@ fn lack_of(draft: &Draft) -> Option<Lack>
     if draft.servers.is_empty() {
         return Some(Lack::Server);
     }
-    role_lack(
+    let lack = role_lack(
         station_of(draft),
         draft.hub.is_some(),
         draft.listen.is_some(),
         draft.secret.is_some(),
-    )
+    );
+    match lack {
+        None if !tunnels_fit(draft) => Some(Lack::Tunnel),
+        None | Some(_) => lack,
+    }
 }
 
 // What a bot at this station lacks.

@@ -1,7 +1,7 @@
 // What one line says.
 ghost use Rattle.std.specs.Prelude.{◌≡◌, IfOk};
 ghost use Rattle.std.specs.List.{list_all};
-ghost use Rattle.settings.specs.Grammar.{account_said, bind_said, channel_said, data_said, ends_in_return};
+ghost use Rattle.settings.specs.Grammar.{account_said, bind_said, channel_keyed, channel_said, data_said, ends_in_return};
 ghost use Rattle.settings.specs.Grammar.{exclusive_said, has_mark, is_shown, log_form_said, log_said, nick_said};
 ghost use Rattle.settings.specs.Grammar.{pass_of, perform_said, said_of, saying_by_words, saying_of, secret_said, server_said, zone_said};
 
@@ -9,12 +9,13 @@ use crate::MAX_LINE;
 use crate::advice::SettingAdvice;
 use crate::cutting::{after_spaces, cut_word};
 use crate::draft::Draft;
-use crate::names::is_nick;
+use crate::names::{is_key, is_nick};
 use crate::net_saying::{bot_said, hub_said, leaf_said, listen_said, page_said};
 use crate::numeral::port;
+use crate::plus::{has_plus, is_reached, without_plus};
 use crate::setting_word::SettingWord;
 use crate::settings::{
-    Address, BindLine, BindWords, LeafLine, Login, PageSetting, Server, Station,
+    Address, BindLine, BindWords, ChannelSetting, LeafLine, Login, PageSetting, Server, Station,
 };
 use bottimers::Zone;
 use bytetext::{NoMemory, Text};
@@ -34,7 +35,7 @@ pub enum SettingSaying {
     /// Which bot it is.
     Bot(Station),
     /// A channel to join.
-    Channel(Text),
+    Channel(ChannelSetting),
     /// The bot's own folder.
     Data(Text),
     /// `msg` and `pub` binds ignore a text for which a `msgm` or `pubm` proc was called.
@@ -106,7 +107,7 @@ impl SettingSaying {
             SettingSaying::Account(account) => draft.account = Some(account),
             SettingSaying::Bind(words) => draft.binds.push(BindLine { line, words })?,
             SettingSaying::Bot(station) => draft.station = Some(station),
-            SettingSaying::Channel(name) => draft.channels.push(name)?,
+            SettingSaying::Channel(channel) => draft.channels.push(channel)?,
             SettingSaying::Data(folder) => draft.folder = Some(folder),
             SettingSaying::Exclusive => draft.exclusive = true,
             SettingSaying::Hub(address) => draft.hub = Some(address),
@@ -247,10 +248,23 @@ fn channel_said(alloc: Global, rest: &[u8]) -> Result<SettingSaying, NoMemory>
     ensures { IfOk result (λ saying. saying ≡ channel_said rest.now) }
 {
     let cut = cut_word(rest);
-    if !is_channel_name(cut.word) || !cut.rest.is_empty() {
+    let key = cut_word(cut.rest);
+    if !is_channel_name(cut.word) || !key.rest.is_empty() {
         return Ok(SettingSaying::Wrong(SettingAdvice::Form(SettingWord::Channel)));
     }
-    Ok(SettingSaying::Channel(Text::from_slice(alloc, cut.word)?))
+    channel_keyed(alloc, cut.word, key.word)
+}
+
+// A channel with a key, which may be left out.
+fn channel_keyed(alloc: Global, name: &[u8], key: &[u8]) -> Result<SettingSaying, NoMemory>
+    ensures { IfOk result (λ saying. saying ≡ channel_keyed name.now key.now) }
+{
+    if !key.is_empty() && !is_key(key) {
+        return Ok(SettingSaying::Wrong(SettingAdvice::Key));
+    }
+    let name = Text::from_slice(alloc, name)?;
+    let key = pass_of(alloc, key)?;
+    Ok(SettingSaying::Channel(ChannelSetting { name, key }))
 }
 
 fn exclusive_said(rest: &[u8]) -> SettingSaying
@@ -306,12 +320,16 @@ fn server_said(alloc: Global, rest: &[u8]) -> Result<SettingSaying, NoMemory>
     if host.rest.is_empty() {
         return Ok(SettingSaying::Wrong(SettingAdvice::Form(SettingWord::Server)));
     }
-    let Some(port) = port(numeral.word) else {
+    let Some(port) = port(without_plus(numeral.word)) else {
         return Ok(SettingSaying::Wrong(SettingAdvice::Port));
     };
+    let tls = has_plus(numeral.word);
+    if !is_reached(host.word, tls) {
+        return Ok(SettingSaying::Wrong(SettingAdvice::TlsHost));
+    }
     let host = Text::from_slice(alloc, host.word)?;
     let pass = pass_of(alloc, numeral.rest)?;
-    let address = Address { host, port };
+    let address = Address { host, port, tls };
     Ok(SettingSaying::Server(Server { address, pass }))
 }
 

@@ -12,8 +12,8 @@ pub struct Settings {
     pub station: Station,
     /// The nick under which it connects.
     pub nick: Text,
-    /// The channels that it joins, in order. Each is a channel name.
-    pub channels: Texts,
+    /// The channels that it joins, in order.
+    pub channels: ChannelSettings,
     /// The servers that it tries, in turn: one or more.
     pub servers: Servers,
     /// Where the hub listens; a leaf has it, and no other bot.
@@ -104,19 +104,26 @@ pub struct LeafLine {
 /// Leaves, in the order of their lines.
 pub type LeafLines = Seq<LeafLine>;
 
-/// A host and a port.
+/// A host and a port, and whether the connection is encrypted.
 #[derive(Debug)]
 pub struct Address {
-    /// A name or an address, one word.
+    /// A name or an address, one word. If `tls` is true, it has only letters, digits, `.`, `-`, `_` and `:`.
     pub host: Text,
     /// 1 to 65,535.
     pub port: u16,
+    /// Whether a plus stands before the port: the connection is encrypted by TLS, and goes through a tunnel on this
+    /// machine.
+    pub tls: bool,
 }
 
 // By hand, so that this is proved once, and not in each function in which one ends.
 impl Drop for Address {
     fn drop(self) {
-        let Address { host: _, port: _ } = self;
+        let Address {
+            host: _,
+            port: _,
+            tls: _,
+        } = self;
     }
 }
 
@@ -138,6 +145,25 @@ impl Drop for Server {
         } = self;
     }
 }
+
+/// A channel to join.
+#[derive(Debug)]
+pub struct ChannelSetting {
+    /// A channel name.
+    pub name: Text,
+    /// The key with which the bot joins it, if there is one ([`is_key`](crate::is_key)).
+    pub key: Option<Text>,
+}
+
+// By hand, so that this is proved once, and not in each function in which one ends.
+impl Drop for ChannelSetting {
+    fn drop(self) {
+        let ChannelSetting { name: _, key: _ } = self;
+    }
+}
+
+/// Channels, in order.
+pub type ChannelSettings = Seq<ChannelSetting>;
 
 /// Servers, in order.
 pub type Servers = Seq<Server>;

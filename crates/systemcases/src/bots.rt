@@ -192,7 +192,8 @@ fn made<R: AllocGlobal + Files<File = File> + Clock>(rt: &R, is_named: bool) -> 
     }
 }
 
-fn is_made<R: AllocGlobal + Files<File = File> + Clock>(
+/// Makes a journal in a folder that was taken, and names it if `is_named`. Returns whether that worked.
+pub fn is_made<R: AllocGlobal + Files<File = File> + Clock>(
     rt: &R,
     folder: &BotFolder,
     is_named: bool,
@@ -278,6 +279,7 @@ fn word_of_fault(fault: FolderFault) -> &'static str {
         FolderFault::ShortNumber(_) => "too short a number",
         FolderFault::LongBook => "no room in its book",
         FolderFault::NoBot => "no bot",
+        FolderFault::AsideBefore => "put aside before",
         FolderFault::Unusable => "unusable",
         FolderFault::ProcessFiles => "too many files of this process",
         FolderFault::MachineFiles => "too many files of this machine",

@@ -3,7 +3,7 @@ use crate::meeting::{guest_of, heard, hears};
 use crate::seen::{Seen, yes};
 use crate::texts::{given, taken};
 use bytetext::Failure;
-use net::{Arrival, DialFault, DialTokens, Dialling, TcpDoor, TcpSocket, Watch};
+use net::{AnySocket, Arrival, DialFault, DialTokens, Dialling, TcpDoor, TcpSocket, Watch, Way};
 use std::fs::File;
 use std::io;
 use std::net::{Ipv4Addr, Net, SocketAddr};
@@ -39,7 +39,10 @@ where
     let registry = watch.registry();
     match dialling.connect(rt, registry, TOKENS, b"127.0.0.1", address.port(), 0) {
         Ok(Some(dialled)) => {
-            seen.note("it leads to the door", yes(dialled.address == address));
+            seen.note(
+                "it leads to the door",
+                yes(dialled.way == Way::Tcp(address)),
+            );
             meet(seen, &mut watch, &door, dialled.socket)?;
         }
         Ok(None) => seen.note("it leads to the door", "looked up"),
@@ -59,7 +62,7 @@ fn is_unreadable(error: Option<Failure<DialFault>>) -> bool {
 }
 
 // Lets the caller in, and has both ends send something.
-fn meet(seen: &mut Seen, watch: &mut Watch, door: &TcpDoor, caller: TcpSocket) -> io::Result<()> {
+fn meet(seen: &mut Seen, watch: &mut Watch, door: &TcpDoor, caller: AnySocket) -> io::Result<()> {
     let mut caller = caller;
     watch.wait(10_000)?;
     seen.note(
@@ -97,7 +100,7 @@ fn meet(seen: &mut Seen, watch: &mut Watch, door: &TcpDoor, caller: TcpSocket) -
 }
 
 // Returns whether `caller` is at `address` of this machine.
-fn is_address_of(caller: &TcpSocket, address: SocketAddr) -> bool {
+fn is_address_of(caller: &AnySocket, address: SocketAddr) -> bool {
     match caller.own_port() {
         Some(port) => address == SocketAddr::from((Ipv4Addr::LOCALHOST, port)),
         None => false,

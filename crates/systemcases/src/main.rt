@@ -24,6 +24,7 @@ mod connections;
 mod descriptors;
 mod doors;
 mod folders;
+mod heirs;
 mod keeping;
 mod logs;
 mod meeting;
@@ -39,6 +40,7 @@ use crate::connections::connections;
 use crate::descriptors::{closed_under, low_descriptor};
 use crate::doors::doors;
 use crate::folders::whole_folder;
+use crate::heirs::heir_folders;
 use crate::logs::logs;
 use crate::names::{lone_files, names, tidy};
 use crate::paths::paths;
@@ -78,6 +80,8 @@ fn play<R: AllocGlobal + Files<File = File> + Clock>(rt: &R, seen: &mut Seen) {
     whole_folder(rt, seen);
     tidy(rt);
     bot_folders(rt, seen);
+    tidy(rt);
+    heir_folders(rt, seen);
     stops(rt.alloc(), seen);
 }
 

@@ -80,10 +80,24 @@ pub fn tidy<R: Files>(rt: &R) {
         "bot/made",
         "bot/leaves",
         "bot/control",
+        "bot/journal.0123456789abcdef/first",
+        "bot/journal.0123456789abcdef/second",
+        "heir/journal/first",
+        "heir/journal/second",
+        "heir/parent",
+        "heir/lock",
     ] {
         let _ = fs::remove_file(rt, file);
     }
-    for folder in ["bot/journal/second", "bot/journal", "bot/new", "bot"] {
+    for folder in [
+        "bot/journal/second",
+        "bot/journal",
+        "bot/journal.0123456789abcdef",
+        "bot/new",
+        "bot",
+        "heir/journal",
+        "heir",
+    ] {
         let _ = fs::remove_dir(rt, folder);
     }
 }

@@ -2,7 +2,7 @@
 use crate::meeting::hears;
 use crate::seen::{Seen, yes};
 use crate::texts::{opened, taken};
-use net::{UnixDoor, UnixSocket, Watch};
+use net::{DialFault, Dialling, UnixDoor, UnixSocket, Watch, Way};
 use std::io::ErrorKind;
 use std::net::Net;
 use std::rt::Files;
@@ -18,14 +18,20 @@ pub fn paths<R: AllocGlobal + Files + Net>(rt: &R, seen: &mut Seen) -> io::Resul
     let mut watch = Watch::new(rt, 8)?;
     let nobody = UnixSocket::connect_path(rt, watch.registry(), 2, PATH);
     seen.note("nothing is at the path", yes(is_missing(nobody)));
+    seen.note("so there is no tunnel", yes(has_no_tunnel(rt, &watch)));
     let door = UnixDoor::open(rt, watch.registry(), 1, PATH);
     seen.note("a door at it", opened(&door));
     let second = UnixDoor::open(rt, watch.registry(), 3, PATH);
     seen.note("a second one", opened(&second));
     if let Ok(door) = &door {
         meet(rt, seen, &mut watch, door)?;
+        seen.note("a tunnel leads to it", dialled(rt, &watch));
     }
     drop(door);
+    seen.note(
+        "without it there is no tunnel",
+        yes(has_no_tunnel(rt, &watch)),
+    );
     let nobody = UnixSocket::connect_path(rt, watch.registry(), 2, PATH);
     seen.note("nobody listens at it any more", yes(nobody.is_err()));
     seen.note("its file is left", yes(fs::remove_file(rt, PATH).is_ok()));
@@ -37,6 +43,22 @@ fn is_missing(connected: io::Result<UnixSocket>) -> bool {
         Ok(_) => false,
         Err(error) => error.kind() == ErrorKind::NotFound,
     }
+}
+
+// What comes of a try to connect through a tunnel at the path.
+fn dialled<R: Net>(rt: &R, watch: &Watch) -> &'static str {
+    let dialling = Dialling::new(0, 300, 1);
+    match dialling.connect_path(rt, watch.registry(), 5, PATH) {
+        Ok(dialled) => yes(dialled.way == Way::Tunnel && dialled.socket.own_port().is_none()),
+        Err(_) => "refused",
+    }
+}
+
+// Whether a try to connect through a tunnel at the path finds none.
+fn has_no_tunnel<R: Net>(rt: &R, watch: &Watch) -> bool {
+    let dialling = Dialling::new(0, 300, 1);
+    let tried = dialling.connect_path(rt, watch.registry(), 5, PATH);
+    matches!(tried, Err(DialFault::NoTunnel))
 }
 
 // Connects, is let in, and sends both ways.

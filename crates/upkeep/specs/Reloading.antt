@@ -25,7 +25,7 @@ abbrev pub same_station : Station → Station → Bool
 same_station old new = old.number == new.number && old.leaves == new.leaves
 
 abbrev pub is_at : Address → Address → Bool
-is_at old new = old.port == new.port && bytes_eq old.host new.host
+is_at old new = old.port == new.port && (same_flag old.tls new.tls && bytes_eq old.host new.host)
 
 abbrev pub same_address : Option Address → Option Address → Bool
 same_address None None = true

@@ -61,7 +61,7 @@ fn same_address(old: &Option<Address>, new: &Option<Address>) -> bool
 fn is_at(old: &Address, new: &Address) -> bool
     ensures { result ≡ is_at old.now new.now }
 {
-    old.port == new.port && old.host.as_bytes() == new.host.as_bytes()
+    old.port == new.port && old.tls == new.tls && old.host.as_bytes() == new.host.as_bytes()
 }
 
 // Whether the same leaves may only read, in whatever order.

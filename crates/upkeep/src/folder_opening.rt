@@ -2,7 +2,7 @@
 use crate::ending::{RunError, of_folder};
 use crate::space::Space;
 use administrators::Admins;
-use botfolder::{BotFolder, FolderFault};
+use botfolder::{BotFolder, FolderFault, make_tunnels};
 use net::Watch;
 use settings::Settings;
 use std::fs::File;
@@ -10,8 +10,9 @@ use std::net::Net;
 use std::rt::Files;
 use std::str;
 use std::time::Clock;
+use tunnels::has_tunnels;
 
-/// Takes the folder of a bot for this program.
+/// Takes the folder of a bot for this program. Creates the folder of its tunnels in it if `settings` have one.
 ///
 /// # Errors
 /// `Folder`, `NoNet`, `NoMade` and `NoMemory`, as [`RunError`] describes them.
@@ -22,10 +23,16 @@ pub fn folder_of<R: AllocGlobal + Files<File = File> + Clock>(
     let Ok(path) = str::from_utf8(settings.folder.as_bytes()) else {
         return Err(RunError::Folder(FolderFault::Unusable));
     };
-    match BotFolder::take(rt, path) {
-        Ok(folder) => Ok(folder),
-        Err(error) => Err(of_folder(error)),
+    let folder = match BotFolder::take(rt, path) {
+        Ok(folder) => folder,
+        Err(error) => return Err(of_folder(error)),
+    };
+    if has_tunnels(settings) {
+        if let Err(error) = make_tunnels(rt, path) {
+            return Err(of_folder(error));
+        }
     }
+    Ok(folder)
 }
 
 /// Opens the door for admins.

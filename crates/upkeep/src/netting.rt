@@ -9,16 +9,17 @@ use bytetext::{Failure, NoMemory};
 use net::{DoorFault, Log, Registry, literal};
 use peers::{
     Book, Doubted, DrawnNumber, HubConnection, HubLinks, HubStation, LeafStation, Links,
-    ListenFault, Secret, SecretFault, doubt_in, key_of, leaf_key,
+    ListenFault, ListenPlace, Secret, SecretFault, doubt_in, key_of, leaf_key, tunnel_key_line,
 };
 use sealing::Key;
 use settings::{Settings, Station};
 use std::alloc::Global;
 use std::fs::File;
-use std::net::{Net, SocketAddr};
+use std::net::Net;
 use std::random::RandomSource;
 use std::rt::Files;
-use std::str;
+use std::{fs, str};
+use tunnels::{TunnelPath, tunnel_path};
 
 /// Prepares the folder of a new bot: draws the number of the folder, unless it keeps one. A bot with the number 0 draws the
 /// number of its net, and a leaf forgets an earlier one.
@@ -146,6 +147,35 @@ fn fitting(station: Station, secret: Secret) -> Result<Option<Secret>, RunError>
     }
 }
 
+/// Returns the lines of the file of the tunnels' keys of the bot of `settings`, by its `secret`: a hub's has a line of each
+/// of its leaves, and a leaf's its own ([`tunnel_key_line`]).
+///
+/// # Errors
+/// `NoMemory` if an allocation fails.
+pub fn tunnel_keys(
+    alloc: Global,
+    settings: &Settings,
+    secret: Secret,
+) -> Result<Vec<u8>, NoMemory> {
+    let mut text = Vec::new(alloc);
+    let station = settings.station;
+    if station.number > 0 {
+        put_key(&mut text, station.number, &secret)?;
+        return Ok(text);
+    }
+    for place in 0..station.leaves {
+        put_key(&mut text, place + 1, &secret)?;
+    }
+    Ok(text)
+}
+
+// Appends the line of a leaf's key.
+fn put_key(out: &mut Vec<u8>, leaf: u16, secret: &Secret) -> Result<(), NoMemory> {
+    let line = tunnel_key_line(&own_key(leaf, *secret), leaf);
+    out.extend_from_slice(line.as_bytes())?;
+    Ok(())
+}
+
 /// Warns in the log, at second `now`, if a leaf knows the secret of its whole net. The seconds count from 1970-01-01 UTC.
 pub fn warn(log: &mut Log, settings: &Settings, secret: Option<Secret>, now: u64) {
     let number = settings.station.number;
@@ -242,9 +272,11 @@ fn open_hub<R: AllocGlobal + Net + Files<File = File>>(
     let Some(net) = net_of(rt, folder)? else {
         return Err(RunError::NoNet);
     };
-    let Some(address) = listen_address(settings) else {
+    let path = listen_path(settings);
+    let Some(place) = listen_place(settings, path.as_ref()) else {
         return Err(RunError::Listen(DoorFault::NotHere));
     };
+    clear(rt, place);
     let station = HubStation {
         key,
         net,
@@ -253,7 +285,7 @@ fn open_hub<R: AllocGlobal + Net + Files<File = File>>(
         book: book_of(rt, folder, settings.station.leaves)?,
         doubt: doubt_of(rt, folder)?,
     };
-    match HubLinks::open(rt, registry, address, station) {
+    match HubLinks::open(rt, registry, place, station) {
         Ok(hub) => Ok(Links::Hub(hub)),
         Err(ListenFault::Door(fault)) => Err(RunError::Listen(fault)),
         Err(ListenFault::NoMemory) => Err(RunError::NoMemory),
@@ -304,10 +336,30 @@ fn doubt_of<R: AllocGlobal + Files<File = File>>(
     }
 }
 
-// The address at which the hub listens, if the configuration has one of a machine.
-fn listen_address(settings: &Settings) -> Option<SocketAddr> {
+// The path at which the hub listens, if the port of its line listen has a plus.
+fn listen_path(settings: &Settings) -> Option<TunnelPath> {
     match &settings.listen {
-        Some(address) => literal(address.host.as_bytes(), address.port),
+        Some(address) if address.tls => tunnel_path(settings.folder.as_bytes(), address),
+        Some(_) | None => None,
+    }
+}
+
+// Where the hub listens: at the path of its tunnel alone, if the port of its line listen has a plus, else at that line's
+// address.
+fn listen_place<'a>(settings: &Settings, path: Option<&'a TunnelPath>) -> Option<ListenPlace<'a>> {
+    match &settings.listen {
+        Some(address) if address.tls => Some(ListenPlace::Path(path?.as_str())),
+        Some(address) => {
+            let address = literal(address.host.as_bytes(), address.port)?;
+            Some(ListenPlace::Address(address))
+        }
         None => None,
+    }
+}
+
+// Removes the socket that a killed hub left. This process has taken the folder in which it lies.
+fn clear<R: Files>(rt: &R, place: ListenPlace<'_>) {
+    if let ListenPlace::Path(path) = place {
+        let _gone = fs::remove_file(rt, path);
     }
 }

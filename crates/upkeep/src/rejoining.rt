@@ -11,8 +11,8 @@ use serverlink::IrcConnection;
 use settings::Settings;
 use std::alloc::Global;
 
-/// Has the connection go on by `new` settings: leaves channels that are no longer named, joins those that are new, and
-/// asks for another nick. If the server is no longer in the list, leaves it for the first of the new list.
+/// Has the connection go on by `new` settings: leaves channels that are no longer named, joins those that are new, takes
+/// the keys of the others, and asks for another nick. If the server is no longer in the list, leaves it for the first of the new list.
 ///
 /// # Errors
 /// `NoMemory` if an allocation fails.

@@ -2,7 +2,10 @@
 use crate::handshakes::{bytes_of, drawn};
 use bytetext::{Failure, Text};
 use caselines::{BAD_WORDS, CaseError, Sink, number};
-use peers::{Book, BookFault, Place, Secret, SecretFault, leaf_file_line, secret_in};
+use peers::{
+    Book, BookFault, Place, Secret, SecretFault, leaf_file_line, leaf_key as leaf_key_of,
+    secret_in, tunnel_key_line,
+};
 use sealing::Key;
 use std::alloc::Global;
 
@@ -22,6 +25,17 @@ pub fn leaf_key(words: &[Text], out: &mut Sink) -> Result<(), CaseError> {
         return Err(BAD_WORDS);
     };
     let line = leaf_file_line(&Key::new(secret.as_bytes()), number(leaf.as_bytes())?);
+    out.put(line.as_bytes());
+    Ok(())
+}
+
+/// Answers `tunnelkey SECRET NUMBER` on `out`: the leaf's line of the file of the tunnels' keys.
+pub fn tunnel_key(words: &[Text], out: &mut Sink) -> Result<(), CaseError> {
+    let [secret, leaf] = words else {
+        return Err(BAD_WORDS);
+    };
+    let leaf = number(leaf.as_bytes())?;
+    let line = tunnel_key_line(&leaf_key_of(&Key::new(secret.as_bytes()), leaf), leaf);
     out.put(line.as_bytes());
     Ok(())
 }

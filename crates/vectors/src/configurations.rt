@@ -2,8 +2,9 @@
 use bottimers::{Zone, civil, time_args};
 use bytetext::{Failure, NoMemory, Text};
 use caselines::{BAD_NUMBER, BAD_WORDS, CaseError, Sink, number};
-use settings::{Address, BindLine, LeafLine, PageSetting, Server, Settings};
+use settings::{Address, BindLine, ChannelSetting, LeafLine, PageSetting, Server, Settings};
 use std::alloc::Global;
+use tunnels::stunnel_text;
 
 // The most bytes of a file of `#`.
 const MOST: usize = 100_000;
@@ -17,6 +18,18 @@ const IN_SUMMER: u64 = 1_782_864_000;
 pub fn settings(alloc: Global, lines: &[Text], out: &mut Sink) -> Result<(), CaseError> {
     let bytes = file_of(alloc, lines)?;
     answer(alloc, &bytes, out)
+}
+
+/// Answers `tunnels LINE..` on `out`: what stunnel is told of a configuration file of these lines.
+pub fn tunnels(alloc: Global, lines: &[Text], out: &mut Sink) -> Result<(), CaseError> {
+    let bytes = file_of(alloc, lines)?;
+    match Settings::read(alloc, bytes.as_slice()) {
+        Ok(settings) => {
+            out.put(stunnel_text(alloc, &settings)?.as_slice());
+            Ok(())
+        }
+        Err(_) => Err(BAD_WORDS),
+    }
 }
 
 /// Returns the lines, with a line feed between.
@@ -69,7 +82,9 @@ fn put_settings(alloc: Global, settings: &Settings, out: &mut Sink) -> Result<()
     out.number(u64::from(settings.station.leaves));
     out.put(b" ; nick");
     put_word(settings.nick.as_bytes(), out);
-    put_texts(b" ; channel", settings.channels.as_slice(), out);
+    for channel in settings.channels.as_slice() {
+        put_channel(channel, out);
+    }
     for server in settings.servers.as_slice() {
         put_server(server, out);
     }
@@ -159,8 +174,16 @@ fn put_address(word: &[u8], address: Option<&Address>, out: &mut Sink) {
     if let Some(address) = address {
         out.put(word);
         put_word(address.host.as_bytes(), out);
-        out.put(b" ");
+        out.put(if address.tls { b" +" } else { b" " });
         out.number(u64::from(address.port));
+    }
+}
+
+fn put_channel(channel: &ChannelSetting, out: &mut Sink) {
+    out.put(b" ; channel");
+    put_word(channel.name.as_bytes(), out);
+    if let Some(key) = &channel.key {
+        put_word(key.as_bytes(), out);
     }
 }
 

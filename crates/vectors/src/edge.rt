@@ -32,6 +32,8 @@ pub fn answer(
         b"servers" => lookups::servers(alloc, words, out),
         b"settings" => configurations::settings(alloc, words, out),
         b"timeline" => seconds::timeline(words, out),
+        b"tunnelkey" => books::tunnel_key(words, out),
+        b"tunnels" => configurations::tunnels(alloc, words, out),
         b"wire" => wires::wire(alloc, words, out),
         _ => Err(NO_SUCH_CASE),
     }

@@ -55,6 +55,8 @@
 //! | `wire HEARD UNSENT STEP..` | what each step answers, with ` ; ` between |
 //! | `hmac SECRET TEXT` | the code of the text under the secret |
 //! | `leafkey SECRET NUMBER` | the line of the leaf's file |
+//! | `tunnelkey SECRET NUMBER` | the leaf's line of the file of the tunnels' keys |
+//! | `tunnels LINE..` | what stunnel is told of a configuration file of these lines |
 //! | `secret BYTES` | whose key a file of these bytes holds, and the code of the empty text under it, or why it holds none |
 //! | `hub SECRET NET LEAVES NONCE HEARD..` | what a hub says first, and then what it makes of each HEARD |
 //! | `judge SECRET NET LEAVES NONCE PLACE VERSION SUM LAST MAY HEARD` | what a hub answers the leaf in HEARD |

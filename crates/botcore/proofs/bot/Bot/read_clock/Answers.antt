@@ -20,8 +20,9 @@ returns-then-is_still_until-clause-takes g c =
     let old = c.args.self.now in
     let now = c.args.now in
     let moment : now < MOMENTS_END = omega arith in
-    let fresh = ap (λ (b : Bot). is_stale b.clock now) (sym c.self.view_is) ∙ ap (λ (k : Option ℕ). is_stale k now) (sym c.last.ensures)
-    ∙ sym c.is_stale.ensures ∙ c.if-is_stale.false in
+    let fresh = ap (λ (b : Bot). is_stale b.config.sends_at_once b.clock now) (sym c.self.view_is)
+    ∙ ap (λ (k : Option ℕ). is_stale c.self.inside.config.sends_at_once k now) (sym c.last.ensures)
+    ∙ sym c.is_stale.ensures.stale ∙ c.if-is_stale.false in
     let none = seconds_none old.config.zone old.timers (seconds_run old.clock now) (sym c.is_still_until.ensures ∙ c.if-is_still_until.true) in
     seconds-reading g.P.Promise.promised c.args.store.now old c.pass_to.new.self now c.quiet_report.result moment fresh
     (quiet_takes g.P.Promise.promised c.args.store.now old c.pass_to.new.self now c.pass_to.result c.quiet_report.result none
@@ -36,8 +37,9 @@ returns-in-Err-clause-takes g c =
     let old = c.args.self.now in
     let now = c.args.now in
     let moment : now < MOMENTS_END = omega arith in
-    let fresh = ap (λ (b : Bot). is_stale b.clock now) (sym c.self.view_is) ∙ ap (λ (k : Option ℕ). is_stale k now) (sym c.last.ensures)
-    ∙ sym c.is_stale.ensures ∙ c.if-is_stale.false in
+    let fresh = ap (λ (b : Bot). is_stale b.config.sends_at_once b.clock now) (sym c.self.view_is)
+    ∙ ap (λ (k : Option ℕ). is_stale c.self.inside.config.sends_at_once k now) (sym c.last.ensures)
+    ∙ sym c.is_stale.ensures.stale ∙ c.if-is_stale.false in
     seconds-reading g.P.Promise.promised c.args.store.now old old now c.cut_short.result moment fresh
     (none-seconds g.P.Promise.promised c.args.store.now old old now c.cut_short.result refl (c.cut_short.ensures ∙ ap cut_short c.empty.ensures))
 
@@ -46,8 +48,9 @@ returns-in-Err-call_procs-clause-takes g c =
     let old = c.args.self.now in
     let now = c.args.now in
     let moment : now < MOMENTS_END = omega arith in
-    let fresh = ap (λ (b : Bot). is_stale b.clock now) (sym c.self.view_is) ∙ ap (λ (k : Option ℕ). is_stale k now) (sym c.last.ensures)
-    ∙ sym c.is_stale.ensures ∙ c.if-is_stale.false in
+    let fresh = ap (λ (b : Bot). is_stale b.config.sends_at_once b.clock now) (sym c.self.view_is)
+    ∙ ap (λ (k : Option ℕ). is_stale c.self.inside.config.sends_at_once k now) (sym c.last.ensures)
+    ∙ sym c.is_stale.ensures.stale ∙ c.if-is_stale.false in
     let occasions = c.as_slice.result.now in
     let all = subst (AreOccasions (seconds_of old.config.zone old.timers (seconds_run old.clock now))) (sym c.as_slice.ensures.value)
     c.in-Ok.ensures.occasions in
@@ -61,8 +64,9 @@ returns-in-Ok-settle_at-clause-takes g c =
     let old = c.args.self.now in
     let now = c.args.now in
     let moment : now < MOMENTS_END = omega arith in
-    let fresh = ap (λ (b : Bot). is_stale b.clock now) (sym c.self.view_is) ∙ ap (λ (k : Option ℕ). is_stale k now) (sym c.last.ensures)
-    ∙ sym c.is_stale.ensures ∙ c.if-is_stale.false in
+    let fresh = ap (λ (b : Bot). is_stale b.config.sends_at_once b.clock now) (sym c.self.view_is)
+    ∙ ap (λ (k : Option ℕ). is_stale c.self.inside.config.sends_at_once k now) (sym c.last.ensures)
+    ∙ sym c.is_stale.ensures.stale ∙ c.if-is_stale.false in
     let occasions = c.as_slice.result.now in
     let all = subst (AreOccasions (seconds_of old.config.zone old.timers (seconds_run old.clock now))) (sym c.as_slice.ensures.value)
     c.in-Ok.ensures.occasions in
@@ -87,8 +91,9 @@ returns-clause-takes g c =
     let old = c.args.self.now in
     let now = c.args.now in
     let moment : now < MOMENTS_END = omega arith in
-    let fresh = ap (λ (b : Bot). is_stale b.clock now) (sym c.self.view_is) ∙ ap (λ (k : Option ℕ). is_stale k now) (sym c.last.ensures)
-    ∙ sym c.is_stale.ensures ∙ c.if-is_stale.false in
+    let fresh = ap (λ (b : Bot). is_stale b.config.sends_at_once b.clock now) (sym c.self.view_is)
+    ∙ ap (λ (k : Option ℕ). is_stale c.self.inside.config.sends_at_once k now) (sym c.last.ensures)
+    ∙ sym c.is_stale.ensures.stale ∙ c.if-is_stale.false in
     let occasions = c.as_slice.result.now in
     let told = told_of (bot_setting g.P.Promise.promised c.args.store.now old) occasions in
     let all = subst (AreOccasions (seconds_of old.config.zone old.timers (seconds_run old.clock now))) (sym c.as_slice.ensures.value)

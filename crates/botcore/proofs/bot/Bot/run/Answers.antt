@@ -5,7 +5,7 @@ use Rattle.botcore.specs.Bots.{Bot}
 use Rattle.botcore.specs.Rising.{IsReached, Rise}
 use Rattle.botcore.specs.Happenings.{passed_all, seconds_of}
 use Rattle.botcore.specs.Shown.{AreOccasions}
-use Rattle.botcore.specs.Steps.{is_stale}
+use Rattle.botcore.specs.Steps.{is_past}
 use Rattle.botcore.proofs.RunningLemmas.{rise_run, passed_run, last_after_reading}
 use Rattle.botcore.proofs.bot.Bot.run.Goals as goal
 
@@ -14,7 +14,7 @@ run_seconds-requires g c =
     let now = c.args.now in
     let inside = c.self.inside in
     let seconds = c.as_slice.ensures.value ∙ c.in-Ok.ensures.seconds ∙ ap (λ (k : Option ℕ). seconds_run k now) c.in_ok-clock.ensures.equal in
-    let fresh = ap (λ (b : Bot). is_stale b.clock now) c.self.view_is ∙ c.requires.above in
+    let fresh = ap (λ (b : Bot). is_past b.clock now) c.self.view_is ∙ c.requires.above in
     record {
       rise = subst (λ (h : Held). Rise h.last c.as_slice.result.now) (sym c.in_ok-timers.ensures)
           (subst (Rise inside.timers.last) (sym seconds) (rise_run inside.clock inside.timers.last now c.self.invariant.0 c.requires.moment fresh));
@@ -25,7 +25,7 @@ returns-clause-reading g c =
     let now = c.args.now in
     let inside = c.self.inside in
     let seconds = c.as_slice.ensures.value ∙ c.in-Ok.ensures.seconds ∙ ap (λ (k : Option ℕ). seconds_run k now) c.in_ok-clock.ensures.equal in
-    let fresh = ap (λ (b : Bot). is_stale b.clock now) c.self.view_is ∙ c.requires.above in
+    let fresh = ap (λ (b : Bot). is_past b.clock now) c.self.view_is ∙ c.requires.above in
     let ran = c.in_ok-occasions.ensures.passed ∙ ap (λ (h : Held). passed_all h c.as_slice.result.now) c.in_ok-timers.ensures
     ∙ ap (passed_all inside.timers) seconds in
     let read = c.in-Ok.ensures.moved ∙ ap (λ (k : Option ℕ). Some (last_after k now)) c.in_ok-clock.ensures.equal
@@ -38,7 +38,7 @@ pub returns-clause-clock : goal.returns-clause-clock
 returns-clause-clock g c =
     let now = c.args.now in
     let inside = c.self.inside in
-    let fresh = ap (λ (b : Bot). is_stale b.clock now) c.self.view_is ∙ c.requires.above in
+    let fresh = ap (λ (b : Bot). is_past b.clock now) c.self.view_is ∙ c.requires.above in
     c.in-Ok.ensures.moved ∙ ap (λ (k : Option ℕ). Some (last_after k now)) c.in_ok-clock.ensures.equal
     ∙ ap (λ (t : ℕ). Some t) (last_after_reading inside.clock now fresh)
 

@@ -12,7 +12,7 @@ returns-in_default-clause-done c =
     let takes = c.args.takes.now.items in
     let piece = c.args.piece.now in
     let will = given true takes c.args.self.now in
-    sym (ap (λ ns. came_each c.args.mapping one ns will) (cond-true _ (piece ∷ []) [] (sym c.is_channel_name.ensures ∙ c.if-not-is_channel_name.false))
+    sym (ap (λ ns. came_each c.args.mapping one ns will) (cond-true _ (piece ∷ []) [] (sym c.is_channel.ensures ∙ c.if-not-is_channel.false))
     ∙ on_channel-nowhere c.args.mapping piece (arrived c.args.mapping one) will (position-given c.args.mapping piece true takes c.args.self.now ∙ sym c.place.ensures ∙ c.in_default.is))
 
 pub returns-then-is_taken-clause-done : goal.returns-then-is_taken-clause-done
@@ -23,7 +23,7 @@ returns-then-is_taken-clause-done c =
     let at = c.in-Some.at in
     let will = given true takes c.args.self.now in
     let some : is_taken at takes ≡ true = ap (is_taken at) (sym c.as_slice.ensures.value) ∙ sym c.is_taken.ensures ∙ c.if-is_taken.true in
-    sym (ap (λ ns. came_each c.args.mapping one ns will) (cond-true _ (piece ∷ []) [] (sym c.is_channel_name.ensures ∙ c.if-not-is_channel_name.false))
+    sym (ap (λ ns. came_each c.args.mapping one ns will) (cond-true _ (piece ∷ []) [] (sym c.is_channel.ensures ∙ c.if-not-is_channel.false))
     ∙ on_channel-at c.args.mapping piece at (arrived c.args.mapping one) will (position-given c.args.mapping piece true takes c.args.self.now ∙ sym c.in-Some.ensures)
     ∙ given-kept at (arrived c.args.mapping one) takes c.args.self.now some c.requires)
 
@@ -55,5 +55,5 @@ returns-clause-done c =
     let none = ap (is_taken at) (sym c.as_slice.ensures.value) ∙ sym c.is_taken.ensures ∙ c.if-is_taken.false in
     c.in_ok-take.ensures.taken.done ∙ ap (λ f. given true takes (on_place at f cs)) c.in_ok-task.ensures.done
     ∙ given-other true at (arrived c.args.mapping one) takes cs none
-    ∙ sym (ap (λ ns. came_each c.args.mapping one ns will) (cond-true _ (piece ∷ []) [] (sym c.is_channel_name.ensures ∙ c.if-not-is_channel_name.false))
+    ∙ sym (ap (λ ns. came_each c.args.mapping one ns will) (cond-true _ (piece ∷ []) [] (sym c.is_channel.ensures ∙ c.if-not-is_channel.false))
     ∙ on_channel-at c.args.mapping piece at (arrived c.args.mapping one) will (position-given c.args.mapping piece true takes cs ∙ sym c.in-Some.ensures))

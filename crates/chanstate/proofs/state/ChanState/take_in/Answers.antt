@@ -1,5 +1,5 @@
 use Rattle.std.proofs.Common.{◌∙◌, ap, sym}
-use Rattle.chanstate.specs.Items.{Renamed, Titled, NamesTold, Addressed, channels_in, names_in}
+use Rattle.chanstate.specs.Items.{Renamed, Titled, NamesTold, Addressed, names_in}
 use Rattle.chanstate.specs.Channels.{on_channel}
 use Rattle.chanstate.specs.Members.{shown_each}
 use Rattle.chanstate.specs.Memory.{any_adds}
@@ -14,10 +14,9 @@ returns-in-Join c =
     let s = c.args.self.now in
     let is = c.in-Join.ensures in
     let person = c.in-Join.person in
-    let names = channels_in c.in-Join.list.now in
-    c.note_join.ensures ∙ ap (λ b. record s { support = joined_if b s.support }) c.names_channel.ensures
+    c.note_join.ensures ∙ ap (λ b. record s { support = joined_if b s.support }) c.names_channel-joined.ensures
     ∙ sym (ap (λ items. steps items s) (sym is)
-    ∙ joins_none person.nick.now person.user.now person.host.now names s (ap (λ items. any_adds items s) is ∙ c.requires))
+    ∙ joins_none person.nick.now person.user.now person.host.now c.in-Join.list.now s (ap (λ items. any_adds items s) is ∙ c.requires))
 
 pub returns-in-Nick : goal.returns-in-Nick
 returns-in-Nick c =

@@ -1,10 +1,11 @@
-use Rattle.std.proofs.Common.{◌++◌, flat_map, sym, ap, ◌∙◌, map-id}
+use Rattle.std.proofs.Common.{flat_map, sym, subst, ◌∙◌, map-id}
 use Rattle.std.proofs.lemmas.Iterator.{YieldsList-from_chars}
 use Rattle.std.proofs.lemmas.Iterator.Consumers.{YieldsList-end}
 use Rattle.page.specs.Marks.{shown_char}
+use Rattle.page.specs.Writing.{Adds}
 use Rattle.page.proofs.sheet.Sheet.put_chars.Goals as goal
 
 pub returns : goal.returns
 returns c =
     let end = YieldsList-end (YieldsList-from_chars c.args.text.now c.utf8.text cc) c.loop-c.yielded _ c.loop-c.yielded_by _ _ c.in-None.is c.next.ensures.steps in
-    c.loop-c.invariant ∙ ap (λ cs. c.args.self.now ++ flat_map shown_char cs) (sym (map-id c.loop-c.yielded) ∙ end.0)
+    subst (λ cs. Adds c.args.self.now (flat_map shown_char cs) c.loop-c.self) (sym (map-id c.loop-c.yielded) ∙ end.0) c.loop-c.invariant

@@ -1,0 +1,4 @@
+mod Leaves
+mod Heirs
+pub mod Nets
+pub mod Rankings

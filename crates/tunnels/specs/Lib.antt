@@ -1,0 +1,3 @@
+pub mod Paths
+pub mod Dials
+pub mod Stunnels
