@@ -31,7 +31,7 @@ from small_server import SmallServer
 
 RATE = 50  # pages a second
 MOST = 10  # milliseconds that an answer may take longer
-PACE = 2.1  # seconds: the bot sends a line when the next second begins, if the one before went two seconds earlier
+PACE = 2.1  # seconds: the bot sends a line at once, if the one before went two seconds earlier
 PATHS = ["/", "/records", "/records?from=100", "/records?who=nick!u7@h7.example", "/log", "/metrics", "/style.css"]
 CONTROLS = re.compile(rb"[\x00-\x09\x0b\x0c\x0e-\x1f\x7f-\xff]")
 VOID = {"meta", "link", "input", "br"}
@@ -90,20 +90,20 @@ def load(port, seconds):
 
 
 def waits_of(bot, visitor, seconds):
-    """How late answers are, for so long: on IRC, where the bot sends its lines when a second begins, and at its control socket."""
-    pings, commands, end, due, number = [], [], time.monotonic() + seconds, 0.0, 0
+    """How late answers are, for so long: on IRC, and at the bot's control socket. One that doesn't come is 10 s late."""
+    pings, commands, end, due, number = {}, [], time.monotonic() + seconds, 0.0, ""
     while time.monotonic() < end:
         if time.monotonic() > due:
-            due, number = time.monotonic() + PACE, time.monotonic_ns()
+            number, due = str(time.monotonic_ns()), time.monotonic() + PACE
+            pings[number] = time.monotonic()
             visitor.say(f"PING :{number}")
         began = time.monotonic()
         is_answered = bot.answers("status")
         commands.append(time.monotonic() - began if is_answered else 10.0)
         time.sleep(0.03)
     comes(lambda: visitor.said(f"^PONG :?{number}$"))
-    zero = time.time() - time.monotonic()
-    pings += [(when + zero) % 1 for when in visitor.said("^PONG ") if when > end - seconds]
-    return pings, commands
+    heard = {number: visitor.said(f"^PONG :?{number}$") for number in pings}
+    return [heard[number][0] - sent if heard[number] else 10.0 for number, sent in pings.items()], commands
 
 
 def shape(waits):

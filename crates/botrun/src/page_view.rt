@@ -12,7 +12,7 @@ use peers::Links;
 use serverlink::IrcConnection;
 use settings::Settings;
 use std::alloc::Global;
-use std::net::{Ipv4Addr, SocketAddr};
+use std::net::SocketAddr;
 
 // Serves the readers of the page, if there is one: hears them, answers at most one request, and sends. A reader for whom
 // memory runs out is disconnected. Returns whether there may be more to do at once.
@@ -215,10 +215,10 @@ fn row_of(links: &Links, place: usize, version: u32) -> Option<LinkView> {
     })
 }
 
-// The address of a link: 0.0.0.0 with port 0, at which nobody is, if it goes through a tunnel.
-fn address_of(way: Way) -> SocketAddr {
+// The address of a link, unless it goes through a tunnel.
+fn address_of(way: Way) -> Option<SocketAddr> {
     match way {
-        Way::Tcp(address) => address,
-        Way::Tunnel => SocketAddr::from((Ipv4Addr::UNSPECIFIED, 0)),
+        Way::Tcp(address) => Some(address),
+        Way::Tunnel => None,
     }
 }

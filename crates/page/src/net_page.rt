@@ -178,7 +178,10 @@ fn put_wire(alloc: Global, sheet: &mut Sheet, row: &LinkView) {
     sheet.put(b"</td>");
 }
 
-fn put_address(alloc: Global, sheet: &mut Sheet, address: SocketAddr) {
+fn put_address(alloc: Global, sheet: &mut Sheet, address: Option<SocketAddr>) {
+    let Some(address) = address else {
+        return sheet.put(b"tunnel");
+    };
     match format!(in alloc; "{}", address) {
         Ok(text) => sheet.put_text(text.as_bytes()),
         Err(_) => sheet.lack_memory(),

@@ -122,8 +122,8 @@ pub struct LinkView {
     pub unsent: usize,
     /// The second since which it is linked.
     pub since: u64,
-    /// Its address.
-    pub address: SocketAddr,
+    /// Its address; none if it is linked through a tunnel.
+    pub address: Option<SocketAddr>,
 }
 
 /// The end of a bot's log: whole lines, each with its line feed.
