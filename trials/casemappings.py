@@ -2,7 +2,7 @@
 """Runs a bot at servers that compare names by ascii, and by rfc1459: who is who, and which channel is which.
 
     trials/casemappings.py [PROGRAM [SERVER..]]      as root; ends within an hour; SERVER begins the name of a server
-    apt-get install inspircd libident libltdl7        without inspircd its steps are left out, with a sentence
+    apt-get install inspircd libident libltdl7 m4     without inspircd its steps are left out, with a sentence
 
 PROGRAM is the program to try, else what EGGNET names, else ours. The servers are Debian's: ngircd, ircd-hybrid, ircd-irc2, and
 inspircd with either casemapping. Of the first three only one can be installed, so the trial has apt fetch those that are not,

@@ -282,7 +282,7 @@ def zeros(trial):
     began = time.monotonic()
     status, text = ran_for(100, trial.words("run"))
     took = time.monotonic() - began
-    trial.tally.note("64 MB of zeros as a disk", status == 1 and "none that can be read" in text, f"{text}{took:.1f} s")
+    trial.tally.note("64 MB of zeros as a disk", status == 1 and "one that is damaged" in text, f"{text}{took:.1f} s")
     first.write_bytes(right)
 
 

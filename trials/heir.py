@@ -164,7 +164,7 @@ def old_journal(field):
     folder = f"{field.room}/old"
     os.makedirs(f"{folder}/journal", 0o700)
     os.chmod(folder, 0o700)
-    for name, text in zip(("first", "second"), journals.SECOND_LEAF):
+    for name, text in zip(("first", "second"), journals.THIRD_LEAF):
         Path(f"{folder}/journal/{name}").write_bytes(bytes.fromhex(text))
     Path(f"{folder}/net").write_text("0123456789abcdef\n", encoding="ascii")
     return folder

@@ -185,7 +185,7 @@ def folders(tally, program, room):
 
 def last_generation(tally, program, room):
     """Journals of older layouts, of the last generation, 4,294,967,295, and of the generation before."""
-    for layout in (1, 2):
+    for layout in (1, 2, 3):
         last_generation_of(tally, program, room, layout)
 
 
@@ -196,8 +196,9 @@ def last_generation_of(tally, program, room, layout):
         bot.end()
         first = Path(f"{bot.folder}/journal/first")
         held = first.read_bytes()
-        tally.note("a new journal has layout 3", held[:6] == b"\1EGGJ\3", held[:6])
-        spent = held[:5] + bytes([layout]) + b"\xff" * 4 + held[10:]
+        tally.note("a new journal has layout 4", held[:6] == b"\1EGGJ\4", held[:6])
+        # Older layouts spell the base of a new bot, 15 bytes of zeros, without the sum that follows it.
+        spent = held[:5] + bytes([layout]) + b"\xff" * 4 + b"\0\0\0\x0f" + bytes(15) + b"\0"
         first.write_bytes(spent)
         used_up = f"eggnet: {bot.folder} holds a journal of an older layout that can't be rewritten"
         says(tally, "a journal whose generations are used up", [program, "run", bot.config], 1, used_up)

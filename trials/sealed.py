@@ -120,7 +120,7 @@ def frame(body):
     return struct.pack(">H", len(body)) + body
 
 
-def hello(leaf, version, layout=3):
+def hello(leaf, version, layout=4):
     """The frame of a leaf's hello."""
     return frame(struct.pack(">BBHI", 8, layout, leaf, version))
 

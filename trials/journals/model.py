@@ -9,9 +9,10 @@ import os
 import sys
 
 sys.path.insert(0, os.path.join(os.path.dirname(os.path.realpath(__file__)), ".."))
+import seals
 from stopping import Disk, Fault
 
-LAYOUT = 3    # what is written; layouts 1 and 2 are read
+LAYOUT = 4    # what is written; layouts 1 to 3 are read
 WINDOW = 8    # how many replies to a leaf, and how many requests that are out, a base has at most
 LAST = 4294967295
 FLAGS = 1 << 52
@@ -38,7 +39,18 @@ def is_handle(text):
 
 def is_mask(text):
     bang = text.find(b"!")
-    return 0 < len(text) <= 120 and all(b > 32 for b in text) and bang >= 0 and b"@" in text[bang + 1:]
+    is_short = 0 < len(text) <= 120 and all(b > 32 for b in text)
+    return is_short and (bang >= 0 and b"@" in text[bang + 1:] or is_account(text))
+
+
+def is_account(text):
+    """$a:NAME, an account of the network."""
+    return text[:3] == b"$a:" and len(text) > 3 and not any(b in b"!@*?" for b in text[3:])
+
+
+def is_person(text):
+    """nick!user@host."""
+    return is_mask(text) and not is_account(text) and not any(b in b"*?" for b in text)
 
 
 def is_channel(text):
@@ -105,7 +117,14 @@ class Reader:
         return [self.ban_channel(), self.mask(), self.handle(), self.num(8), self.text(lambda text: is_line(text, 100))]
 
     def change(self):
+        """Who asks, none for a change in nobody's name, and the kind and the fields of the edit."""
         kind = self.num(1)
+        if kind != 12 or self.layout < 4:
+            return None, *self.edit(kind)
+        asker = self.text(is_person), self.num(1, 3)
+        return asker, *self.edit(self.num(1))
+
+    def edit(self, kind):
         if kind in (10, 11) and self.layout == 1:
             raise Bad
         fields = {
@@ -148,8 +167,12 @@ class Reader:
         found["info"] = b"" if self.layout == 1 else self.info()
         return found
 
+    def code(self):
+        """The number of a code; layouts 1 to 3 had none for a right."""
+        return self.num(1, 13 if self.layout == LAYOUT else 12)
+
     def answer(self):
-        code = self.num(1, 12)
+        code = self.code()
         return (code, self.num(4)) if code == 0 else (code,)
 
     def done(self):
@@ -169,12 +192,12 @@ def read_base(data, layout):
     base["records"] = [reader.record() for _ in range(reader.num(2))]
     base["replies"] = [(reader.num(2), reader.num(4), reader.answer()) for _ in range(reader.num(2))]
     base["last"] = reader.num(4)
-    if layout == LAYOUT:
+    if layout >= 3:
         base["out"] = [(reader.num(4), reader.change()) for _ in range(reader.num(1, WINDOW + 1))]
     else:
         base["out"] = [(base["last"], reader.change()) for _ in range(reader.num(1, 2))]
     reader.done()
-    if not are_in_turn(base["replies"], WINDOW if layout == LAYOUT else 1) or not are_within(base["last"], base["out"]):
+    if not are_in_turn(base["replies"], WINDOW if layout >= 3 else 1) or not are_within(base["last"], base["out"]):
         raise Bad
     if base["last"] or base["out"] if base["bot"] == 0 else base["replies"]:
         raise Bad
@@ -201,7 +224,7 @@ def read_entry(data, layout):
     if kind == 1:
         entry = kind, reader.num(2), reader.num(4), reader.change()
     elif kind == 2:
-        entry = kind, reader.num(2), reader.num(4), reader.num(1, 12)
+        entry = kind, reader.num(2), reader.num(4), reader.code()
         if entry[3] == 0:
             raise Bad
     elif kind in (3, 4):
@@ -221,7 +244,9 @@ def ban_bytes(ban):
 
 
 def change_bytes(change):
-    kind, fields = change
+    asker, kind, fields = change
+    if asker:
+        return b"\x0c" + sized(asker[0]) + num(asker[1], 1) + change_bytes((None, kind, fields))
     if kind == 8:
         return b"\x08" + ban_bytes(fields)
     width = 1 if kind == 11 else 8
@@ -266,15 +291,27 @@ def read_disk(data):
     if reader.take(4) != b"EGGJ":
         raise Bad
     held = {"layout": reader.num(1), "generation": reader.num(4)}
-    if held["layout"] not in (1, 2, LAYOUT):
+    if held["layout"] not in range(1, LAYOUT + 1):
         raise Bad
-    held["base"] = read_base(reader.take(reader.num(4)), held["layout"])
+    held["seal"] = seals.first(held["layout"], held["generation"])
+    held["base"] = read_base(read_value(reader, held), held["layout"])
     held["entries"] = []
     while reader.data[:1] == b"\1":
         reader.take(1)
-        held["entries"].append(read_entry(reader.take(reader.num(4)), held["layout"]))
+        held["entries"].append(read_entry(read_value(reader, held), held["layout"]))
     held["gate"] = len(data) - len(reader.data)
     return held
+
+
+def read_value(reader, held):
+    """The next value of a disk. In layout 4 it carries its sum."""
+    text = reader.take(reader.num(4))
+    if held["layout"] < 4:
+        return text
+    body, held["seal"] = seals.opened(held["seal"], text)
+    if body is None:
+        raise Bad
+    return body
 
 
 class Journal:
@@ -295,7 +332,7 @@ class Journal:
         found = held[self.active]
         self.layout, self.generation, self.gate = found["layout"], found["generation"], found["gate"]
         self.idle_open = held[1 - self.active] is not None
-        self.base, self.entries = found["base"], found["entries"]
+        self.base, self.entries, self.seal = found["base"], found["entries"], found["seal"]
         gates = [one["gate"] if one else 0 for one in held]
         self.whole = all(gate < len(one) for gate, one in zip(gates, data))
 
@@ -311,7 +348,7 @@ class Journal:
     def append(self, entry):
         if self.spent:
             raise Code("J3")
-        disk, text = self.disks[self.active], entry_bytes(entry)
+        disk, (text, self.seal) = self.disks[self.active], seals.sealed(self.seal, entry_bytes(entry))
         self.put([(disk, self.gate + 1, num(len(text), 4) + text + b"\0"), (disk, self.gate, b"\1")])
         self.gate += 5 + len(text)
 
@@ -320,18 +357,22 @@ class Journal:
             raise Code("J3")
         if self.generation == LAST:
             raise Code("J4")
-        disk, text = self.disks[1 - self.active], base_bytes(base)
-        head = b"EGGJ" + num(LAYOUT, 1) + num(self.generation + 1, 4) + num(len(text), 4)
+        disk, head, text, seal = self.disks[1 - self.active], *written(self.generation + 1, base)
         closing = [(disk, 0, b"\0")] if self.idle_open else []
         self.put(closing + [(disk, 1, head + text + b"\0"), (disk, 0, b"\1")])
-        self.active, self.idle_open, self.layout = 1 - self.active, True, LAYOUT
+        self.active, self.idle_open, self.layout, self.seal = 1 - self.active, True, LAYOUT, seal
         self.generation, self.gate = self.generation + 1, 14 + len(text)
+
+
+def written(generation, base):
+    """What is written of a base: the head of its disk, its text, and the seal behind it."""
+    text, seal = seals.sealed(seals.first(LAYOUT, generation), base_bytes(base))
+    return b"EGGJ" + num(LAYOUT, 1) + num(generation, 4) + num(len(text), 4), text, seal
 
 
 def create(disks, base):
     first, second = disks
-    text = base_bytes(base)
-    head = b"EGGJ" + num(LAYOUT, 1) + num(1, 4) + num(len(text), 4)
+    head, text, _ = written(1, base)
     try:
         for disk, at, data in [(second, 0, b"\0"), (first, 0, b"\0"), (first, 1, head + text + b"\0"), (first, 0, b"\1")]:
             disk.write(at, data)

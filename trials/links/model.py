@@ -5,21 +5,27 @@ It was written from the rules of the link, of a journal on two disks and of a us
 from no code of this repository. `scripts.py` beside it writes the steps.
 """
 import os
+import re
 import sys
 
 sys.path.insert(0, os.path.join(os.path.dirname(os.path.realpath(__file__)), ".."))
+import seals
 from stopping import Disk, Fault
 
 LAST = 4294967295
-LAYOUT = 3    # what is written; layouts 1 and 2 are read, and put anew where a link is opened
+LAYOUT = 4    # what is written; layouts 1 to 3 are read, and put anew where a link is opened
 WINDOW = 8    # how many requests of a leaf are out at most, and how many replies to a leaf are kept
 
 
 # ---- text
 
-def fold(text):
-    """The lower case of RFC 2812."""
-    return bytes(b + 32 if 65 <= b <= 93 else 94 if b == 126 else b for b in text)
+MAPPINGS = ["ascii", "strict-rfc1459", "rfc1459"]
+
+
+def fold(text, mapping=2):
+    """The lower case of a casemapping, of RFC 2812 where none is said."""
+    last = 90 if mapping == 0 else 93
+    return bytes(b + 32 if 65 <= b <= last else 94 if b == 126 and mapping == 2 else b for b in text)
 
 
 def good_handle(text):
@@ -30,7 +36,17 @@ def good_mask(text):
     if not text or len(text) > 120 or any(b <= 32 for b in text):
         return False
     bang = text.find(b"!")
-    return bang >= 0 and b"@" in text[bang + 1:]
+    return bang >= 0 and b"@" in text[bang + 1:] or is_account(text)
+
+
+def is_account(text):
+    """$a:NAME, an account of the network."""
+    return text[:3] == b"$a:" and len(text) > 3 and not any(b in b"!@*?" for b in text[3:])
+
+
+def good_person(text):
+    """nick!user@host."""
+    return good_mask(text) and not is_account(text) and not any(b in b"*?" for b in text)
 
 
 def good_channel(text):
@@ -39,6 +55,9 @@ def good_channel(text):
 
 # ---- changes and records
 
+# An edit is a tuple of its kind and its fields. A change in nobody's name is an edit; one in a person's name is a tuple of 12,
+# nick!user@host, the number of the casemapping, and the edit.
+
 class Refused(Exception):
     """A change that is refused, by its code's number."""
 
@@ -46,6 +65,8 @@ class Refused(Exception):
 def shape(change):
     """The number of the first fault of a change's shape, or 0."""
     kind = change[0]
+    if kind == 12:
+        return shape(change[3]) if good_person(change[1]) else 4
     handle = change[3] if kind == 8 else None if kind in (9, 11) else change[1]
     mask = change[2] if kind in (3, 4, 8, 9, 11) else None
     channel = change[2] if kind == 6 else change[1] if kind in (8, 9, 11) else None
@@ -98,11 +119,78 @@ def with_channel(chans, channel, flags):
     return chans[:place] + held + chans[place + 1:]
 
 
+# ---- who asks, and for what
+
+MASTER, OWNER, OP = (1 << "abcdefghijklmnopqrstuvwxyz".index(letter) for letter in "mno")
+
+
+def mask_items(mask):
+    """What a hostmask has one after the other: bytes that stand for themselves, and the wildcards as texts."""
+    found = []
+    while mask:
+        if mask[0] == 92 and mask[1:2] and mask[1] in b"?*%~\\":
+            mask = mask[1:]
+            found.append(mask[0])
+        else:
+            found.append({42: "*", 63: "?"}.get(mask[0], mask[0]))
+        mask = mask[1:]
+    return found
+
+
+def is_match(items, person, mapping):
+    pattern = b"".join({"*": b".*", "?": b"."}.get(it) or re.escape(fold(bytes([it]), mapping)) for it in items)
+    return re.fullmatch(pattern, fold(person, mapping), re.DOTALL) is not None
+
+
+def user_for(users, person, mapping):
+    """Who has the matching hostmask of most literals, the earliest of equals; none where no mask matches."""
+    most, found = -1, None
+    for user in users:
+        for items in map(mask_items, user.masks):
+            literals = sum(isinstance(it, int) for it in items)
+            if is_match(items, person, mapping) and literals > most:
+                most, found = literals, user
+    return found
+
+
+def may(users, who, edit):
+    """Whether this user, or nobody whom the records know, may ask for an edit."""
+    kind, flags = edit[0], who.glob if who else 0
+    if kind == 10:
+        return who is not None and fold(who.handle) == fold(edit[1])
+    if kind in (8, 9):
+        there = [held for name, held in who.chans if fold(name) == fold(edit[1])] if who else []
+        return any(held & (OP | MASTER | OWNER) for held in [flags, *there])
+    if kind == 11:
+        return bool(flags & (MASTER | OWNER))
+    place = user_at(users, edit[1])
+    held = 0 if place is None else users[place].glob
+    given = edit[2] if kind == 5 else 0
+    owners = [user for user in users if user.glob & OWNER]
+    if kind in (2, 5) and held & OWNER and len(owners) == 1 and not given & OWNER:
+        return False
+    return bool(flags & (OWNER if (held | given) & (MASTER | OWNER) else MASTER | OWNER))
+
+
 def apply(records, change):
     """The records after a change; or Refused."""
     fault = shape(change)
     if fault:
         raise Refused(fault)
+    if change[0] != 12:
+        return edited(records, change)
+    users, bans = records
+    _, person, mapping, edit = change
+    if not may(users, user_for(users, person, mapping), edit):
+        raise Refused(12)
+    after = edited(records, edit)
+    if edit[0] == 8 and edit[1] and sum(fold(ban[0]) == fold(edit[1]) for ban in bans) >= 100:
+        raise Refused(11)
+    return after
+
+
+def edited(records, change):
+    """The records after an edit of good shape; or Refused."""
     users, bans = records
     kind = change[0]
     if kind == 1:
@@ -135,6 +223,8 @@ def apply(records, change):
             glob = change[2]
         elif kind == 6:
             chans = with_channel(chans, change[2], change[3])
+            if len(chans) > 16:
+                raise Refused(11)
         else:
             bot = change[2]
         new = User(user.handle, user.masks, glob, chans, bot, user.info)
@@ -192,6 +282,8 @@ def text_bytes(text):
 
 def change_bytes(change):
     kind = change[0]
+    if kind == 12:
+        return num(12, 1) + text_bytes(change[1]) + num(change[2], 1) + change_bytes(change[3])
     if kind in (1, 2):
         return num(kind, 1) + text_bytes(change[1])
     if kind in (3, 4, 9, 10):
@@ -245,6 +337,14 @@ class Reader:
 
     def change(self):
         kind = self.num(1)
+        if kind == 12 and self.layout >= 4:
+            person, mapping = self.text(), self.num(1)
+            if not good_person(person) or mapping > 2:
+                raise Bad
+            return (12, person, mapping, self.edit(self.num(1)))
+        return self.edit(kind)
+
+    def edit(self, kind):
         if kind in (1, 2):
             change = (kind, self.text())
         elif kind in (3, 4, 9):
@@ -264,6 +364,13 @@ class Reader:
         if shape(change):
             raise Bad
         return change
+
+    def code(self):
+        """The number of a code; layouts 1 to 3 had none for a right."""
+        code = self.num(1)
+        if code > (12 if self.layout >= 4 else 11):
+            raise Bad
+        return code
 
     def mark(self):
         mark = self.num(1)
@@ -320,7 +427,7 @@ class Base:
             out += num(leaf, 2) + num(request, 4) + (b"\0" + num(value, 4) if kind == "Accepted" else num(value, 1))
         out += num(self.last, 4) + num(len(self.out), 1)
         for request, change in sorted(self.out.items()):
-            out += (num(request, 4) if layout == LAYOUT else b"") + change_bytes(change)
+            out += (num(request, 4) if layout >= 3 else b"") + change_bytes(change)
         return out
 
 
@@ -330,19 +437,19 @@ def read_base(data, layout):
     records = records_from([r.record() for _ in range(r.num(2))])
     replies, before = {}, 0
     for _ in range(r.num(2)):
-        leaf, request, code = r.num(2), r.num(4), r.num(1)
+        leaf, request, code = r.num(2), r.num(4), r.code()
         kept = replies.setdefault(leaf, [])
-        if leaf < before or (kept and request != kept[-1][0] + 1) or code > 11:
+        if leaf < before or (kept and request != kept[-1][0] + 1):
             raise Bad
         kept.append((request, ("Accepted", r.num(4)) if code == 0 else ("Refused", code)))
         before = leaf
-    if any(len(kept) > (WINDOW if layout == LAYOUT else 1) for kept in replies.values()):
+    if any(len(kept) > (WINDOW if layout >= 3 else 1) for kept in replies.values()):
         raise Bad
     last, out, count = r.num(4), {}, r.num(1)
-    if count > (WINDOW if layout == LAYOUT else 1):
+    if count > (WINDOW if layout >= 3 else 1):
         raise Bad
     for _ in range(count):
-        request = r.num(4) if layout == LAYOUT else last
+        request = r.num(4) if layout >= 3 else last
         if (out and request <= max(out)) or request > last:
             raise Bad
         out[request] = r.change()
@@ -369,7 +476,7 @@ def read_entry(data, layout):
     if kind == 1:
         entry = (kind, r.num(2), r.num(4), r.change())
     elif kind == 2:
-        entry = (kind, r.num(2), r.num(4), r.num(1))
+        entry = (kind, r.num(2), r.num(4), r.code())
     elif kind in (3, 4):
         entry = (kind, r.num(4), r.change())
     elif kind == 5:
@@ -417,7 +524,8 @@ class Code(Exception):
 
 
 def read_disk(data):
-    """Generation, base, entries, the place of the last gate and the layout; None where the first gate is closed."""
+    """Generation, base, entries, the place of the last gate, the layout and the last seal; None where the first gate is
+    closed."""
     if data[:1] != b"\1":
         return None
     r = Reader(data)
@@ -426,17 +534,39 @@ def read_disk(data):
         if r.take(4) != b"EGGJ":
             raise Bad
         layout = r.num(1)
-        if layout not in (1, 2, LAYOUT):
+        if not 1 <= layout <= LAYOUT:
             raise Bad
         generation = r.num(4)
-        base = read_base(r.take(r.num(4)), layout)
+        body, seal = read_value(r, layout, seals.first(layout, generation))
+        base = read_base(body, layout)
         entries = []
         while data[r.at:r.at + 1] == b"\1":
             r.take(1)
-            entries.append(read_entry(r.take(r.num(4)), layout))
+            body, seal = read_value(r, layout, seal)
+            entries.append(read_entry(body, layout))
     except Bad:
         raise Code("J2")
-    return generation, base, entries, r.at, layout
+    return generation, base, entries, r.at, layout, seal
+
+
+def read_value(r, layout, seal):
+    """The next value of a disk, and the seal behind it. In layout 4 it carries its sum."""
+    text = r.take(r.num(4))
+    if layout < 4:
+        return text, seal
+    body, seal = seals.opened(seal, text)
+    if body is None:
+        raise Bad
+    return body, seal
+
+
+def image(bodies, generation=1, layout=LAYOUT):
+    """What a disk holds that has these values, each with its sum in layout 4, and counts."""
+    out, seal = b"\1EGGJ" + num(layout, 1) + num(generation, 4), seals.first(layout, generation)
+    for body in bodies:
+        text, seal = seals.sealed(seal, body) if layout >= 4 else (body, seal)
+        out += num(len(text), 4) + text + b"\1"
+    return out[:-1] + b"\0"
 
 
 class Journal:
@@ -447,7 +577,7 @@ class Journal:
         first, second = self.disks
         second.write(0, b"\0")
         second.sync()
-        body = base.spell()
+        body, _ = seals.sealed(seals.first(LAYOUT, 1), base.spell())
         first.write(0, b"\0EGGJ" + num(LAYOUT, 1) + num(1, 4) + num(len(body), 4) + body + b"\0")
         first.sync()
         first.write(0, b"\1")
@@ -468,11 +598,11 @@ class Journal:
         if found[0] and found[1] and found[0][0] == found[1][0]:
             raise Code("J2")
         self.active = 0 if found[1] is None or (found[0] and found[0][0] > found[1][0]) else 1
-        self.generation, base, entries, self.gate, self.layout = found[self.active]
+        self.generation, base, entries, self.gate, self.layout, self.seal = found[self.active]
         return base, entries
 
     def append(self, entry):
-        disk, body = self.disks[self.active], spell_entry(entry)
+        disk, (body, self.seal) = self.disks[self.active], seals.sealed(self.seal, spell_entry(entry))
         try:
             disk.write(self.gate + 1, num(len(body), 4) + body + b"\0")
             disk.sync()
@@ -483,7 +613,8 @@ class Journal:
         self.gate += 5 + len(body)
 
     def rebase(self, base):
-        disk, body = self.disks[1 - self.active], base.spell()
+        disk, before = self.disks[1 - self.active], seals.first(LAYOUT, self.generation + 1)
+        body, self.seal = seals.sealed(before, base.spell())
         try:
             if disk.seen[:1] == b"\1":
                 disk.write(0, b"\0")
@@ -795,6 +926,10 @@ def flags_text(flags):
     return "".join(c for i, c in enumerate(LETTERS) if flags >> i & 1) or "-"
 
 
+def flags_from(text):
+    return 0 if text == b"-" else sum(1 << LETTERS.index(letter) for letter in set(text.decode()))
+
+
 def text_of(data):
     return data.decode("latin-1")
 
@@ -837,7 +972,18 @@ def detail(packet):
 
 
 def change_from(words):
-    """The change of the words `KIND FIELD..`."""
+    """The change of the words `EDIT`, or `as PERSON EDIT`, or `as PERSON CASEMAPPING EDIT`."""
+    if not words.startswith(b"as "):
+        return edit_from(words)
+    _, person, rest = words.split(b" ", 2)
+    first, _, edit = rest.partition(b" ")
+    names = [name.encode() for name in MAPPINGS]
+    mapping, edit = (names.index(first), edit) if first in names else (2, rest)
+    return 12, person, mapping, edit_from(edit)
+
+
+def edit_from(words):
+    """The edit of the words `KIND FIELD..`."""
     kind, _, rest = words.partition(b" ")
     first, _, second = rest.partition(b" ")
     if kind == b"adduser":
@@ -850,6 +996,11 @@ def change_from(words):
         return 4, first, second
     if kind == b"info":
         return 10, first, second
+    if kind in (b"global", b"bot"):
+        return 5 if kind == b"global" else 7, first, flags_from(second)
+    if kind == b"chan":
+        channel, flags = second.split(b" ")
+        return 6, first, channel, flags_from(flags)
     channel = b"" if first == b"*" else first
     if kind == b"delban":
         return 9, channel, second

@@ -6,16 +6,18 @@
 writes FOLDER/stdin and FOLDER/stdout: the worked examples, whose answers stand here and were worked out by hand; then each
 device call of each row stopped with each outcome, a restart, and `--further` random steps; then each of an opening of an
 older journal, whose answers stand here too, and `--openings` that are stopped twice; then `--runs` random runs of `--steps`
-steps. A row has one to eight requests of a leaf out: one number of them in turn, or each with `--outs all`. What is too long
-for one run of the program goes on in FOLDER/stdin.2 and FOLDER/stdout.2, and so on. `--rows` takes some of the stopped rows
-alone, `--bare` leaves the worked examples and the openings out. It tells how often each note and code comes, on standard error.
+steps. A row has one to eight requests of a leaf out: one number of them in turn, or each with `--outs all`. A call of an opening
+leaves old bytes, new ones, and one other byte in turn, or each with `--outs all`. What is too long for one run of the program
+goes on in FOLDER/stdin.2 and FOLDER/stdout.2, and so on. `--rows` takes some of the stopped rows alone, `--bare` leaves the
+worked examples and the openings out. It tells how often each note and code comes, on standard error.
 """
 import argparse
 import random
 import sys
 
 from journals import FIRST_HUB, FIRST_LEAF, FIRST_LEAF_COMPACTED, SECOND_HUB, SECOND_LEAF, SECOND_LEAF_COMPACTED
-from model import Base, Bot, LAST, LAYOUT, Net, User, WINDOW, num, spell_entry, user_bytes
+from journals import THIRD_HUB, THIRD_LEAF, THIRD_LEAF_COMPACTED
+from model import Base, Bot, LAST, LAYOUT, Net, User, WINDOW, change_bytes, image, num, spell_entry, user_bytes
 
 TEARS = ["old", "new", "0", "1", "7"]
 
@@ -54,16 +56,24 @@ class Script:
 # ---- worked examples, with the answers by hand
 
 def disk(base, entries=(), generation=1, layout=LAYOUT):
-    body = base.spell(layout)
-    out = b"\1EGGJ" + num(layout, 1) + num(generation, 4) + num(len(body), 4) + body
-    for entry in entries:
-        spelled = spell_entry(entry)
-        out += b"\1" + num(len(spelled), 4) + spelled
-    return (out + b"\0").hex()
+    return image([base.spell(layout), *map(spell_entry, entries)], generation, layout).hex()
 
 
-def base(bot, version, users=(), replies={}, last=0, out={}):
-    return Base(bot, version, (tuple(User(u) for u in users), ()), replies, last, out)
+def changed_base(base, old, new):
+    """A disk that holds a base in whose spelling bytes are others, which are given in hexadecimal."""
+    spelled = base.spell().hex()
+    assert spelled.count(old) == 1
+    return image([bytes.fromhex(spelled.replace(old, new))]).hex()
+
+
+def said_as(held, layout):
+    """The same bytes, said to be of another layout."""
+    return held[:10] + "%02x" % layout + held[12:]
+
+
+def base(bot, version, users=(), replies={}, last=0, out={}, bans=()):
+    people = tuple(u if isinstance(u, User) else User(u) for u in users)
+    return Base(bot, version, (people, tuple(bans)), replies, last, out)
 
 
 def frame(body):
@@ -81,6 +91,9 @@ def part(version, i, k, handles):
 
 
 ALICE = (1, b"alice")
+M, N, O = (1 << "abcdefghijklmno".index(letter) for letter in "mno")
+BOSS, MAL = User(b"boss", [b"boss!*@*"], N), User(b"mal", [b"mal!*@*"], M)
+BY_BOSS = (12, b"boss!b@h", 2, (1, b"alice"))    # in an owner's name
 THREE = ["leaves 1", "ask 0 adduser alice", "pump 0", "ask 0 adduser bob", "pump 0", "ask 0 adduser carl", "pump 0"]
 THREE_TOLD = ["0 Queued", "send 1 0>1 Change 1", "0 Accepted 1", "0 Queued", "send 2 0>1 Change 2", "0 Accepted 2",
               "0 Queued", "send 3 0>1 Change 3", "0 Accepted 3"]
@@ -216,19 +229,20 @@ WORKED = [
 
 # ---- journals of older layouts
 
-# the records of the journals that a program of layout 1 wrote, and one of layout 2
+# the records of the journals that a program of layout 1 wrote, one of layout 2, and one of layout 3
 FIRST_RECORDS = [" user alice mo - *!*alice@home.example #egg ao", " user bob - -", " user carol - -", " user dave - -",
                  " user erin - -", " ban #egg *!*@worse.net bob 2000000000 later"]
 SECOND_RECORDS = [" user alice mo - *!*alice@home.example #egg ao", " info alice the first of us", " user bob - -", " user carol - -",
                   " info carol of the first leaf", " user dave - -", " user erin - -", " ban * *!*@bad.net alice 0 go away",
                   " sticky * *!*@bad.net", " ban #egg *!*@worse.net bob 2000000000 later", " sticky #egg *!*@worse.net"]
+THIRD_RECORDS = [*SECOND_RECORDS[:2], " user bob - s", *SECOND_RECORDS[3:5], *SECOND_RECORDS[6:]]
 
 ONE = disk(base(0, 0), [(1, 0, 0, ALICE)], layout=1)
 OUT = disk(base(1, 3), [(4, 1, ALICE)], layout=1)
 
 WORKED += [
     ("a hello of another layout",
-     ["leaves 1", "give 0 %s" % hello(1, 0, layout=1), "give 0 %s" % hello(1, 0, layout=2), "give 0 %s" % hello(9, 5, layout=4), "give 0 %s" %
+     ["leaves 1", "give 0 %s" % hello(1, 0, layout=1), "give 0 %s" % hello(1, 0, layout=3), "give 0 %s" % hello(9, 5, layout=5), "give 0 %s" %
       hello(1, 0), "give 1 %s" % hello(1, 0, layout=1), "plan 0 1 1 old", "ask 0 adduser alice", "pump 0",
       "give 0 %s" % hello(1, 0, layout=1)],
      ["0 refused S8", "0 refused S8", "0 refused S8", "0 Served 0", "1 Stray", "0 Restarted 0", "0 Queued", "0 refused S5",
@@ -271,17 +285,22 @@ WORKED += [
       (disk(base(0, 2), generation=2), ONE), "stop 0 %s %s 1 1 old" % (disk(base(0, 2)), ONE),
       "hold 0 %s %s" % (disk(base(0, 2)), disk(base(0, 3), generation=2, layout=1)),
       "hold 0 %s %s" % (disk(base(0, 2), layout=1), disk(base(0, 3), generation=2, layout=2)),
-      "hold 0 %s 00" % disk(base(0, 2), layout=1).replace("4547474a01", "4547474a04"),
-      "hold 0 %s 00" % disk(base(0, 2, [b"a"]), layout=1).replace("4547474a01", "4547474a02"),
-      "hold 0 %s 00" % disk(base(0, 2, [b"a"])).replace("4547474a03", "4547474a01"),
-      "hold 0 %s 00" % disk(base(0, 2, [b"a"])).replace("4547474a03", "4547474a02"),
-      "hold 1 %s 00" % disk(base(1, 2, last=4, out={4: ALICE}), layout=2).replace("4547474a02", "4547474a03"),
-      "hold 1 %s 00" % disk(base(1, 2, last=4, out={4: ALICE})).replace("4547474a03", "4547474a02"),
+      "hold 0 %s 00" % said_as(disk(base(0, 2), layout=1), 5), "hold 0 %s 00" % said_as(disk(base(0, 2, [b"a"]), layout=1), 2),
+      "hold 0 %s 00" % said_as(disk(base(0, 2, [b"a"]), layout=3), 1),
+      "hold 0 %s 00" % said_as(disk(base(0, 2, [b"a"]), layout=3), 2),
+      "hold 1 %s 00" % said_as(disk(base(1, 2, last=4, out={4: ALICE}), layout=2), 3),
+      "hold 1 %s 00" % said_as(disk(base(1, 2, last=4, out={4: ALICE}), layout=3), 2),
       "hold 0 %s 00" % disk(base(0, 2, [b"a"]), [(1, 0, 0, (10, b"a", b"hi"))], layout=1),
       "hold 0 %s 00" % disk(base(0, 2, [b"a"]), [(1, 0, 0, (10, b"a", b"hi"))], layout=2),
-      "hold 0 %s 00" % disk(base(0, 2, [b"a"]), [(1, 0, 0, (10, b"a", b"hi"))])],
+      "hold 0 %s 00" % disk(base(0, 2, [b"a"]), [(1, 0, 0, (10, b"a", b"hi"))], layout=3),
+      "hold 0 %s 00" % disk(base(0, 2, [b"a"]), [(1, 0, 0, (10, b"a", b"hi"))]),
+      # layout 3 has no sums, and no changes in a person's name
+      "hold 0 %s 00" % said_as(disk(base(0, 2), layout=3), 4), "hold 0 %s 00" % said_as(disk(base(0, 2)), 3),
+      "hold 0 %s 00" % disk(base(0, 2, [BOSS]), [(1, 0, 0, BY_BOSS)], layout=3),
+      "hold 0 %s 00" % disk(base(0, 2, [BOSS]), [(1, 0, 0, BY_BOSS)])],
      ["0 Restarted 2", "0 Restarted 2", "0 refused J2", "0 Restarted 3", "0 Restarted 3", "0 refused J2", "0 refused J2",
-      "0 refused J2", "0 Restarted 2", "1 refused J2", "1 refused J2", "0 refused J2", "0 Restarted 3", "0 Restarted 3"]),
+      "0 refused J2", "0 Restarted 2", "1 refused J2", "1 refused J2", "0 refused J2", "0 Restarted 3", "0 Restarted 3",
+      "0 Restarted 3", "0 refused J2", "0 refused J2", "0 refused J2", "0 Restarted 3"]),
 ]
 
 # ---- eight requests at once
@@ -419,8 +438,8 @@ WORKED += [
      ["leaves 1"] + ["hold 1 %s 00" % disk(base(1, 3, last=last, out=asking(numbers))) for last, numbers in (
          (8, range(1, 9)), (9, range(1, 10)), (9, range(2, 10)), (8, [1]), (9, [1]), (9, [2]), (3, [4]), (4, [2, 4]),
          (LAST, [LAST - 7]), (LAST, [LAST - 8]))]
-     + ["hold 1 %s 00" % disk(base(1, 3, last=9, out=asking([5, 7]))).replace("0000000701027137", "0000000501027137"),
-        "hold 1 %s 00" % disk(base(1, 3, last=9, out=asking([5, 7]))).replace("0000000501027135", "0000000801027135"),
+     + ["hold 1 %s 00" % changed_base(base(1, 3, last=9, out=asking([5, 7])), "0000000701027137", "0000000501027137"),
+        "hold 1 %s 00" % changed_base(base(1, 3, last=9, out=asking([5, 7])), "0000000501027135", "0000000801027135"),
         "hold 1 %s 00" % disk(base(1, 3, replies={1: answers([1])})), "hold 0 %s 00" % disk(base(0, 3, last=1)),
         "hold 0 %s 00" % disk(base(0, 3, last=1, out=asking([1])))],
      ["1 Restarted 3", "1 refused J2", "1 Restarted 3", "1 Restarted 3", "1 refused J2", "1 Restarted 3", "1 refused J2",
@@ -431,7 +450,7 @@ WORKED += [
          {1: answers(range(1, 9)), 2: answers(range(4, 12))}, {1: answers(range(1, 10))}, {1: answers([4, 6])},
          {1: answers([5, 5])}, {1: answers([6, 5])}, {2: answers([7])}, {2: answers([7]), 3: answers([1])})]
      # leaf 2's before leaf 1's
-     + ["hold 0 %s 00" % disk(base(0, 200, replies={1: answers([7]), 2: answers([7])})).replace(
+     + ["hold 0 %s 00" % changed_base(base(0, 200, replies={1: answers([7]), 2: answers([7])}),
          "00010000000700" "0000006b" "00020000000700" "0000006b", "00020000000700" "0000006b" "00010000000700" "0000006b")],
      ["0 Restarted 200", "0 refused J2", "0 refused J2", "0 refused J2", "0 refused J2", "0 Restarted 200", "0 refused J2",
       "0 refused J2"]),
@@ -533,6 +552,164 @@ WORKED += [
         "send 15 0>1 Change 16", "send 16 0>2 Change 16", "0 Accepted 16", "send 17 0>2 Change 15", "send 18 0>2 Change 16",
         "0 Served 2", "2 Applied 15", "2 Old", "2 version 15 users 6 bans 2"] + SECOND_RECORDS[:7] + [" user frank - -"]
      + SECOND_RECORDS[7:]),
+]
+
+
+# ---- changes in a person's name
+
+def asked_change(number, change):
+    """An accepted change of the hub's own."""
+    return frame(b"\2" + num(number, 4) + bytes(6) + change_bytes(change))
+
+
+def asking_as(leaf, number, change):
+    """A leaf's request for this change."""
+    return frame(b"\4" + num(leaf, 2) + num(number, 4) + change_bytes(change))
+
+
+def asks(bot, *lines):
+    """Each of these is asked, and handled at once."""
+    return [step for line in lines for step in ("ask %d %s" % (bot, line), "pump %d" % bot)]
+
+
+def answered(at, *codes):
+    """What a hub with one leaf tells of such asks, the first packet under this number: a code, or the change's number."""
+    told = []
+    for code in codes:
+        told.append("0 Queued")
+        if isinstance(code, int):
+            told.append("send %d 0>1 Change %d" % (at, code))
+            at += 1
+        told.append("0 Accepted %d" % code if isinstance(code, int) else "0 Refused " + code)
+    return told
+
+
+def user_of(handle, mask, flags=0, chans=()):
+    return User(handle, [mask], flags, chans)
+
+
+# an owner and a master, and what is asked for by both, by a stranger and by nobody
+RANKS = ["adduser boss", "addhost boss boss!*@*", "global boss n", "adduser mal", "addhost mal mal!*@*", "global mal m"]
+ASKS = [
+    # a stranger has no right, whatever the records hold
+    ("as who!w@h adduser bob", "U12"), ("as who!w@h adduser boss", "U12"), ("as who!w@h deluser nobody", "U12"),
+    # a master may add and change users, but neither masters nor owners, and gives no rank
+    ("as mal!m@h adduser bob", 7), ("as mal!m@h adduser boss", "U12"), ("as mal!m@h adduser BOB", "U2"),
+    ("as mal!m@h deluser nobody", "U3"),
+    ("as mal!m@h addhost bob bob!*@*", 8), ("as mal!m@h addhost bob BOB!*@*", "U5"), ("as mal!m@h global bob o", 9),
+    ("as mal!m@h chan bob #egg f", 10),
+    ("as mal!m@h bot bob s", 11), ("as mal!m@h global bob m", "U12"), ("as mal!m@h global mal n", "U12"),
+    ("as mal!m@h addhost boss mal!*@*", "U12"), ("as mal!m@h addhost mal x!*@*", "U12"), ("as mal!m@h chan mal #egg o", "U12"),
+    ("as mal!m@h deluser mal", "U12"), ("as mal!m@h delhost mal mal!*@*", "U12"), ("as mal!m@h bot boss b", "U12"),
+    # bob is op everywhere: bans alone, and his own info
+    ("as bob!b@h addban * bad!*@* bob 0", 12), ("as bob!b@h addban #egg bad!*@* bob 0", 13), ("as bob!b@h delban #EGG bad!*@*", 14),
+    ("as bob!b@h sticky * bad!*@* 1", "U12"), ("as mal!m@h sticky * bad!*@* 1", 15), ("as bob!b@h info BOB hi there", 16),
+    ("as boss!b@h info bob no", "U12"), ("as who!w@h info nobody x", "U12"), ("as bob!b@h adduser eve", "U12"),
+    # op on a channel alone: its bans
+    ("as boss!b@h global bob -", 17), ("as boss!b@h chan bob #egg o", 18), ("as bob!b@h addban #Egg bad!*@* bob 0", 19),
+    ("as bob!b@h addban * worse!*@* bob 0", "U12"), ("as bob!b@h addban #other bad!*@* bob 0", "U12"),
+    ("as bob!b@h delban * bad!*@*", "U12"),
+    # an owner may do all, except that the last one stays; who asks in nobody's name may do that, too
+    ("as boss!b@h deluser boss", "U12"), ("as boss!b@h global boss m", "U12"), ("as boss!b@h global boss no", 20),
+    ("as boss!b@h global mal n", 21), ("as mal!m@h deluser boss", 22), ("as boss!b@h adduser eve", "U12"),
+    ("as mal!m@h global mal -", "U12"), ("global mal -", 23), ("as mal!m@h adduser eve", "U12"),
+]
+RECORDS_THEN = [" user mal - - mal!*@*", " user bob - s bob!*@* #egg o", " info bob hi there", " ban * bad!*@* bob 0",
+                " sticky * bad!*@*", " ban #Egg bad!*@* bob 0"]
+
+WORKED += [
+    ("who may ask for what at a hub; its leaf applies all that was accepted",
+     ["leaves 1"] + asks(0, *RANKS, *[line for line, _ in ASKS]) + ["show 0"] + ["deliver %d" % k for k in range(1, 24)]
+     + ["restart 1", "show 1", "restart 0", "compact 0", "restart 0", "pump 1", "deliver 24", "check"],
+     answered(1, *range(1, 7), *[code for _, code in ASKS]) + ["0 version 23 users 2 bans 2"] + RECORDS_THEN
+     + ["1 Applied %d" % n for n in range(1, 24)] + ["1 Restarted 23", "1 version 23 users 2 bans 2"] + RECORDS_THEN
+     + ["0 Restarted 23", "0 Compacted", "0 Restarted 23", "send 24 1>0 Hello 23", "1 Idle", "0 Served 0", "same"]),
+    ("the shape of who asks comes before that of the edit",
+     ["leaves 1"] + asks(0, *RANKS[:3]) + ["ask %s" % line for line in (
+         "0 as boss adduser al", "0 as *!b@h adduser al", "0 as bos?!b@h ascii adduser al", "1 as boss!bh adduser al",
+         "1 as %s!b@h adduser al" % ("b" * 117), "0 as a*!b@h adduser a*b", "0 as $a:boss adduser al", "0 as boss!b@h adduser a*b",
+         "0 as who!w@h addhost boss x", "1 as %s!b@h adduser al" % ("b" * 116))] + ["pump 1", "deliver 5"],
+     answered(1, 1, 2, 3) + ["0 refused U4"] * 3 + ["1 refused U4"] * 2 + ["0 refused U4"] * 2 + ["0 refused U1", "0 refused U4",
+      "1 Queued", "send 4 1>0 Hello 0", "send 5 1>0 Request 1", "1 Sent 1", "send 6 0>1 Refused 1 U12", "0 Refused U12"]),
+    ("a leaf asks in the name of a master, whom the hub has made none meanwhile",
+     ["leaves 1"] + asks(0, *RANKS) + ["deliver %d" % k for k in range(1, 7)]
+     + ["ask 1 as mal!m@h adduser eve", "pump 1", "ask 0 as boss!b@h global mal -", "pump 0", "ask 1 as mal!m@h global mal m",
+        "pump 1", "deliver 8", "deliver 12", "restart 0", "compact 0", "restart 0", "deliver 8", "deliver 13", "deliver 15",
+        "pump 1", "deliver 9", "ask 1 as boss!b@h adduser eve", "pump 1", "deliver 19", "deliver 21", "restart 1", "show 1",
+        "check"],
+     answered(1, *range(1, 7)) + ["1 Applied %d" % n for n in range(1, 7)]
+     + ["1 Queued", "send 7 1>0 Hello 6", "send 8 1>0 Request 1", "1 Sent 1", "0 Queued", "send 9 0>1 Change 7", "0 Accepted 7",
+        "1 Queued", "send 10 1>0 Hello 6", "send 11 1>0 Request 1", "send 12 1>0 Request 2", "1 Sent 2",
+        "send 13 0>1 Refused 1 U12", "0 Refused U12", "send 14 0>1 Refused 2 U12", "0 Refused U12", "0 Restarted 7",
+        "0 Compacted", "0 Restarted 7", "send 15 0>1 Refused 1 U12", "0 Repeat", "1 Refused U12", "1 Old",
+        "send 16 1>0 Hello 6", "send 17 1>0 Request 2", "1 Sent 2", "1 Applied 7", "1 Queued", "send 18 1>0 Hello 7",
+        "send 19 1>0 Request 2", "send 20 1>0 Request 3", "1 Sent 3", "send 21 0>1 Refused 2 U12", "0 Repeat", "1 Refused U12",
+        "1 Restarted 7", "1 version 7 users 2 bans 0", " user boss n - boss!*@*", " user mal - - mal!*@*", "same"]),
+    ("who asks is found by the casemapping that the change names",
+     ["leaves 1", "hold 0 %s 00" % disk(base(0, 5, [user_of(b"one", b"boss[!*@*", N), user_of(b"two", b"a^!*@H", M)]))]
+     + asks(0, "as boss{!b@h ascii adduser u1", "as BOSS[!b@h ascii adduser u1", "as boss{!b@h strict-rfc1459 adduser u2",
+            "as boss{!b@h rfc1459 adduser u3", "as boss{!b@h adduser u4", "as A~!b@h strict-rfc1459 adduser u5",
+            "as A~!b@h rfc1459 adduser u5", "as a^!b@h ascii adduser u6"),
+     ["0 Restarted 5"] + answered(1, "U12", 6, 7, 8, 9, "U12", 10, 11)),
+    ("who asks is the user whose mask has most literals, the earliest of equals",
+     ["leaves 1", "hold 0 %s 00" % disk(base(0, 5, [
+         user_of(b"wide", b"*!*@*", N), user_of(b"mal", b"mal!*@*", O), user_of(b"same", b"*ad!*@h*", M),
+         user_of(b"later", b"b*d!*@?*h", N), user_of(b"slash", b"w\\\\!*@*", M)]))]
+     + asks(0, "as any!a@b global wide no", "as mal!a@b adduser u1", "as mal!a@b info mal hi", "delhost mal mal!*@*",
+            "as mal!a@b info wide ho", "as bad!a@hh info same one", "as bad!a@hh info later two", "as bed!a@hh info later three",
+            "as w\\!a@b ascii info slash x", "as w|!a@b ascii info slash y", "as w|!a@b info slash z"),
+     ["0 Restarted 5"] + answered(1, 6, "U12", 7, 8, 9, 10, "U12", 11, 12, "U12", 13)),
+    ("an account of the network is a mask, and nobody's name",
+     ["leaves 1"] + asks(0, "adduser al", "addhost al $a:Al", "addhost al $a:aL", "delhost al $a:AL", "addhost al $a:[x]\\y")
+     + ["ask 0 addhost al %s" % mask for mask in ("$A:AL", "$a:", "$a:a*", "$a:a@b", "$b:ab")] + ["show 0"],
+     answered(1, 1, 2, "U5", 3, 4) + ["0 refused U4"] * 5
+     + ["0 version 4 users 1 bans 0", " user al - - $a:[x]\\y"]),
+    ("a person bans from a channel only up to a hundred bans; bans of all channels have no such limit",
+     ["leaves 1", "hold 0 %s 00" % disk(base(0, 9, [user_of(b"op", b"op!*@*", O)], bans=[
+         (b"#a", b"u%d!*@*" % n, b"op", 0, b"", False) for n in range(100)]))]
+     + asks(0, "as op!o@h addban #A u99!*@* op 0", "as op!o@h addban #A more!*@* op 0", "as op!o@h addban #b more!*@* op 0",
+            "as op!o@h addban * more!*@* op 0", "addban #a more!*@* op 0", "as op!o@h delban #a u5!*@*",
+            "as op!o@h addban #a u5!*@* op 0", "as op!o@h delban #a u6!*@*", "as op!o@h addban #a u5!*@* op 0")
+     + ["hold 0 %s 00" % disk(base(0, 9, [user_of(b"op", b"op!*@*", O)], bans=[
+         (b"", b"u%d!*@*" % n, b"op", 0, b"", False) for n in range(100)]))]
+     + asks(0, "as op!o@h addban * more!*@* op 0", "as op!o@h addban #a more!*@* op 0"),
+     ["0 Restarted 9"] + answered(1, "U8", "U11", 10, 11, 12, 13, "U11", 14, 15) + ["0 Restarted 9"] + answered(7, 10, 11)),
+    ("a hub's journal that a program of layout 3 wrote",
+     ["leaves 2", "hold 0 %s %s" % THIRD_HUB, "show 0", "give 0 %s" % hello(1, 13), "give 0 %s" % hello(1, 14)]
+     + ["give 0 %s" % request(leaf, number, b"a") for leaf, number in (
+         (1, 1), (1, 2), (1, 3), (1, 4), (1, 6), (2, 1), (2, 2), (2, 4))]
+     + ["give 0 %s" % request(1, 5, b"ALICE"), "give 0 %s" % asking_as(2, 3, (12, b"who!w@h", 2, (2, b"alice"))), "restart 0",
+        "give 0 %s" % request(1, 1, b"a"), "give 0 %s" % request(2, 3, b"a"), "show 0"],
+     ["0 Restarted 14", "0 version 14 users 4 bans 2"] + THIRD_RECORDS
+     + ["send 1 0>1 Part 14 1 1", "0 Served 1", "0 Served 0", "send 2 0>1 Accepted 1 9", "0 Repeat", "send 3 0>1 Refused 2 U2",
+        "0 Repeat", "send 4 0>1 Accepted 3 14", "0 Repeat", "send 5 0>1 Refused 4 U6", "0 Repeat", "0 Gap",
+        "send 6 0>2 Accepted 1 8", "0 Repeat", "send 7 0>2 Refused 2 U3", "0 Repeat", "0 Gap", "send 8 0>1 Refused 5 U2",
+        "0 Refused U2", "send 9 0>2 Refused 3 U12", "0 Refused U12", "0 Restarted 14", "send 10 0>1 Accepted 1 9", "0 Repeat",
+        "send 11 0>2 Refused 3 U12", "0 Repeat", "0 version 14 users 4 bans 2"] + THIRD_RECORDS),
+    ("leaves' journals that a program of layout 3 wrote",
+     ["leaves 2", "hold 1 %s %s" % THIRD_LEAF, "show 1", "pump 1", "hold 2 %s %s" % THIRD_LEAF_COMPACTED, "show 2", "pump 2",
+      "ask 2 as al!alice@home.example adduser jo", "pump 2", "compact 2", "restart 2", "pump 2", "hold 0 %s %s" % THIRD_HUB]
+     + ["deliver %d" % k for k in (3, 2, 12, 13, 14, 17, 26, 20, 23, 26, 24)] + ["show 2"],
+     ["1 Restarted 14", "1 version 14 users 4 bans 2"] + THIRD_RECORDS
+     + ["send 1 1>0 Hello 14", "send 2 1>0 Request 5", "send 3 1>0 Request 6", "1 Sent 6", "2 Restarted 14",
+        "2 version 14 users 4 bans 2"] + THIRD_RECORDS
+     + ["send 4 2>0 Hello 14", "send 5 2>0 Request 3", "send 6 2>0 Request 4", "2 Sent 4", "2 Queued", "send 7 2>0 Hello 14",
+        "send 8 2>0 Request 3", "send 9 2>0 Request 4", "send 10 2>0 Request 5", "2 Sent 5", "2 Compacted", "2 Restarted 14",
+        "send 11 2>0 Hello 14", "send 12 2>0 Request 3", "send 13 2>0 Request 4", "send 14 2>0 Request 5", "2 Sent 5",
+        "0 Restarted 14", "0 Gap", "send 15 0>1 Accepted 5 15", "send 16 0>1 Change 15", "send 17 0>2 Change 15",
+        "0 Accepted 15", "send 18 0>2 Accepted 3 16", "send 19 0>1 Change 16", "send 20 0>2 Change 16", "0 Accepted 16",
+        "send 21 0>2 Accepted 4 17", "send 22 0>1 Change 17", "send 23 0>2 Change 17", "0 Accepted 17",
+        "send 24 0>2 Accepted 5 18", "send 25 0>1 Change 18", "send 26 0>2 Change 18", "0 Accepted 18", "2 Applied 15", "2 Early",
+        "2 Applied 16", "2 Applied 17", "2 Applied 18", "2 Accepted 18", "2 version 18 users 8 bans 2"] + THIRD_RECORDS[:6]
+     + [" user %s - -" % name for name in ("frank", "hal", "ida", "jo")] + THIRD_RECORDS[6:]),
+    ("a change that nobody had the right to diverges, and is no entry",
+     ["leaves 1", "give 1 %s" % asked_change(1, BY_BOSS), "show 1", "hold 1 %s 00" % disk(base(1, 0, [BOSS])), "give 1 %s" %
+      asked_change(1, (12, b"mal!m@h", 2, (1, b"alice"))), "give 1 %s" % asked_change(1, BY_BOSS), "restart 1", "show 1",
+      "hold 0 %s 00" % disk(base(0, 0, [BOSS]), [(1, 0, 0, BY_BOSS)]),
+      "hold 0 %s 00" % disk(base(0, 0, [MAL]), [(1, 0, 0, BY_BOSS)]), "hold 1 %s 00" % disk(base(1, 0, [MAL]), [(3, 1, BY_BOSS)]), "hold 1 %s 00" % disk(base(1, 0), [(4, 1, BY_BOSS)]), "pump 1"],
+     ["1 refused S3", "1 version 0 users 0 bans 0", "1 Restarted 0", "1 refused S3", "1 Applied 1", "1 Restarted 1",
+      "1 version 1 users 2 bans 0", " user boss n - boss!*@*", " user alice - -", "0 Restarted 1", "0 refused J2", "1 refused J2",
+      "1 Restarted 0", "send 1 1>0 Hello 0", "send 2 1>0 Request 1", "1 Sent 1"]),
 ]
 
 
@@ -740,12 +917,15 @@ def stopped_rows(s, rows, outs, rng, further):
 # device calls there are, the version, the records, and what the hub answers to a hello at version 0, or the leaf to a pump
 FIRST = {0: FIRST_HUB, 1: FIRST_LEAF, 2: FIRST_LEAF_COMPACTED}
 SECOND = {0: SECOND_HUB, 1: SECOND_LEAF, 2: SECOND_LEAF_COMPACTED}
+THIRD = {0: THIRD_HUB, 1: THIRD_LEAF, 2: THIRD_LEAF_COMPACTED}
 OPENINGS = [(1, 0, {0: (ONE, "00")}, 2, 4, 1, [" user alice - -"], "0 Served 1"),
             (1, 1, {0: (disk(base(0, 3), layout=1), "00"), 1: (OUT, "00")}, 2, 4, 3, [], "1 Sent 1"),
             (1, 0, FIRST, 1, 6, 11, FIRST_RECORDS, "0 Served 1"), (1, 1, FIRST, 2, 4, 11, FIRST_RECORDS, "1 Sent 4"),
             (1, 2, FIRST, 1, 6, 11, FIRST_RECORDS, "2 Sent 1"),
             (2, 0, SECOND, 1, 6, 14, SECOND_RECORDS, "0 Served 1"), (2, 1, SECOND, 2, 4, 14, SECOND_RECORDS, "1 Sent 5"),
-            (2, 2, SECOND, 1, 6, 14, SECOND_RECORDS, "2 Sent 3")]
+            (2, 2, SECOND, 1, 6, 14, SECOND_RECORDS, "2 Sent 3"),
+            (3, 0, THIRD, 1, 6, 14, THIRD_RECORDS, "0 Served 1"), (3, 1, THIRD, 2, 4, 14, THIRD_RECORDS, "1 Sent 6"),
+            (3, 2, THIRD, 1, 6, 14, THIRD_RECORDS, "2 Sent 4")]
 
 
 def stopped_opening(s, opening, call, tear, again, rng, further):
@@ -775,10 +955,12 @@ def stopped_opening(s, opening, call, tear, again, rng, further):
     assert s.told[-1] == "same", s.lines[-30:]
 
 
-def stopped_openings(s, rng, further, more):
+def stopped_openings(s, outs, rng, further, more):
+    turn = 0
     for opening in OPENINGS:
         for call in range(1, opening[4] + 2):
-            for tear in TEARS:
+            turn += 1
+            for tear in TEARS if outs == "all" else [*TEARS[:2], TEARS[2 + turn % 3]]:
                 stopped_opening(s, opening, call, tear, None, rng, 0)
     for _ in range(more):
         opening = rng.choice(OPENINGS)
@@ -790,14 +972,28 @@ def stopped_openings(s, rng, further, more):
 
 HANDLES = ["alice", "Alice", "bob", "carl", "dan", "eve", "fred", "gus", "hal", "ida", "jo", "kim", "lou", "max[", "MAX{", "ned"]
 MASKS = ["*!*@a.net", "*!*@A.net", "bob!*@*", "*!x@b"]
+PEOPLE = ["bob!b@a.net", "BOB!x@b", "who!x@b", "who!w@h", "max[!m@a.net", "bob"]
 
 # how much of the steps are asks, pumps and deliveries; the rest are of all the other kinds
 MOODS = [(0.2, 0.25, 0.39), (0.3, 0.35, 0.2), (0.1, 0.2, 0.6), (0.15, 0.15, 0.2)]
 
 
 def random_change(rng):
-    kind = rng.choice(["adduser"] * 9 + ["deluser"] * 2 + ["addhost"] * 3 + ["delhost", "addban", "addban", "delban", "bad"])
+    """An edit, which a person asks for a third of the time."""
+    edit = random_edit(rng)
+    if rng.random() < 0.67:
+        return edit
+    return " ".join(["as", rng.choice(PEOPLE), *rng.choice([[], ["ascii"], ["strict-rfc1459"], ["rfc1459"]]), edit])
+
+
+def random_edit(rng):
+    kind = rng.choice(["adduser"] * 9 + ["deluser"] * 2 + ["addhost"] * 3 + ["delhost", "addban", "addban", "delban", "bad"]
+                      + ["global"] * 3 + ["chan", "bot"])
     handle, mask = rng.choice(HANDLES), rng.choice(MASKS)
+    if kind in ("global", "bot"):
+        return "%s %s %s" % (kind, handle, rng.choice(["n", "m", "o", "-", "mno"]))
+    if kind == "chan":
+        return "chan %s %s %s" % (handle, rng.choice(["#a", "#A"]), rng.choice(["o", "-", "n"]))
     if kind in ("adduser", "deluser"):
         return "%s %s" % (kind, handle)
     if kind in ("addhost", "delhost"):
@@ -920,7 +1116,7 @@ def main():
     stopped_rows(s, ROWS[given.rows[0]:given.rows[1]], given.outs, rng, given.further)
     stops = s.turn
     if not given.bare:
-        stopped_openings(s, rng, given.further, given.openings)
+        stopped_openings(s, given.outs, rng, given.further, given.openings)
     for _ in range(given.runs):
         random_run(s, rng, given.steps)
     for place, (said, told) in enumerate(pieces(s), 1):

@@ -16,23 +16,23 @@ use Rattle.sharelink.specs.declared.error.LinkFault.{LinkFault}
 use Rattle.sharelink.specs.declared.error.LinkFault.TheVariants as refuses
 use Rattle.sharelink.specs.declared.note.LinkNote.{LinkNote}
 use Rattle.sharelink.specs.declared.note.LinkNote.TheVariants as says
-use Rattle.administrators.specs.declared.asks.Asker.{Asker}
-use Rattle.administrators.specs.declared.asks.Asker.TheVariants.{Nobody, Admin, Person}
+use Rattle.administrators.specs.declared.asks.Recipient.{Recipient}
+use Rattle.administrators.specs.declared.asks.Recipient.TheVariants.{Nobody, Admin, Person}
 use Rattle.administrators.specs.declared.change_outcome.ChangeOutcome.{ChangeOutcome}
 use Rattle.administrators.specs.declared.change_outcome.ChangeOutcome.TheVariants.{Nothing, Accepted, Refused, Barred}
 
 -- who asked first
-abbrev pub first_asker : List Asker → Asker
+abbrev pub first_asker : List Recipient → Recipient
 first_asker [] = Nobody
 first_asker (asker ∷ askers) = asker
 
-abbrev pub is_admin : ℕ → Asker → Bool
+abbrev pub is_admin : ℕ → Recipient → Bool
 is_admin number Nobody = false
 is_admin number (Admin other) = other == number
 is_admin number (Person nick) = false
 
 -- the admin whose command is being executed, if there is one
-abbrev pub admin_if : Option ℕ → Asker
+abbrev pub admin_if : Option ℕ → Recipient
 admin_if None = Nobody
 admin_if (Some number) = Admin number
 
@@ -86,15 +86,15 @@ is_spoken Cron = false
 is_spoken timer_kind = false
 
 -- who waits for the answer to what a call asks for
-abbrev pub asker_by : Bool → List (List ℕ) → Asker
+abbrev pub asker_by : Bool → List (List ℕ) → Recipient
 asker_by spoken [] = Nobody
 asker_by spoken (nick ∷ args) = if spoken then Person nick else Nobody
 
-abbrev pub asker_in : Call → Asker
+abbrev pub asker_in : Call → Recipient
 asker_in call = asker_by (is_spoken call.kind) call.args
 
 -- one asker for each change that the call asks for
-abbrev pub askers_of : MadeCall → List Asker
+abbrev pub askers_of : MadeCall → List Recipient
 askers_of made = replicate (asks_of made) (asker_in made.call)
 
 -- ---- what a leaf's pump sends
@@ -114,7 +114,7 @@ is_request outgoing = asks_hub outgoing.packet
 -- ---- what a step says
 
 -- a change waits that this admin, or nobody, asked for
-abbrev pub queued : Option ℕ → LinkNote → List Asker → List Asker
+abbrev pub queued : Option ℕ → LinkNote → List Recipient → List Recipient
 queued asker says.Queued askers = askers ++ admin_if asker ∷ []
 queued asker says.Idle askers = askers
 queued asker (says.Sent request) askers = askers
@@ -135,7 +135,7 @@ queued asker says.Stray askers = askers
 queued asker (says.Restarted version) askers = askers
 
 -- the oldest change is accepted or refused
-abbrev pub answered : ChangeOutcome → List Asker → List Asker
+abbrev pub answered : ChangeOutcome → List Recipient → List Recipient
 answered Nothing askers = askers
 answered (Accepted n) askers = drop 1 askers
 answered (Refused fault) askers = drop 1 askers
@@ -143,6 +143,6 @@ answered (Barred fault) askers = askers
 
 -- The askers of procs' changes come first, then that of the command that is being executed. If the step settles what
 -- waits, the asker of an answered change is removed.
-abbrev pub settled : Bool → ChangeOutcome → List Asker → List Asker
+abbrev pub settled : Bool → ChangeOutcome → List Recipient → List Recipient
 settled true outcome askers = answered outcome askers
 settled false outcome askers = askers

@@ -2,7 +2,7 @@
 ghost use Rattle.std.specs.Prelude.{◌≡◌, ◌∷◌, ◌++◌, [], IfOk, OnOk, drop, replicate, count_by, sum_by};
 ghost use Rattle.std.specs.List.{list_any, flat_map};
 ghost use Rattle.std.specs.VecDeque.{deque_len};
-ghost use Rattle.administrators.specs.declared.asks.Asker.TheVariants.{Nobody};
+ghost use Rattle.administrators.specs.declared.asks.Recipient.TheVariants.{Nobody};
 ghost use Rattle.administrators.specs.Askers.{admin_if, asker_in, askers_of, asks_of, at_most_usize, first_asker, is_admin, is_ask};
 ghost use Rattle.administrators.specs.Askers.{is_ask_fault, is_spoken, queued};
 
@@ -12,9 +12,9 @@ use sharelink::{LinkFault, LinkNote};
 use std::alloc::Global;
 use std::collections::VecDeque;
 
-/// Who asked for a change.
+/// Who gets the outcome of a change.
 #[derive(Drop)]
-pub enum Asker {
+pub enum Recipient {
     /// Nobody who waits for an answer.
     Nobody,
     /// The admin with this number.
@@ -27,7 +27,7 @@ pub enum Asker {
 /// that is out by rising number, and a connection keeps the order of requests and of their answers.
 #[derive(Drop)]
 pub struct Asks {
-    askers: VecDeque<Asker>,
+    askers: VecDeque<Recipient>,
     /// The number of the admin whose command is being executed, if its answer comes later.
     pub asker: Option<u64>,
 }
@@ -61,7 +61,7 @@ impl Asks {
     ///
     /// # Errors
     /// `NoMemory` if an allocation fails.
-    pub fn put(&mut self, asker: Asker) -> Result<(), NoMemory>
+    pub fn put(&mut self, asker: Recipient) -> Result<(), NoMemory>
         ensures last { OnOk result (self.new.askers.items ≡ self.old.askers.items ++ asker ∷ []) }
         ensures same { self.new.asker ≡ self.old.asker }
     {
@@ -78,7 +78,7 @@ impl Asks {
         ensures same { self.new.asker ≡ self.old.asker }
     {
         for _ask in 0..count {
-            self.put(Asker::Nobody)?;
+            self.put(Recipient::Nobody)?;
         }
         Ok(())
     }
@@ -139,42 +139,42 @@ impl Asks {
     }
 
     /// Removes the oldest change, which is answered, and returns who asked for it.
-    pub fn settle(&mut self) -> Asker
+    pub fn settle(&mut self) -> Recipient
         ensures first { result ≡ first_asker self.old.askers.items }
         ensures rest { self.new.askers.items ≡ drop 1 self.old.askers.items }
         ensures same { self.new.asker ≡ self.old.asker }
     {
-        self.askers.pop_front().unwrap_or(Asker::Nobody)
+        self.askers.pop_front().unwrap_or(Recipient::Nobody)
     }
 }
 
 // The admin whose command is being executed, if there is one.
-fn admin_if(asker: Option<u64>) -> Asker
+fn admin_if(asker: Option<u64>) -> Recipient
     ensures { result ≡ admin_if asker }
 {
     match asker {
-        Some(number) => Asker::Admin(number),
-        None => Asker::Nobody,
+        Some(number) => Recipient::Admin(number),
+        None => Recipient::Nobody,
     }
 }
 
 // Whether the asker is the admin numbered `number`.
-fn is_admin(asker: &Asker, number: u64) -> bool
+fn is_admin(asker: &Recipient, number: u64) -> bool
     ensures { result ≡ is_admin number asker.now }
 {
     match asker {
-        Asker::Admin(other) => *other == number,
-        Asker::Nobody | Asker::Person(_) => false,
+        Recipient::Admin(other) => *other == number,
+        Recipient::Nobody | Recipient::Person(_) => false,
     }
 }
 
 // Who waits for the answer to what a call asks for: the person for whose words the call was made.
-pub(crate) fn asker_in(alloc: Global, call: &Call) -> Result<Asker, NoMemory>
+pub(crate) fn asker_in(alloc: Global, call: &Call) -> Result<Recipient, NoMemory>
     ensures { IfOk result (λ asker. asker ≡ asker_in call.now) }
 {
     match call.args.as_slice().first() {
-        Some(nick) if is_spoken(call.kind) => Ok(Asker::Person(nick.copy(alloc)?)),
-        Some(_) | None => Ok(Asker::Nobody),
+        Some(nick) if is_spoken(call.kind) => Ok(Recipient::Person(nick.copy(alloc)?)),
+        Some(_) | None => Ok(Recipient::Nobody),
     }
 }
 

@@ -16,6 +16,16 @@ pub struct Requester<'a> {
     pub handle: &'a [u8],
 }
 
+impl Requester<'_> {
+    // Whether this is the person, who is written as `nick!user@host`.
+    pub(crate) fn is_person(&self, person: &[u8]) -> bool {
+        let Some([b'!', host @ ..]) = person.strip_prefix(self.nick) else {
+            return false;
+        };
+        host == self.host
+    }
+}
+
 /// Logs the changes that the `calls` of a step asked for, each with who asked, and the change that a hub accepted in it, with
 /// the bot that asked: that of the step's `packets`. The step is made at second `now`, which counts from 1970-01-01 UTC.
 pub fn log_changes(log: &mut Log, calls: &MadeCalls, packets: &[Outgoing], now: u64) {

@@ -8,7 +8,7 @@
 //! - [`ChangeOutcome`] is what became of a change. [`answer_oldest`] says it to whoever asked: as the answer to a command
 //!   ([`change_answer`]), or in a notice.
 //! - [`LogEntry`] is a line of the bot's log, except those about servers and other bots. [`log_changes`] writes who asked
-//!   for which change.
+//!   for which change, and [`changes_answer`] tells an admin of the changes that the journal holds.
 //!
 //! This crate knows no bot: it takes the calls of a step, its packets and the note of its link. [`control`] reads a command.
 //!
@@ -33,18 +33,20 @@ mod noticing;
 mod requests;
 mod seconds;
 mod settling;
+mod told_changes;
 
 pub use crate::admins::{AdminLine, Admins, MAX_ADMINS, MAX_UNSENT};
 pub use crate::answers::{
     advice_answer, asked_answer, change_answer, fault_answer, looseness_in, numbered_answer,
     refused_answer,
 };
-pub use crate::asks::{Asker, Asks, asks_in, is_ask_fault};
+pub use crate::asks::{Asks, Recipient, asks_in, is_ask_fault};
 pub use crate::audit::{Requester, log_changes};
 pub use crate::change_outcome::ChangeOutcome;
 pub use crate::change_words::ChangeWords;
 pub use crate::log_entry::LogEntry;
-pub use crate::noticing::notice_callers;
+pub use crate::noticing::{ChangeWait, HubTakes, notice_callers};
 pub use crate::requests::requests_in;
 pub use crate::seconds::Seconds;
 pub use crate::settling::answer_oldest;
+pub use crate::told_changes::{MAX_TOLD, changes_answer};

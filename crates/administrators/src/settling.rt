@@ -4,7 +4,7 @@ ghost use Rattle.administrators.specs.Askers.{settled};
 
 use crate::admins::Admins;
 use crate::answers::change_answer;
-use crate::asks::{Asker, Asks};
+use crate::asks::{Asks, Recipient};
 use crate::change_outcome::ChangeOutcome;
 use crate::log_entry::LogEntry;
 use crate::noticing::notice;
@@ -32,38 +32,51 @@ pub fn answer_oldest<R: AllocGlobal>(
     ensures asker { OnOk result (asks.new.asker ≡ asks.old.asker) }
     ensures server { uplink.new.session ≡ uplink.old.session }
 {
-    if settles || !is_leaf {
-        log_outcome(log, outcome, asks.asker.is_some(), now);
-    }
     if !settles {
+        if !is_leaf {
+            log_outcome(log, outcome, b"", asks.asker.is_some(), now);
+        }
         return Ok(());
     }
     match outcome {
-        ChangeOutcome::Nothing | ChangeOutcome::Barred(_) => return Ok(()),
+        ChangeOutcome::Nothing | ChangeOutcome::Barred(_) => {
+            log_outcome(log, outcome, b"", asks.asker.is_some(), now);
+            return Ok(());
+        }
         ChangeOutcome::Accepted(_) | ChangeOutcome::Refused(_) => {}
     }
-    match asks.settle() {
-        Asker::Nobody => Ok(()),
-        Asker::Admin(number) => {
+    let asker = asks.settle();
+    log_outcome(log, outcome, nick_of(&asker), false, now);
+    match asker {
+        Recipient::Nobody => Ok(()),
+        Recipient::Admin(number) => {
             let answer = change_answer(rt.alloc(), outcome)?;
             admins.tell(number, answer.as_slice())
         }
-        Asker::Person(nick) => notice(rt.alloc(), uplink, nick.as_bytes(), outcome),
+        Recipient::Person(nick) => notice(rt.alloc(), uplink, nick.as_bytes(), outcome),
     }
 }
 
-// Logs that a change was accepted or refused. `is_obeying` says whether a leaf executes an admin's command: then it does
+// The nick of who asked, if a person did.
+fn nick_of(asker: &Recipient) -> &[u8] {
+    match asker {
+        Recipient::Person(nick) => nick.as_bytes(),
+        Recipient::Nobody | Recipient::Admin(_) => b"",
+    }
+}
+
+// Logs that a change was accepted or refused, with the `nick` of who asked if it is not empty. `is_obeying` says whether a leaf executes an admin's command: then it does
 // not log what its link refuses at once, since the answer to the command says so. A hub logs that too, and so does a bot
 // that is alone.
-fn log_outcome(log: &mut Log, outcome: ChangeOutcome, is_obeying: bool, now: u64) {
+fn log_outcome(log: &mut Log, outcome: ChangeOutcome, nick: &[u8], is_obeying: bool, now: u64) {
     match outcome {
         ChangeOutcome::Nothing => {}
         ChangeOutcome::Barred(fault) => {
             if !is_obeying {
-                log.note(now, &LogEntry::NotDone(fault.code()));
+                log.note(now, &LogEntry::NotDone(fault.code(), nick));
             }
         }
-        ChangeOutcome::Accepted(number) => log.note(now, &LogEntry::Accepted(number)),
-        ChangeOutcome::Refused(fault) => log.note(now, &LogEntry::NotDone(fault.code())),
+        ChangeOutcome::Accepted(number) => log.note(now, &LogEntry::Accepted(number, nick)),
+        ChangeOutcome::Refused(fault) => log.note(now, &LogEntry::NotDone(fault.code(), nick)),
     }
 }

@@ -12,7 +12,7 @@ use procs::{
 use std::alloc::Global;
 use std::cell::Cell;
 use std::rc::Rc;
-use userfile::Change;
+use userfile::{Change, Edit};
 
 /// What the procs promise: `stop` answers 1 and the others 0. The promise leaves open what they ask for.
 #[derive(Drop)]
@@ -93,7 +93,8 @@ impl Built {
 // Asks for the user `handle`.
 fn asked(alloc: Global, handle: &Text) -> Result<Actions, NoMemory> {
     let handle = handle.copy(alloc)?;
-    Actions::one(alloc, Action::Ask(Change::AddUser { handle }))
+    let change = Change::by_nobody(Edit::AddUser { handle });
+    Actions::one(alloc, Action::Ask(change))
 }
 
 // Says `text` again, on the channel or to the nick that said it.

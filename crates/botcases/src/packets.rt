@@ -8,7 +8,7 @@ use caselines::{BAD_WORDS, CaseError, Sink, cut, number};
 use peers::is_said_by;
 use sharewire::Packet;
 use std::alloc::Global;
-use userfile::Change;
+use userfile::{Change, Edit};
 
 /// Answers `said LEAF PACKET..`: for each packet, whether it names this leaf as the one that says it. `words` are those
 /// after `said`.
@@ -63,7 +63,7 @@ pub fn packet_of(alloc: Global, words: &[u8]) -> Result<Packet, CaseError>
 
 /// Returns the change that adds the user `handle`.
 pub fn added(alloc: Global, handle: &[u8]) -> Result<Change, CaseError> {
-    Ok(Change::AddUser {
+    Ok(Change::by_nobody(Edit::AddUser {
         handle: Text::from_slice(alloc, handle)?,
-    })
+    }))
 }

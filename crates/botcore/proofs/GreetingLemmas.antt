@@ -18,6 +18,7 @@ use Rattle.botcore.specs.Configs.{IsGood, is_nick, is_nick_byte}
 use Rattle.botcore.specs.Putting.{put_faults, queued, queued_unless, with_line_fault}
 use Rattle.botcore.specs.declared.config.Config.{Config}
 use Rattle.botcore.specs.declared.limits.TheConstants.{MAX_NICK}
+use Rattle.botcore.specs.declared.manner.Manner.TheVariants.{InTurn}
 
 -- no line is refused -----------------------------------------------------------------------------------------------------
 
@@ -68,15 +69,15 @@ unfolding refusal
 not_refused q line good few = rw (good, lt-leb MAX_LINES (length q.mode) few) refl
 
 -- so the greeting of a good configuration is queued whole
-pub greeting_put : (config : Config) → IsGood config → put_faults idle (greeting config) ≡ []
+pub greeting_put : (config : Config) → IsGood config → put_faults InTurn idle (greeting config) ≡ []
 greeting_put config good =
     let nick_wish = wish Mode (codes "NICK " ∷ config.nick ∷ []) in
     let user_wish = wish Mode (codes "USER " ∷ config.nick ∷ codes " 0 * :" ∷ config.nick ∷ []) in
     let queues : Sending = record idle { mode = nick_wish.line ∷ [] } in
     let nick : refusal idle Mode nick_wish.line ≡ None = not_refused idle nick_wish.line (nick_good config.nick good.nick) (omega arith) in
     let user : refusal queues Mode user_wish.line ≡ None = not_refused queues user_wish.line (user_good config.nick good.nick) (omega arith) in
-    ap (λ (o : Option QueueFault). with_line_fault o (put_faults (queued idle nick_wish) (user_wish ∷ []))) nick
-    ∙ ap (λ (o : Option QueueFault). put_faults (queued_unless o idle nick_wish) (user_wish ∷ [])) nick
+    ap (λ (o : Option QueueFault). with_line_fault o (put_faults InTurn (queued InTurn idle nick_wish) (user_wish ∷ []))) nick
+    ∙ ap (λ (o : Option QueueFault). put_faults InTurn (queued_unless o InTurn idle nick_wish) (user_wish ∷ [])) nick
     ∙ ap (λ (o : Option QueueFault). with_line_fault o []) user
 
 -- what waits -------------------------------------------------------------------------------------------------------------
@@ -94,16 +95,22 @@ none_waits q now timer none =
 
 -- then the first lines of each queue are none
 pub none_left : (q : Sending) (left : Counts) → waiting (with_first q left) ≡ []
-    → (min left.mode (length q.mode) == 0 && (min left.server (length q.server) == 0 && min left.help (length q.help) == 0)) ≡ true
+    → (min left.prompt (length q.prompt) == 0 && (min left.mode (length q.mode) == 0
+    && (min left.server (length q.server) == 0 && min left.help (length q.help) == 0))) ≡ true
 none_left q left none =
+    let prompt : length (take left.prompt q.prompt) ≡ min left.prompt (length q.prompt) = length-take left.prompt q.prompt in
     let mode : length (take left.mode q.mode) ≡ min left.mode (length q.mode) = length-take left.mode q.mode in
     let server : length (take left.server q.server) ≡ min left.server (length q.server) = length-take left.server q.server in
     let help : length (take left.help q.help) ≡ min left.help (length q.help) = length-take left.help q.help in
     let lower : length (take left.server q.server ++ take left.help q.help) ≡ length (take left.server q.server) + length (take left.help q.help)
     = length-append (take left.server q.server) (take left.help q.help) in
-    let all : 0 ≡ length (take left.mode q.mode) + length (take left.server q.server ++ take left.help q.help)
-    = ap length (sym none) ∙ length-append (take left.mode q.mode) (take left.server q.server ++ take left.help q.help) in
+    let queues : length (take left.mode q.mode ++ (take left.server q.server ++ take left.help q.help))
+    ≡ length (take left.mode q.mode) + length (take left.server q.server ++ take left.help q.help)
+    = length-append (take left.mode q.mode) (take left.server q.server ++ take left.help q.help) in
+    let all : 0 ≡ length (take left.prompt q.prompt) + length (take left.mode q.mode ++ (take left.server q.server ++ take left.help q.help))
+    = ap length (sym none) ∙ length-append (take left.prompt q.prompt) (take left.mode q.mode ++ (take left.server q.server ++ take left.help q.help)) in
+    let no_prompt : min left.prompt (length q.prompt) ≡ 0 = omega arith in
     let no_mode : min left.mode (length q.mode) ≡ 0 = omega arith in
     let no_server : min left.server (length q.server) ≡ 0 = omega arith in
     let no_help : min left.help (length q.help) ≡ 0 = omega arith in
-    rw (no_mode, no_server, no_help) refl
+    rw (no_prompt, no_mode, no_server, no_help) refl

@@ -13,8 +13,9 @@ use Rattle.procs.specs.Dispatching.{has_raw_one}
 use Rattle.procs.specs.Made.{entry_of}
 use Rattle.botcore.specs.declared.event.BotEvent.TheVariants.{Line}
 use Rattle.botcore.specs.declared.fault.StepFault.{StepFault}
+use Rattle.botcore.specs.declared.manner.Manner.{Manner}
 use Rattle.botcore.specs.declared.report.Report.{Report}
-use Rattle.botcore.specs.Automatic.{automatic_lines, is_welcome}
+use Rattle.botcore.specs.Automatic.{automatic_lines, is_welcome, manner_of}
 use Rattle.botcore.specs.Bots.{Bot}
 use Rattle.botcore.specs.Lines.{acting_after, after_calls, after_line, finish_line}
 use Rattle.botcore.specs.Links.{link_records}
@@ -32,16 +33,20 @@ module _ (old : Bot) (message : Message) (calls : List MadeCall) where
   abbrev wishes : List PutWish
   wishes = automatic_lines old.config old.channels (link_records old.link).bans old.clock old.welcomed message
 
+  -- and how they are queued
+  abbrev manner : Manner
+  manner = manner_of old.config message
+
   -- the bot and the faults of its own lines, given whether a raw proc has answered 1
   abbrev line_if : Bool → Bot
   line_if raw = record (after_calls old calls) {
     channels = if raw then old.channels else after message old.channels;
-    queues = put_all (acting_after old calls).queues (if raw then [] else wishes);
+    queues = put_all manner (acting_after old calls).queues (if raw then [] else wishes);
     welcomed = if raw then old.welcomed else old.welcomed || is_welcome message;
   }
 
   abbrev faults_if : Bool → List StepFault
-  faults_if raw = put_faults (acting_after old calls).queues (if raw then [] else wishes)
+  faults_if raw = put_faults manner (acting_after old calls).queues (if raw then [] else wishes)
 
   -- with a raw 1 only the actions count
   pub raw_line : has_raw_one (map entry_of calls) ≡ true → after_line old message calls ≡ after_calls old calls
@@ -55,25 +60,25 @@ module _ (old : Bot) (message : Message) (calls : List MadeCall) where
       → after_line old message calls
       ≡ record (after_calls old calls) {
         channels = after message old.channels;
-        queues = put_all (acting_after old calls).queues wishes;
+        queues = put_all manner (acting_after old calls).queues wishes;
         welcomed = old.welcomed || is_welcome message;
       }
   taken_line raw = ap line_if raw
 
   pub taken_faults : has_raw_one (map entry_of calls) ≡ false
-      → (finish_line old message calls).faults ≡ put_faults (acting_after old calls).queues wishes
+      → (finish_line old message calls).faults ≡ put_faults manner (acting_after old calls).queues wishes
   taken_faults raw = ap faults_if raw
 
   -- the bot after its actions, its own lines, the message and its timers, with no raw 1
-  pub left_line : (acted put took new : Bot) (timers : Option Held) (items : List PutWish) (welcomed : Bool)
-      → has_raw_one (map entry_of calls) ≡ false
+  pub left_line : (acted put took new : Bot) (timers : Option Held) (items : List PutWish) (way : Manner) (welcomed : Bool)
+      → way ≡ manner → has_raw_one (map entry_of calls) ≡ false
       → items ≡ automatic_lines old.config old.channels (link_records old.link).bans old.clock welcomed message → welcomed ≡ old.welcomed
       → unwrap_or timers old.timers ≡ (acting_after old calls).timers
       → acted ≡ record old { link = (acting_after old calls).link; queues = (acting_after old calls).queues }
-      → put ≡ record acted { queues = put_all acted.queues items }
+      → put ≡ record acted { queues = put_all way acted.queues items }
       → took ≡ record put { channels = after message put.channels; welcomed = put.welcomed || is_welcome message }
       → new ≡ record took { timers = unwrap_or timers took.timers } → new ≡ after_line old message calls
-  left_line acted put took new timers items welcomed raw lined known held acts puts takes news =
+  left_line acted put took new timers items way welcomed known_way raw lined known held acts puts takes news =
       news
       ∙ ap (λ (b : Bot). record b { timers = unwrap_or timers b.timers }) takes
       ∙ ap (λ (b : Bot). record b {
@@ -85,32 +90,39 @@ module _ (old : Bot) (message : Message) (calls : List MadeCall) where
         timers = unwrap_or timers b.timers;
         channels = after message b.channels;
         welcomed = b.welcomed || is_welcome message;
-        queues = put_all b.queues items;
+        queues = put_all way b.queues items;
       }) acts
+      ∙ ap (λ (m : Manner). record (after_calls old calls) {
+        timers = unwrap_or timers old.timers;
+        channels = after message old.channels;
+        welcomed = old.welcomed || is_welcome message;
+        queues = put_all m (acting_after old calls).queues items;
+      }) known_way
       ∙ ap (λ (own : List PutWish). record (after_calls old calls) {
         timers = unwrap_or timers old.timers;
         channels = after message old.channels;
         welcomed = old.welcomed || is_welcome message;
-        queues = put_all (acting_after old calls).queues own;
+        queues = put_all manner (acting_after old calls).queues own;
       }) (lined ∙ ap (λ (w : Bool). automatic_lines old.config old.channels (link_records old.link).bans old.clock w message) known)
       ∙ ap (λ (t : Held). record (after_calls old calls) {
         timers = t;
         channels = after message old.channels;
         welcomed = old.welcomed || is_welcome message;
-        queues = put_all (acting_after old calls).queues wishes;
+        queues = put_all manner (acting_after old calls).queues wishes;
       }) held
       ∙ sym (taken_line raw)
 
   -- and the faults of its actions and of its own lines
-  pub left_faults : (acted : Bot) (before start faults : List StepFault) (items : List PutWish) (welcomed : Bool)
-      → has_raw_one (map entry_of calls) ≡ false
+  pub left_faults : (acted : Bot) (before start faults : List StepFault) (items : List PutWish) (way : Manner) (welcomed : Bool)
+      → way ≡ manner → has_raw_one (map entry_of calls) ≡ false
       → items ≡ automatic_lines old.config old.channels (link_records old.link).bans old.clock welcomed message → welcomed ≡ old.welcomed
       → acted ≡ record old { link = (acting_after old calls).link; queues = (acting_after old calls).queues }
-      → start ≡ before → faults ≡ start ++ put_faults acted.queues items → faults ≡ before ++ (finish_line old message calls).faults
-  left_faults acted before start faults items welcomed raw lined known acts started put =
+      → start ≡ before → faults ≡ start ++ put_faults way acted.queues items → faults ≡ before ++ (finish_line old message calls).faults
+  left_faults acted before start faults items way welcomed known_way raw lined known acts started put =
       put
-      ∙ ap (λ (fs : List StepFault). fs ++ put_faults acted.queues items) started
-      ∙ ap (λ (b : Bot). before ++ put_faults b.queues items) acts
-      ∙ ap (λ (own : List PutWish). before ++ put_faults (acting_after old calls).queues own)
+      ∙ ap (λ (fs : List StepFault). fs ++ put_faults way acted.queues items) started
+      ∙ ap (λ (b : Bot). before ++ put_faults way b.queues items) acts
+      ∙ ap (λ (m : Manner). before ++ put_faults m (acting_after old calls).queues items) known_way
+      ∙ ap (λ (own : List PutWish). before ++ put_faults manner (acting_after old calls).queues own)
       (lined ∙ ap (λ (w : Bool). automatic_lines old.config old.channels (link_records old.link).bans old.clock w message) known)
       ∙ ap (λ (fs : List StepFault). before ++ fs) (sym (taken_faults raw))

@@ -30,6 +30,8 @@ use Rattle.chanstate.specs.Steps.{after}
 use Rattle.chanstate.specs.Views.{mapping_of, member_in, is_op}
 use Rattle.procs.specs.declared.action.PutWish.{PutWish}
 use Rattle.botcore.specs.declared.config.Config.{Config}
+use Rattle.botcore.specs.declared.manner.Manner.{Manner}
+use Rattle.botcore.specs.declared.manner.Manner.TheVariants.{InTurn, Prompt}
 use Rattle.botcore.specs.declared.watched_command.WatchedCommand.{WatchedCommand}
 use Rattle.botcore.specs.declared.watched_command.WatchedCommand.TheVariants as cue
 use Rattle.botcore.specs.declared.limits.TheConstants.{MAX_NICK}
@@ -67,7 +69,7 @@ abbrev pub other_nick : Bool → List (List ℕ) → List PutWish
 other_nick true params = []
 other_nick false params = if_there (slice_get params 1) longer_nick
 
--- the answer to a PING has its first parameter
+-- the answer to a PING has its first parameter; `manner_of` says what it waits for
 abbrev pub pong : List ℕ → Message
 pong text = record { prefix = []; command = codes "PONG"; params = text ∷ []; rest = [] }
 
@@ -214,3 +216,17 @@ lines_by cue.Other config s bans last welcomed message = []
 abbrev pub automatic_lines : Config → ChanState → List Ban → Option ℕ → Bool → Message → List PutWish
 automatic_lines config s bans last welcomed message =
     lines_by (cue_of message.command) config s bans last welcomed message
+
+-- How a bot queues its lines for a command: each in its own queue. But a bot that sends at once puts its answer to a PING
+-- before all queues, so that a server that waits for the answer doesn't drop the bot for the lines that wait there.
+abbrev pub manner_by : WatchedCommand → Bool → Manner
+manner_by cue.Ping true = Prompt
+manner_by cue.Ping false = InTurn
+manner_by cue.Join at_once = InTurn
+manner_by cue.Mode at_once = InTurn
+manner_by cue.RplWelcome at_once = InTurn
+manner_by cue.ErrNicknameInUse at_once = InTurn
+manner_by cue.Other at_once = InTurn
+
+abbrev pub manner_of : Config → Message → Manner
+manner_of config message = manner_by (cue_of message.command) config.sends_at_once

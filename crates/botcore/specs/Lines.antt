@@ -8,7 +8,7 @@ use Rattle.procs.specs.declared.action.PutWish.{PutWish}
 use Rattle.botcore.specs.declared.fault.StepFault.{StepFault}
 use Rattle.procs.specs.declared.made_call.MadeCall.{MadeCall}
 use Rattle.botcore.specs.Acting.{Acting, actions_of, acted_all}
-use Rattle.botcore.specs.Automatic.{automatic_lines, is_welcome}
+use Rattle.botcore.specs.Automatic.{automatic_lines, is_welcome, manner_of}
 use Rattle.botcore.specs.Bots.{Bot}
 use Rattle.procs.specs.Dispatching.{has_raw_one}
 use Rattle.botcore.specs.Links.{link_records}
@@ -60,14 +60,14 @@ own_lines old message calls =
 abbrev pub after_line : Bot → Message → List MadeCall → Bot
 after_line old message calls = record (after_calls old calls) {
   channels = channels_after old.channels calls message;
-  queues = put_all (acting_after old calls).queues (own_lines old message calls);
+  queues = put_all (manner_of old.config message) (acting_after old calls).queues (own_lines old message calls);
   welcomed = welcomed_after old.welcomed calls message;
 }
 
 abbrev pub finish_line : Bot → Message → List MadeCall → Finish
 finish_line old message calls = record {
   after = after_line old message calls;
-  faults = put_faults (acting_after old calls).queues (own_lines old message calls);
+  faults = put_faults (manner_of old.config message) (acting_after old calls).queues (own_lines old message calls);
   lines = [];
 }
 

@@ -47,6 +47,7 @@ use Rattle.botcore.specs.Automatic.{greeting}
 use Rattle.botcore.specs.Lines.{acting_of, acting_after, Finish, finish_text, finish_line, finish_reading}
 use Rattle.botcore.specs.Putting.{put_all, put_faults}
 use Rattle.outqueue.specs.Sending.{idle}
+use Rattle.botcore.specs.declared.manner.Manner.TheVariants.{InTurn}
 use Rattle.botcore.specs.Shown.{AreTaken}
 use Rattle.procs.specs.Made.{entry_of, AllKept}
 use Rattle.botcore.specs.Reports.{done, refused, out_of_memory, answer_report}
@@ -62,10 +63,10 @@ pub record Due : Type 0 where
 -- waits; the bot does not allocate
 abbrev pub connect_due : Bot → Due
 connect_due old = record {
-  report = record (done None) { faults = put_faults idle (greeting old.config) };
+  report = record (done None) { faults = put_faults InTurn idle (greeting old.config) };
   after = record old {
     channels = connected old.config.nick;
-    queues = put_all idle (greeting old.config);
+    queues = put_all InTurn idle (greeting old.config);
     welcomed = false;
   };
 }

@@ -1,12 +1,13 @@
 // The lines that a bot queues by itself.
 ghost use Rattle.std.specs.Prelude.{◌≡◌, ◌∷◌, [], map, slice_get, IfOk, IsOk};
 ghost use Rattle.ircline.specs.Printing.{wants_colon};
-ghost use Rattle.botcore.specs.Automatic.{greeting, is_welcome, if_there, join_wish, other_nick, pong_wish, welcomes};
+ghost use Rattle.botcore.specs.Automatic.{greeting, is_welcome, if_there, join_wish, other_nick, manner_by, pong_wish, welcomes};
 
 use crate::bot::Bot;
 use crate::config::Config;
 use crate::joining::on_join;
 use crate::limits::MAX_NICK;
+use crate::manner::Manner;
 use crate::sticky::on_mode;
 use crate::watched_command::{WatchedCommand, cue_of};
 use crate::wish::{alone, wish};
@@ -19,7 +20,7 @@ use std::alloc::Global;
 
 impl<D: Disk> Bot<D> {
     ghost use Rattle.std.specs.Prelude.{◌≡◌, [], IfOk, IsOk};
-    ghost use Rattle.botcore.specs.Automatic.{automatic_lines, watched_in};
+    ghost use Rattle.botcore.specs.Automatic.{automatic_lines, manner_of, watched_in};
     ghost use Rattle.botcore.specs.Links.{link_records};
 
     // Returns the lines that a bot queues for a message, by its channels before the message. It does not allocate if
@@ -67,6 +68,36 @@ impl<D: Disk> Bot<D> {
             WatchedCommand::ErrNicknameInUse => other_nick(alloc, welcomed, params),
             WatchedCommand::Other => Ok(Vec::new(alloc)),
         }
+    }
+
+    // Returns how the bot queues these lines.
+    pub(crate) fn manner_of(&self, message: &Message) -> Manner
+        ensures { result ≡ manner_of self.now.config message.now }
+    {
+        manner_by(
+            cue_of(message.command.as_bytes()),
+            self.config.sends_at_once,
+        )
+    }
+}
+
+// Returns how a bot queues its lines for a command.
+fn manner_by(cue: WatchedCommand, at_once: bool) -> Manner
+    ensures { result ≡ manner_by cue at_once }
+{
+    match cue {
+        WatchedCommand::Ping => {
+            if at_once {
+                Manner::Prompt
+            } else {
+                Manner::InTurn
+            }
+        }
+        WatchedCommand::Join
+        | WatchedCommand::Mode
+        | WatchedCommand::RplWelcome
+        | WatchedCommand::ErrNicknameInUse
+        | WatchedCommand::Other => Manner::InTurn,
     }
 }
 

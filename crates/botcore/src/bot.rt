@@ -7,7 +7,7 @@ use bytejournal::Disks;
 use disks::Disk;
 use procs::BindTable;
 use rfccase::Casemapping;
-use sharelink::{BotLink, HeldSnapshot};
+use sharelink::{AcceptedChange, BotLink, HeldSnapshot};
 use std::marker::Model;
 use userfile::Userfile;
 
@@ -62,6 +62,7 @@ impl<D: Disk> Model for Bot<D> {
     ghost use Rattle.outqueue.specs.Sending.{no_room, idle};
     ghost use Rattle.chanstate.specs.Views.{connected};
     ghost use Rattle.botcore.specs.Automatic.{greeting};
+    ghost use Rattle.botcore.specs.declared.manner.Manner.TheVariants.{InTurn};
     ghost use Rattle.botcore.specs.Putting.{put_faults};
     ghost use Rattle.botcore.specs.ServerLines.{greeting_lines};
 
@@ -70,14 +71,14 @@ impl<D: Disk> Model for Bot<D> {
     // it queues when it connects. No line of the greeting is refused.
     ghost invariant = { λ b. IsReached b.timers.last b.clock × (b.queues.current.room ≡ no_room)
         × (b.channels.first ≡ connected b.config.nick) × (b.queues.greeting ≡ greeting_lines b.config)
-        × (put_faults idle (greeting b.config) ≡ []) };
+        × (put_faults InTurn idle (greeting b.config) ≡ []) };
 }
 
 impl<D: Disk> Bot<D> {
     ghost use Rattle.std.specs.Prelude.{◌≡◌};
     ghost use Rattle.protocol.specs.Ends.{end_is_down};
     ghost use Rattle.sharelink.specs.BotLinks.{MayLeave};
-    ghost use Rattle.sharelink.specs.Telling.{end_last_request, end_last_reply, end_held};
+    ghost use Rattle.sharelink.specs.Telling.{end_tail, end_last_request, end_last_reply, end_held};
     ghost use Rattle.botcore.specs.Links.{ask_count, link_records, link_version};
     ghost use Rattle.chanstate.specs.Views.{is_op, mapping_of, member_in};
 
@@ -101,6 +102,14 @@ impl<D: Disk> Bot<D> {
         ensures { result.now ≡ link_records self.now.link }
     {
         self.link.userfile()
+    }
+
+    /// Returns the accepted changes that a hub's journal holds one by one, the oldest first: the last one's number is the
+    /// version. A leaf returns none.
+    pub fn accepted(&self) -> &[AcceptedChange]
+        ensures { result.now ≡ end_tail self.now.link.end }
+    {
+        self.link.accepted()
     }
 
     /// Returns the number of a leaf's last request, or 0 before its first. The hub, which sends no request, returns 0.

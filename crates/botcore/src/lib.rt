@@ -37,6 +37,7 @@ mod joining;
 mod limits;
 mod line;
 mod making;
+mod manner;
 mod marks;
 mod presence;
 mod putting;
@@ -50,7 +51,7 @@ mod sticky;
 mod watched_command;
 mod wish;
 
-pub use crate::automatic_laws::laws_of_automatic_lines;
+pub use crate::automatic_laws::{laws_of_answers, laws_of_automatic_lines};
 pub use crate::bot::Bot;
 pub use crate::config::Config;
 pub use crate::event::{BotEvent, NewBind, OldBind};

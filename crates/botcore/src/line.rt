@@ -8,6 +8,7 @@ use crate::automatic::is_welcome;
 use crate::bot::Bot;
 use crate::calls::{Left, Told};
 use crate::event::BotEvent;
+use crate::manner::Manner;
 use crate::putting::put_all;
 use crate::report::{End, Faults, Note, Report};
 use bytetext::{NoMemory, Seq, Text, TryCopy};
@@ -116,12 +117,13 @@ impl<D: Disk> Bot<D> {
             return self.act_alone(alloc, calls, unbound);
         }
         let wishes = self.automatic_lines(alloc, self.welcomed, message)?;
+        let manner = self.manner_of(message);
         let Left {
             timers,
             packets,
             mut faults,
         } = self.carry_out(alloc, calls, unbound)?;
-        self.put_own(alloc, wishes, &mut faults)?;
+        self.put_own(alloc, manner, wishes, &mut faults)?;
         self.take_in(alloc, message)?;
         self.put_timers(timers);
         let lines = Seq::empty(alloc);
@@ -161,15 +163,16 @@ impl<D: Disk> Bot<D> {
         })
     }
 
-    // Queues lines of the bot's own, and appends the refusals to the faults.
+    // Queues lines of the bot's own in this manner, and appends the refusals to the faults.
     fn put_own(
         &mut self,
         alloc: Global,
+        manner: Manner,
         wishes: Vec<PutWish>,
         faults: &mut Faults,
     ) -> Result<(), NoMemory>
-        ensures queues { OnOk result (self.new ≡ record self.old { queues = put_all self.old.queues wishes.items }) }
-        ensures faults { OnOk result (faults.new ≡ faults.old ++ put_faults self.old.queues wishes.items) }
+        ensures queues { OnOk result (self.new ≡ record self.old { queues = put_all manner self.old.queues wishes.items }) }
+        ensures faults { OnOk result (faults.new ≡ faults.old ++ put_faults manner self.old.queues wishes.items) }
         ensures kept { HasMore self.old self.new }
         ensures needs_none { wishes.items ≡ [] → IsOk result }
     {
@@ -177,7 +180,7 @@ impl<D: Disk> Bot<D> {
             return Ok(());
         }
         let mut queues = self.queues.take(alloc)?;
-        let put = put_all(&mut queues, faults, wishes);
+        let put = put_all(&mut queues, faults, manner, wishes);
         self.queues.set(queues);
         put
     }

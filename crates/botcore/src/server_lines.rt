@@ -4,6 +4,7 @@ ghost use Rattle.outqueue.specs.Sending.{no_room, waiting, with_first};
 
 use crate::automatic::greeting;
 use crate::config::Config;
+use crate::manner::Manner;
 use crate::putting::put_all;
 use bytetext::{NoMemory, Seq, Texts, TryCopy};
 use outqueue::{Counts, Queues};
@@ -61,7 +62,7 @@ impl ServerLines {
         let wishes = greeting(alloc, config)?;
         let mut queues = Queues::new(alloc);
         let mut faults = Seq::empty(alloc);
-        put_all(&mut queues, &mut faults, wishes)?;
+        put_all(&mut queues, &mut faults, Manner::InTurn, wishes)?;
         let left = queues.counts();
         Ok(ServerLines {
             greeting: queues,
@@ -158,15 +159,17 @@ fn first_of(alloc: Global, greeting: &Queues, left: Counts) -> Result<Queues, No
     Ok(queues)
 }
 
-// Returns the smaller number of each queue.
+// Returns the smaller of each two numbers.
 fn fewer(one: Counts, other: Counts) -> Counts
     ensures { result ≡ record {
+      prompt = min one.prompt other.prompt;
       mode = min one.mode other.mode;
       server = min one.server other.server;
       help = min one.help other.help;
     } }
 {
     Counts {
+        prompt: one.prompt.min(other.prompt),
         mode: one.mode.min(other.mode),
         server: one.server.min(other.server),
         help: one.help.min(other.help),
@@ -175,7 +178,7 @@ fn fewer(one: Counts, other: Counts) -> Counts
 
 // Whether all of these numbers are 0.
 fn is_none(counts: Counts) -> bool
-    ensures { result ≡ (counts.mode == 0 && (counts.server == 0 && counts.help == 0)) }
+    ensures { result ≡ (counts.prompt == 0 && (counts.mode == 0 && (counts.server == 0 && counts.help == 0))) }
 {
-    counts.mode == 0 && counts.server == 0 && counts.help == 0
+    counts.prompt == 0 && counts.mode == 0 && counts.server == 0 && counts.help == 0
 }

@@ -1,9 +1,10 @@
 -- The disks of a bot's folder.
-use Rattle.std.specs.Prelude.{◌≡◌, [], pos, ◌≤ℤ◌}
+use Rattle.std.specs.Prelude.{◌≡◌, false, [], pos, ◌≤ℤ◌}
 use Rattle.disks.specs.State.{IsSettled}
 use Rattle.disks.specs.Memory.{state_of}
 use Rattle.disks.specs.Files.{FileState, IsKept}
 use Rattle.disks.specs.declared.pair.Pair.{Pair}
+use Rattle.botjournal.specs.CutShort.{is_cut_short}
 use Rattle.botfolder.specs.declared.begun.Begun.{Begun}
 use Rattle.botfolder.specs.declared.begun.Begun.TheVariants.{Found, Empty}
 use Rattle.botfolder.specs.declared.stopped.Stopped.{Stopped}
@@ -27,3 +28,7 @@ IsBegun (Empty disks) = AreReady disks × AreEmpty disks
 -- nothing is pending on the copies
 abbrev pub AreCopies : Stopped → Type 0
 AreCopies copies = IsSettled (state_of copies.first) × IsSettled (state_of copies.second)
+
+-- the device did not cut the journal short
+abbrev pub AreUncut : Stopped → Type 0
+AreUncut copies = is_cut_short copies.first.content copies.second.content ≡ false

@@ -10,6 +10,7 @@ use crate::folder_file::{FolderFile, remove_file};
 use crate::folders::{keep_others_out, make_folder, sync_folder};
 use crate::locking::{found_disk, new_disk};
 use crate::paths::{JOURNAL, MAX_PATH, NEW, below, control_of};
+use crate::stopped::keep_uncut;
 use bytetext::Failure;
 use disks::{Disk as _, FileDisk, Pair};
 use std::fs;
@@ -93,8 +94,8 @@ impl BotFolder {
     /// interrupted creation left. If another program reads the journal, tries again for two seconds.
     ///
     /// # Errors
-    /// `NotRegular`, `InUse`, `LacksFile` and what the system gives, as [`FolderFault`] describes them; `NoMemory` if
-    /// an allocation fails. A journal is then unchanged.
+    /// `NotRegular`, `InUse`, `LacksFile`, `CutShort` and what the system gives, as [`FolderFault`] describes them;
+    /// `NoMemory` if an allocation fails. A journal is then unchanged.
     pub fn begin<R: AllocGlobal + Files<File = File> + Clock>(
         &self,
         rt: &R,
@@ -102,6 +103,7 @@ impl BotFolder {
         ensures { IfOk result IsBegun }
     {
         if is_there(rt, self.path(), JOURNAL)? {
+            keep_uncut(rt, self.path())?;
             let disks = found_disks(rt, self.path())?;
             let _left = clear_new(rt, self.path());
             Ok(Begun::Found(disks))

@@ -47,6 +47,9 @@ pub enum FolderFault {
     /// A file of its journal is missing.
     #[error("holds a journal that lacks a file: bring back journal/first and journal/second")]
     LacksFile,
+    /// A device closed a gate of its journal, so that entries after it don't count.
+    #[error("holds a journal that its device cut short, so that its last changes don't count: bring back the newest copy of it; a leaf may also begin with an empty folder")]
+    CutShort,
     /// Its file `net` or `made` is shorter than a number.
     #[error("holds a file {0} that is too short: bring back the file {0}, 16 digits and a line feed")]
     ShortNumber(FolderFile),

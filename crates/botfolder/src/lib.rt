@@ -41,6 +41,9 @@
 //! [`BotFolder::room`] returns a [`Room`], which finds out whether the disk has room for changes before one is written to
 //! the journal.
 //!
+//! [`BotFolder::begin`] and [`read_stopped`], through which each reader of a journal in a folder goes, refuse one that
+//! its device cut short ([`is_cut_short`](botjournal::is_cut_short)): an opening would go back to an earlier moment.
+//!
 //! [`BotFolder::copy_journal`] copies the journal of the running bot into a new folder.
 //!
 //! [`BotFolder::take_stopped`] takes the folder of a bot that does not run, and creates none.

@@ -1,12 +1,13 @@
 // The journal of a bot that does not run.
-ghost use Rattle.std.specs.Prelude.{◌≡◌, [], IfOk};
-ghost use Rattle.botfolder.specs.Folders.{AreCopies};
+ghost use Rattle.std.specs.Prelude.{IfOk};
+ghost use Rattle.botfolder.specs.Folders.{AreCopies, AreUncut};
 
 use crate::bot_folder::is_there;
 use crate::fault::{FolderError, FolderFault, system_error};
 use crate::folder_file::{FolderFile, len_of, open_file, read_file};
 use crate::owner::check_owner;
 use crate::paths::{JOURNAL, below};
+use botjournal::is_cut_short;
 use bytetext::Failure;
 use disks::MemDisk;
 use std::alloc::Global;
@@ -26,13 +27,14 @@ pub struct Stopped {
 /// # Errors
 /// `IsLink`, and `OtherUser` unless this process is root's; `NoBot` if no journal was made in the folder, or the folder
 /// does not exist; `NotRegular`, and `LacksFile`; `InUse`
-/// if a bot runs on it, which can be asked instead; and what the system gives, as [`FolderFault`] describes them;
-/// `NoMemory` if an allocation fails.
+/// if a bot runs on it, which can be asked instead; `CutShort`, as [`is_cut_short`] tells it; and what the system gives,
+/// as [`FolderFault`] describes them; `NoMemory` if an allocation fails.
 pub fn read_stopped<R: AllocGlobal + Files<File = File>>(
     rt: &R,
     folder: &str,
 ) -> Result<Stopped, FolderError>
-    ensures { IfOk result AreCopies }
+    ensures copies { IfOk result AreCopies }
+    ensures uncut { IfOk result AreUncut }
 {
     check_owner(rt, folder)?;
     if !is_there(rt, folder, JOURNAL)? {
@@ -50,10 +52,37 @@ pub fn read_stopped<R: AllocGlobal + Files<File = File>>(
     // Both are closed, and so unlocked, before the copies are made.
     drop(first);
     drop(second);
-    Ok(Stopped {
-        first: MemDisk::holding(rt.alloc(), first_bytes)?,
-        second: MemDisk::holding(rt.alloc(), second_bytes)?,
-    })
+    uncut_copies(rt.alloc(), first_bytes, second_bytes)
+}
+
+// Refuses the journal in `folder` if its device cut it short. Only this program writes it: it holds the folder's lock.
+pub(crate) fn keep_uncut<R: AllocGlobal + Files<File = File>>(
+    rt: &R,
+    folder: &str,
+) -> Result<(), FolderError> {
+    let first = found_file(rt, folder, FolderFile::First)?;
+    let second = found_file(rt, folder, FolderFile::Second)?;
+    let mut first_bytes = room_for(rt.alloc(), &first)?;
+    let mut second_bytes = room_for(rt.alloc(), &second)?;
+    read(&first, &mut first_bytes)?;
+    read(&second, &mut second_bytes)?;
+    let _copies = uncut_copies(rt.alloc(), first_bytes, second_bytes)?;
+    Ok(())
+}
+
+// Makes disks that hold these bytes, and refuses those that a device cut short.
+fn uncut_copies(alloc: Global, first: Vec<u8>, second: Vec<u8>) -> Result<Stopped, FolderError>
+    ensures copies { IfOk result AreCopies }
+    ensures uncut { IfOk result AreUncut }
+{
+    let mut first = MemDisk::holding(alloc, first)?;
+    let mut second = MemDisk::holding(alloc, second)?;
+    match is_cut_short(alloc, &mut first, &mut second) {
+        Ok(true) => Err(Failure::Refused(FolderFault::CutShort)),
+        Ok(false) => Ok(Stopped { first, second }),
+        Err(Failure::Refused(_)) => Err(Failure::Refused(FolderFault::DiskFails)),
+        Err(Failure::NoMemory) => Err(Failure::NoMemory),
+    }
 }
 
 // Opens a file for reading.

@@ -4,7 +4,7 @@ use Rattle.std.specs.Int.{w32}
 use Rattle.std.proofs.lemmas.Bool.{eqb-true}
 use Rattle.userfile.specs.declared.error.ChangeFault.{ChangeFault}
 use Rattle.userfile.specs.declared.error.ChangeFault.TheVariants.{BadHandle, BadMask, BadChannel, BadComment, NoSuchUser, UserExists, MaskExists}
-use Rattle.userfile.specs.declared.error.ChangeFault.TheVariants.{NoSuchMask, BanExists, NoSuchBan, Full}
+use Rattle.userfile.specs.declared.error.ChangeFault.TheVariants.{NoSuchMask, BanExists, NoSuchBan, Full, NotAllowed}
 use Rattle.usercodec.specs.declared.records.Record.{Record}
 use Rattle.usercodec.specs.Fields.{number, byte_at, number_at}
 use Rattle.usercodec.specs.Changes.{made}
@@ -17,7 +17,7 @@ use Rattle.botjournal.specs.declared.reply.Verdict.TheVariants.{Taken, Refused}
 use Rattle.botjournal.specs.declared.reply.Reply.{Reply}
 use Rattle.botjournal.specs.declared.request.Request.{Request}
 use Rattle.botjournal.specs.declared.layouts.Layout.{Layout}
-use Rattle.botjournal.specs.declared.layouts.Layout.TheVariants.{First, Second, Third}
+use Rattle.botjournal.specs.declared.layouts.Layout.TheVariants.{First, Second, Third, Fourth}
 use Rattle.botjournal.specs.Layouts.{record_bytes_by, IsGoodRecordBy}
 use Rattle.botjournal.specs.Bases.{listed, answer_bytes, reply_bytes, base_bytes, base_bytes_by, are_kept_by, is_of_its_bot, IsGoodAnswer, IsGoodReply}
 use Rattle.botjournal.specs.Bases.{AreListed, AreOutBy, IsGoodBase, IsGoodBaseBy}
@@ -77,6 +77,7 @@ answer_part = record { takes = takes; again = again }
     refused NoSuchBan rest = refl
     refused BadComment rest = refl
     refused Full rest = refl
+    refused NotAllowed rest = refl
 
     again : (x : Verdict) (rest : List ℕ) → IsGoodAnswer x → answer_at (answer_bytes x ++ rest) ≡ Ok (x, rest)
     again (Taken n) rest good = ap (made Taken) (u32_part.again n rest good)
@@ -101,6 +102,7 @@ unfolding records_at
 records_part First = listed_part record_part_old
 records_part Second = listed_part record_part
 records_part Third = listed_part record_part
+records_part Fourth = listed_part record_part
 
 -- ---- bases
 
@@ -179,7 +181,7 @@ base_good layout base good = record {
   of_its_bot = good.of_its_bot;
 }
 
-pub good_now : (base : Base) → IsGoodBase base → IsGoodBaseBy Third base
+pub good_now : (base : Base) → IsGoodBase base → IsGoodBaseBy Fourth base
 good_now base good = record {
   bot = good.bot;
   version = good.version;
@@ -191,5 +193,5 @@ good_now base good = record {
   of_its_bot = good.of_its_bot;
 }
 
-pub base_again : (base : Base) → IsGoodBase base → base_in Third (base_bytes base) ≡ Some base
-base_again base good = base_again_by Third base (good_now base good)
+pub base_again : (base : Base) → IsGoodBase base → base_in Fourth (base_bytes base) ≡ Some base
+base_again base good = base_again_by Fourth base (good_now base good)

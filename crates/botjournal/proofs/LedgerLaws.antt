@@ -23,7 +23,8 @@ use Rattle.botjournal.specs.declared.entry.Entry.{Entry}
 use Rattle.botjournal.specs.declared.opening.OpenedJournal.{OpenedJournal}
 use Rattle.botjournal.specs.declared.store.Store.{Store}
 use Rattle.botjournal.specs.declared.store.Store.TheVariants.{Open, Shut, InHand}
-use Rattle.botjournal.specs.Contents.{Contents, meaning, with_base, entries_in, spelled, spelled_by, typed}
+use Rattle.botjournal.specs.declared.sums.Seal.{Seal}
+use Rattle.botjournal.specs.Contents.{Contents, meaning, body_in, seal_by, if_sealed, with_base, entries_in, spelled, spelled_by, typed}
 use Rattle.botjournal.specs.declared.layouts.Layout.{Layout}
 use Rattle.botjournal.specs.Layouts.{layout_of}
 use Rattle.botjournal.specs.Bases.{base_in}
@@ -60,8 +61,14 @@ with_base_of number generation (Some base) (Some entries) contents is = (sym (ap
 spelled_of : (layout : Option Layout) (texts : Texts) (contents : Contents) → spelled_by layout texts ≡ Some contents
     → IsOf texts.layout texts.generation contents
 spelled_of None texts contents is = absurd cc
-spelled_of (Some layout) texts contents is =
-    with_base_of texts.layout texts.generation (base_in layout texts.base) (entries_in layout texts.entries) contents is
+spelled_of (Some layout) texts contents is = by (seal_by layout texts) is
+  where
+    by : (seal : Option Seal) → if_sealed seal
+        (with_base texts.layout texts.generation (base_in layout (body_in layout texts.base)) (entries_in layout texts.entries)) ≡ Some contents
+        → IsOf texts.layout texts.generation contents
+    by None is = absurd cc
+    by (Some seal) is =
+        with_base_of texts.layout texts.generation (base_in layout (body_in layout texts.base)) (entries_in layout texts.entries) contents is
 
 -- images of two disks that mean what they meant
 either_moved : (before before' after after' : Option Contents) (x y : List ℕ) → before ≡ before' → after ≡ after' → IsEither before after x y

@@ -13,16 +13,23 @@ use Rattle.botjournal.specs.declared.reply.Reply.{Reply}
 use Rattle.botjournal.specs.declared.request.Request.{Request}
 use Rattle.botjournal.specs.Entries.{entry_bytes, IsGoodEntry}
 use Rattle.botjournal.specs.Bases.{reply_bytes, request_bytes, base_bytes, IsGoodReply, IsGoodRequest, HasShapeOut, HasShapes, IsGoodBase}
+use Rattle.botjournal.specs.declared.sums.Seal.{Seal}
+use Rattle.botjournal.specs.Sums.{sealed}
 use Rattle.botjournal.proofs.WindowLaws.{out_few}
+use Rattle.botjournal.proofs.SumLaws.{length-sealed}
 
 -- ---- entries
 
-pub entry_is_short : (entry : Entry) → IsGoodEntry entry → length (entry_bytes entry) < 2 ^ 32
-entry_is_short (Accepted origin r change) good = let short = change_is_short change (short_texts change good.1.1.shape) in simp length-append (omega arith)
-entry_is_short (Settled leaf r fault) good = omega arith
-entry_is_short (Applied n change) good = let short = change_is_short change (short_texts change good.1.shape) in simp length-append (omega arith)
-entry_is_short (ReqOut r change) good = let short = change_is_short change (short_texts change good.1.shape) in simp length-append (omega arith)
-entry_is_short (ReqDone r) good = omega arith
+-- with room for a sum
+entry_is_below : (entry : Entry) → IsGoodEntry entry → length (entry_bytes entry) < 2 ^ 31
+entry_is_below (Accepted origin r change) good = let short = change_is_short change (short_texts change good.1.1.shape) in simp length-append (omega arith)
+entry_is_below (Settled leaf r fault) good = omega arith
+entry_is_below (Applied n change) good = let short = change_is_short change (short_texts change good.1.shape) in simp length-append (omega arith)
+entry_is_below (ReqOut r change) good = let short = change_is_short change (short_texts change good.1.shape) in simp length-append (omega arith)
+entry_is_below (ReqDone r) good = omega arith
+
+pub entry_is_short : (entry : Entry) → IsGoodEntry entry → (before : Seal) → length (sealed before (entry_bytes entry)) < 2 ^ 32
+entry_is_short entry good before = omega (arith, entry_is_below entry good, length-sealed before (entry_bytes entry))
 
 -- ---- bases
 
@@ -38,8 +45,8 @@ request_is_short request good =
     let short = change_is_short request.change (short_texts request.change good.1.shape) in
     simp length-append (omega arith)
 
-pub base_is_short : (base : Base) → IsGoodBase base → length (base_bytes base) < 2 ^ 32
-base_is_short base good =
+base_is_below : (base : Base) → IsGoodBase base → length (base_bytes base) < 2 ^ 31
+base_is_below base good =
     let records_are = many_short record_bytes 4900 base.records (all_map IsGoodRecord (λ r. length (record_bytes r) ≤ 4900) record_is_short base.records
     good.records.1) in
     let replies_are = many_short reply_bytes 300 base.replies (all_map IsGoodReply (λ r. length (reply_bytes r) ≤ 300) reply_is_short base.replies good.replies.1) in
@@ -48,6 +55,9 @@ base_is_short base good =
     let requests_are = many_short request_bytes 2100 base.out (all_map IsGoodRequest (λ r. length (request_bytes r) ≤ 2100) request_is_short base.out good.out.0) in
     let few = out_few base.last_request base.out good.out.1 in
     simp length-append (omega arith)
+
+pub base_is_short : (base : Base) → IsGoodBase base → (before : Seal) → length (sealed before (base_bytes base)) < 2 ^ 32
+base_is_short base good before = omega (arith, base_is_below base good, length-sealed before (base_bytes base))
 
 pub shapes_are : (base : Base) → IsGoodBase base → HasShapes base
 shapes_are base good = record {

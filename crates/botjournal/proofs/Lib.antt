@@ -1,3 +1,5 @@
+pub mod SumLaws
+pub mod CutLaws
 pub mod WholeLaws
 pub mod LayoutLaws
 pub mod EntryLaws

@@ -1,5 +1,5 @@
 -- What two disks mean whose texts are all spellings.
-use Rattle.std.proofs.Common.{◌≡◌, ◌⊎◌, inl, inr, ⊎_elim, ℕ, Bool, true, false, Option, Some, None, List, refl, sym, ap, subst, ◌∙◌}
+use Rattle.std.proofs.Common.{◌≡◌, ◌⊎◌, inl, inr, ⊎_elim, ℕ, Bool, true, false, Option, Some, None, List, ◌∷◌, refl, sym, ap, subst, ◌∙◌}
 use Rattle.std.specs.Prelude.{IsSome, if◌then◌else◌}
 use Rattle.std.specs.Option.{is_some}
 use Rattle.disks.specs.State.{State, moment}
@@ -8,12 +8,22 @@ use Rattle.bytejournal.specs.declared.journal.Journal.{Journal}
 use Rattle.bytejournal.specs.declared.opening.Older.{Older}
 use Rattle.bytejournal.specs.Meaning.{Contents as Texts, Held, held, chosen, meaning as meaning_in_texts}
 use Rattle.bytejournal.specs.Meaning.Held.{Shut, Broken, Open}
-use Rattle.bytejournal.specs.Journal.{HoldsOne, AnyMoment, IsEither as IsEitherText, first_disk, second_disk, contents_of as texts_of}
+use Rattle.bytejournal.specs.Journal.{Holds, HoldsOne, AnyMoment, IsEither as IsEitherText, first_disk, second_disk, contents_of as texts_of}
 use Rattle.bytejournal.specs.Opening.{held_older}
 use Rattle.bytejournal.proofs.Pairs.{chosen_comm}
 use Rattle.bytejournal.proofs.Recovering.{some_is}
-use Rattle.botjournal.specs.Contents.{Contents, spelled, where_spelled, checked, typed, meaning}
+use Rattle.botjournal.specs.declared.layouts.Layout.TheVariants.{Fourth}
+use Rattle.botjournal.specs.declared.sums.Seal.{Seal}
+use Rattle.botjournal.specs.declared.TheConstants.{LAYOUT}
+use Rattle.botjournal.specs.Layouts.{layout_of}
+use Rattle.botjournal.specs.Bases.{base_in}
+use Rattle.botjournal.specs.Sums.{start, AreCarried}
+use Rattle.botjournal.specs.Contents.{Contents, body_in, entries_in, seal_by, if_sealed, with_base, spelled, spelled_by, where_spelled, checked, typed, meaning}
 use Rattle.botjournal.specs.Journal.{IsEither, contents_of, is_spelled}
+use Rattle.botjournal.proofs.SumLaws.{carried}
+
+no_contents : (contents : Option Contents) → (let o : Option Contents = None in o) ≡ contents → IsSome contents → ⊥
+no_contents contents none some = cc
 
 -- ---- one disk
 
@@ -49,6 +59,27 @@ first_spelled x y some texts is = spelled_there (held x) (checked (held y)) text
 
 pub second_spelled : (x y : List ℕ) → IsSome (meaning x y) → IsAllSpelled y
 second_spelled x y some = first_spelled y x (subst IsSome (meaning_comm x y) some)
+
+-- so the texts of the layout that is written carry their sums
+sums_carried : (texts : Texts) (contents : Option Contents) → layout_of texts.layout ≡ Some Fourth → spelled texts ≡ contents → IsSome contents
+    → AreCarried (start texts.layout texts.generation) (texts.base ∷ texts.entries)
+sums_carried texts contents known read some = by (seal_by Fourth texts) refl (ap (λ o. spelled_by o texts) (sym known) ∙ read)
+  where
+    rest : Option Contents
+    rest = with_base texts.layout texts.generation (base_in Fourth (body_in Fourth texts.base)) (entries_in Fourth texts.entries)
+
+    by : (seal : Option Seal) → seal_by Fourth texts ≡ seal → if_sealed seal rest ≡ contents
+        → AreCarried (start texts.layout texts.generation) (texts.base ∷ texts.entries)
+    by None is none = absurd (no_contents contents none some)
+    by (Some seal) is same = carried (start texts.layout texts.generation) (texts.base ∷ texts.entries) seal is
+
+pub all_carried : (x y : List ℕ) (contents : Contents) (texts : Texts) → meaning x y ≡ Some contents → Holds x y texts
+    → texts.layout ≡ LAYOUT → AreCarried (start LAYOUT texts.generation) (texts.base ∷ texts.entries)
+all_carried x y contents texts means one current =
+    let some : IsSome (meaning x y) = some_is (meaning x y) (Some contents) means refl in
+    let here : IsSome (spelled texts) = ⊎_elim (λ h. first_spelled x y some texts h) (λ h. second_spelled x y some texts h) one in
+    subst (λ n. AreCarried (start n texts.generation) (texts.base ∷ texts.entries)) current
+    (sums_carried texts (spelled texts) (ap layout_of current) refl here)
 
 -- and where all is spelled, the disks mean what their texts mean
 pub means_texts : (x y : List ℕ) → IsAllSpelled x → IsAllSpelled y → meaning x y ≡ typed (meaning_in_texts x y)

@@ -1,5 +1,5 @@
 -- Journals that are made and opened, their contents read.
-use Rattle.std.proofs.Common.{◌≡◌, ℕ, Bool, true, false, Option, None, Some, Result, Ok, Err, List, [], refl, sym, ap, subst, ◌∙◌}
+use Rattle.std.proofs.Common.{◌≡◌, ℕ, Bool, true, false, Option, None, Some, Result, Ok, Err, List, refl, sym, ap, subst, ◌∙◌}
 use Rattle.std.specs.Prelude.{if◌then◌else◌}
 use Rattle.bytetext.specs.declared.failure.Failure.{Failure}
 use Rattle.bytetext.specs.declared.failure.Failure.TheVariants.{Refused, NoMemory}
@@ -12,7 +12,7 @@ use Rattle.bytejournal.specs.declared.opening.Returned.{Returned}
 use Rattle.bytejournal.specs.declared.opening.Older.{Older}
 use Rattle.bytejournal.specs.Meaning.{Contents as Texts, Held, held, chosen, meaning as meaning_in_texts}
 use Rattle.bytejournal.specs.Meaning.Held.{Open}
-use Rattle.bytejournal.specs.Journal.{IsAtRest as AreTextsAtRest, first_disk, second_disk}
+use Rattle.bytejournal.specs.Journal.{IsAtRest as AreTextsAtRest, first_disk, second_disk, contents_of as texts_of}
 use Rattle.bytejournal.specs.Opening.{new_contents as new_texts, Untouched, held_older, Creates as CreatesTexts, Refuses as RefusesTexts, Opens as OpensTexts, Restarts as RestartsTexts}
 use Rattle.bytejournal.proofs.Pairs.{means_byte, meaning_comm as texts_comm}
 use Rattle.bytejournal.proofs.Recovering.{some_is}
@@ -20,9 +20,13 @@ use Rattle.botjournal.specs.declared.base.Base.{Base}
 use Rattle.botjournal.specs.declared.opening.OpenedJournal.{OpenedJournal}
 use Rattle.botjournal.specs.declared.TheConstants.{LAYOUT}
 use Rattle.botjournal.specs.Bases.{base_bytes, IsGoodBase}
-use Rattle.botjournal.specs.Contents.{Contents, new_contents, with_base, spelled, checked, typed, meaning}
-use Rattle.botjournal.specs.Journal.{IsAtRest, contents_of, Creates, Refuses, Opens, Restarts, IsNotRefused, CannotRead, is_spelled, texts_found, contents_read, ReadsTexts}
-use Rattle.botjournal.proofs.BaseLaws.{base_again}
+use Rattle.botjournal.specs.declared.layouts.Layout.TheVariants.{Fourth}
+use Rattle.botjournal.specs.declared.sums.Seal.{Seal}
+use Rattle.botjournal.specs.Sums.{start, sealed, after}
+use Rattle.botjournal.specs.Contents.{Contents, new_contents, seal_by, spelled, checked, typed, meaning}
+use Rattle.botjournal.specs.Journal.{IsAtRest, contents_of, Creates, Refuses, Opens, Restarts, IsNotRefused, CannotRead, AreSealed, IsSealed, is_spelled, texts_found, contents_read, ReadsTexts}
+use Rattle.botjournal.proofs.SumLaws.{step_sealed, through_one}
+use Rattle.botjournal.proofs.JournalLaws.{spelled_alone}
 use Rattle.botjournal.proofs.MeaningLaws.{meaning_comm, alone_means, found_means, means_none, contents_in_order}
 
 some_not_none : (read : Option Contents) (contents : Contents) → read ≡ Some contents → read ≡ None → ⊥
@@ -31,15 +35,26 @@ some_not_none read contents is none = cc
 module _ {D : Type 0} (state : D → State) where
   -- ---- made
 
-  pub creates : (first second : D) (base : Base) (text : List ℕ) → IsGoodBase base → text ≡ base_bytes base → (journal : Journal D)
+  pub creates : (first second : D) (base : Base) (text : List ℕ) → IsGoodBase base → text ≡ sealed (start LAYOUT 1) (base_bytes base)
+      → (journal : Journal D)
       → CreatesTexts state first second LAYOUT text (Ok journal) → Creates state first second base (Ok journal)
   creates first second base text good is journal r =
       let x = (state journal.active).seen in
       let contents : contents_of state journal ≡ Some (new_contents base) =
       ap (λ (h : Held). typed (chosen (checked (held x)) (checked h))) r.3
       ∙ alone_means (held x) (new_texts LAYOUT text) (ap (λ (h : Held). chosen (held x) h) (sym r.3) ∙ r.2) ∙ ap (λ t. spelled (new_texts LAYOUT t)) is
-      ∙ ap (λ b. with_base LAYOUT 1 b (Some [])) (base_again base good) in
+      ∙ spelled_alone 1 base good in
       (r.0, record { texts = r.1; some = some_is (contents_of state journal) (Some (new_contents base)) contents refl }, contents)
+
+  -- the seal of a new journal is the one after its base
+  pub new_is_sealed : (first second : D) (base : Base) (text : List ℕ) (seal : Seal) → text ≡ sealed (start LAYOUT 1) (base_bytes base)
+      → seal ≡ after (start LAYOUT 1) (base_bytes base) → (journal : Journal D)
+      → CreatesTexts state first second LAYOUT text (Ok journal) → IsSealed state journal seal
+  new_is_sealed first second base text seal is next journal r = λ going.
+      subst (λ (o : Option Texts). AreSealed o seal) (sym r.2)
+      (λ current. ap (λ t. seal_by Fourth (new_texts LAYOUT t)) is
+      ∙ through_one (start LAYOUT 1) (sealed (start LAYOUT 1) (base_bytes base)) (after (start LAYOUT 1) (base_bytes base)) (step_sealed (start LAYOUT 1) (base_bytes base))
+      ∙ ap Some (sym next))
 
   -- ---- opened
 
@@ -47,6 +62,28 @@ module _ {D : Type 0} (state : D → State) where
       → meaning (state first').seen (state second').seen ≡ meaning (state first).seen (state second).seen
   untouched_means first second first' second' a b =
       ap (λ x. meaning x (state second').seen) a.seen ∙ ap (λ y. meaning (state first).seen y) b.seen
+
+  -- the journal that was opened holds the texts that were found
+  texts_in_order : (journal : Journal D)
+      → texts_of state journal ≡ meaning_in_texts (state (first_disk journal)).seen (state (second_disk journal)).seen
+  texts_in_order journal = by journal.swapped journal.active journal.idle
+    where
+      by : (swapped : Bool) (active idle : D) → meaning_in_texts (state active).seen (state idle).seen
+          ≡ meaning_in_texts (state (if swapped then idle else active)).seen (state (if swapped then active else idle)).seen
+      by false active idle = refl
+      by true active idle = texts_comm (state active).seen (state idle).seen
+
+  pub opened_texts : (first second : D) (texts : OpenedTexts D) → OpensTexts state first second (Ok texts)
+      → texts_of state texts.journal ≡ Some (texts_found texts)
+  opened_texts first second texts o =
+      texts_in_order texts.journal
+      ∙ ap (λ x. meaning_in_texts x (state (second_disk texts.journal)).seen) o.1.seen
+      ∙ ap (λ y. meaning_in_texts (state first).seen y) o.2.seen
+      ∙ o.0.found
+
+  pub restarted_texts : (journal : Journal D) (texts : OpenedTexts D) → RestartsTexts state journal (Ok texts)
+      → texts_of state texts.journal ≡ Some (texts_found texts)
+  restarted_texts journal texts h = opened_texts h.0 h.1 texts h.4
 
   -- the texts that were found on the first disk
   found_first : (x y : List ℕ) (texts : Texts) (older : Option Older) → meaning_in_texts x y ≡ Some texts → held x ≡ Open texts

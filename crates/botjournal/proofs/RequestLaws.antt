@@ -10,14 +10,14 @@ use Rattle.usercodec.specs.Fields.{number, counted, Reading, byte_at, number_at}
 use Rattle.usercodec.specs.Changes.{both, made, change_bytes}
 use Rattle.usercodec.proofs.Steps.{IsBytes, chosen, bind_ok, ok_is, Takes}
 use Rattle.usercodec.proofs.PartLaws.{IsPart, checked_part, made_part, both_part}
-use Rattle.usercodec.proofs.ReaderLaws.{byte_part, u32_part, change_part}
+use Rattle.usercodec.proofs.ReaderLaws.{byte_part, u32_part}
 use Rattle.usercodec.proofs.ItemLaws.{counted_part}
 use Rattle.botjournal.specs.declared.TheConstants.{WINDOW}
 use Rattle.botjournal.specs.declared.request.Request.{Request}
 use Rattle.botjournal.specs.declared.layouts.Layout.{Layout}
-use Rattle.botjournal.specs.declared.layouts.Layout.TheVariants.{First, Second, Third}
+use Rattle.botjournal.specs.declared.layouts.Layout.TheVariants.{First, Second, Third, Fourth}
 use Rattle.botjournal.specs.Layouts.{IsGoodChangeBy, change_by}
-use Rattle.botjournal.specs.Bases.{request_bytes, one_out_bytes, out_bytes_by, are_out, IsGoodRequest, AreOut, IsOneOut, AreOutBy}
+use Rattle.botjournal.specs.Bases.{request_bytes, one_out_bytes, out_bytes_by, are_out, IsGoodRequestBy, AreWindow, IsOneOut, AreOutBy}
 use Rattle.botjournal.specs.Bases.{change_out_from, change_out_at, one_out, one_out_at, request_at, requests_listed_at, window_at, out_at}
 use Rattle.botjournal.proofs.LayoutLaws.{change_part_by}
 use Rattle.botjournal.proofs.WindowLaws.{out_few}
@@ -122,29 +122,31 @@ one_out_part layout = record { takes = takes; again = again }
         → one_out_at layout ((number w32 x.0 ++ one_out_bytes x.1) ++ rest) ≡ Ok (x, rest)
     again x rest good = again_by x.0 x.1 rest good.0 good.1
 
--- ---- the requests of layout 3
+-- ---- the requests from layout 3 on
 
-request_part : IsPart request_at request_bytes IsGoodRequest
+request_part : (layout : Layout) → IsPart (request_at layout) request_bytes (IsGoodRequestBy layout)
 unfolding request_at
-request_part =
-    made_part (both_part u32_part change_part) (λ x. record { number = x.0; change = x.1 }) (λ y. (y.number, y.change)) (λ y. refl) request_bytes (λ x. refl)
-    (λ y. refl) IsGoodRequest (λ x g. g) (λ y g. g)
+request_part layout =
+    made_part (both_part u32_part (change_part_by layout)) (λ x. record { number = x.0; change = x.1 }) (λ y. (y.number, y.change)) (λ y. refl) request_bytes (λ x. refl)
+    (λ y. refl) (IsGoodRequestBy layout) (λ x g. g) (λ y g. g)
 
-requests_part : IsPart requests_listed_at (counted request_bytes) (λ requests. (nat_le (length requests) WINDOW ≡ true) × AllByRecursion IsGoodRequest requests)
+requests_part : (layout : Layout) → IsPart (requests_listed_at layout) (counted request_bytes)
+    (λ requests. (nat_le (length requests) WINDOW ≡ true) × AllByRecursion (IsGoodRequestBy layout) requests)
 unfolding requests_listed_at
-requests_part = counted_part request_part WINDOW (omega arith)
+requests_part layout = counted_part (request_part layout) WINDOW (omega arith)
 
 -- one that passes the test has few enough for the count
-window_part : IsPart window_at (λ x. number w32 x.0 ++ counted request_bytes x.1) (λ x. (x.0 < 2 ^ 32) × AreOut x.0 x.1)
+window_part : (layout : Layout) → IsPart (window_at layout) (λ x. number w32 x.0 ++ counted request_bytes x.1)
+    (λ x. (x.0 < 2 ^ 32) × AreWindow layout x.0 x.1)
 unfolding window_at
-window_part = record {
+window_part layout = record {
   takes = λ bytes x rest fits e. (let t = part.takes bytes x rest fits e in (t.0, (t.1.0.0, (t.1.0.1.1, t.1.1))));
   again = λ x rest good. part.again x rest ((good.0, (few x.0 x.1 good.1.1, good.1.0)), good.1.1);
 }
   where
-    part : IsPart window_at (λ x. number w32 x.0 ++ counted request_bytes x.1)
-        (λ x. ((x.0 < 2 ^ 32) × ((nat_le (length x.1) WINDOW ≡ true) × AllByRecursion IsGoodRequest x.1)) × (are_out x.0 x.1 ≡ true))
-    part = checked_part (both_part u32_part requests_part) (λ x. are_out x.0 x.1)
+    part : IsPart (window_at layout) (λ x. number w32 x.0 ++ counted request_bytes x.1)
+        (λ x. ((x.0 < 2 ^ 32) × ((nat_le (length x.1) WINDOW ≡ true) × AllByRecursion (IsGoodRequestBy layout) x.1)) × (are_out x.0 x.1 ≡ true))
+    part = checked_part (both_part u32_part (requests_part layout)) (λ x. are_out x.0 x.1)
 
     few : (last : ℕ) (requests : List Request) → are_out last requests ≡ true → nat_le (length requests) WINDOW ≡ true
     few last requests out = let is_few = out_few last requests out in grind (arith, nat_tests)
@@ -154,4 +156,5 @@ window_part = record {
 pub out_part : (layout : Layout) → IsPart (out_at layout) (λ x. number w32 x.0 ++ out_bytes_by layout x.1) (λ x. (x.0 < 2 ^ 32) × AreOutBy layout x.0 x.1)
 out_part First = one_out_part First
 out_part Second = one_out_part Second
-out_part Third = window_part
+out_part Third = window_part Third
+out_part Fourth = window_part Fourth

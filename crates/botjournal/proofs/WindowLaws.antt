@@ -7,9 +7,10 @@ use Rattle.botjournal.specs.declared.TheConstants.{WINDOW}
 use Rattle.botjournal.specs.declared.reply.Reply.{Reply}
 use Rattle.botjournal.specs.declared.request.Request.{Request}
 use Rattle.botjournal.specs.declared.layouts.Layout.{Layout}
-use Rattle.botjournal.specs.declared.layouts.Layout.TheVariants.{First, Second, Third}
-use Rattle.botjournal.specs.Bases.{rises_from, are_rising, may_follow, are_kept, are_kept_by, numbers_rise_from, is_near, are_out, AreOut, IsOneOut, AreOutBy}
+use Rattle.botjournal.specs.declared.layouts.Layout.TheVariants.{First, Second, Third, Fourth}
+use Rattle.botjournal.specs.Bases.{rises_from, are_rising, may_follow, are_kept, are_kept_by, numbers_rise_from, is_near, are_out, IsGoodRequest, AreOut, IsGoodRequestBy, IsOneOut, AreOutBy}
 use Rattle.botjournal.proofs.LayoutLaws.{change_good}
+use Rattle.usercodec.proofs.RecordLengths.{all_map}
 
 -- ---- replies
 
@@ -30,6 +31,7 @@ pub kept_good : (layout : Layout) (replies : List Reply) → are_kept_by layout 
 kept_good First replies rises = rising-kept replies rises
 kept_good Second replies rises = rising-kept replies rises
 kept_good Third replies kept = kept
+kept_good Fourth replies kept = kept
 
 -- ---- requests
 
@@ -81,4 +83,6 @@ one_good layout last (request ∷ other ∷ more) small out = absurd out
 pub out_good : (layout : Layout) (last : ℕ) (requests : List Request) → last < 2 ^ 32 → AreOutBy layout last requests → AreOut last requests
 out_good First last requests small out = one_good First last requests small out
 out_good Second last requests small out = one_good Second last requests small out
-out_good Third last requests small out = out
+out_good Third last requests small out =
+    (all_map (IsGoodRequestBy Third) IsGoodRequest (λ request good. (good.0, change_good Third request.change good.1)) requests out.0, out.1)
+out_good Fourth last requests small out = out

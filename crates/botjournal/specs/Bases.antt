@@ -9,13 +9,13 @@ use Rattle.userfile.specs.declared.change.Change.{Change}
 use Rattle.usercodec.specs.declared.fault.CodecFault.TheVariants.{NotCanonical}
 use Rattle.usercodec.specs.declared.records.Record.{Record}
 use Rattle.usercodec.specs.Fields.{number, counted, Reading, ◌>>=◌, checked, byte_at, number_at}
-use Rattle.usercodec.specs.Changes.{change_bytes, IsGoodChange, change_at, both, made}
+use Rattle.usercodec.specs.Changes.{change_bytes, IsGoodChange, both, made}
 use Rattle.usercodec.specs.Records.{HasShape, IsGoodRecord, items_at, counted_at}
 use Rattle.usercodec.specs.FaultBytes.{fault_byte, fault_from, known}
 use Rattle.botjournal.specs.Whole.{whole}
 use Rattle.botjournal.specs.Layouts.{IsGoodChangeBy, change_by, record_bytes_by, IsGoodRecordBy, so_many_records_by}
 use Rattle.botjournal.specs.declared.layouts.Layout.{Layout}
-use Rattle.botjournal.specs.declared.layouts.Layout.TheVariants.{First, Second, Third}
+use Rattle.botjournal.specs.declared.layouts.Layout.TheVariants.{First, Second, Third, Fourth}
 use Rattle.botjournal.specs.declared.TheConstants.{WINDOW}
 use Rattle.botjournal.specs.declared.base.Base.{Base}
 use Rattle.botjournal.specs.declared.reply.Verdict.{Verdict}
@@ -45,11 +45,12 @@ abbrev pub one_out_bytes : List Request → List ℕ
 one_out_bytes [] = 0 ∷ []
 one_out_bytes (request ∷ more) = 1 ∷ change_bytes request.change
 
--- the outstanding requests: those of layout 3 come after their count, which has one byte
+-- the outstanding requests: from layout 3 on they come after their count, which has one byte
 abbrev pub out_bytes_by : Layout → List Request → List ℕ
 out_bytes_by First = one_out_bytes
 out_bytes_by Second = one_out_bytes
 out_bytes_by Third = counted request_bytes
+out_bytes_by Fourth = counted request_bytes
 
 -- a base in this layout, its fields one after the other, each number with its most significant byte first
 abbrev pub base_bytes_by : Layout → Base → List ℕ
@@ -59,7 +60,7 @@ base_bytes_by layout base =
 
 -- a base as it is written
 abbrev pub base_bytes : Base → List ℕ
-base_bytes base = base_bytes_by Third base
+base_bytes base = base_bytes_by Fourth base
 
 -- ---- which bases have a spelling
 
@@ -93,6 +94,7 @@ abbrev pub are_kept_by : Layout → List Reply → Bool
 are_kept_by First = are_rising
 are_kept_by Second = are_rising
 are_kept_by Third = are_kept
+are_kept_by Fourth = are_kept
 
 -- the first number is at least this, and each other number is above the one before it
 abbrev pub numbers_rise_from : ℕ → List Request → Bool
@@ -142,6 +144,14 @@ IsGoodRequest request = (request.number < 2 ^ 32) × IsGoodChange request.change
 abbrev pub AreOut : ℕ → List Request → Type 0
 AreOut last requests = AllByRecursion IsGoodRequest requests × (are_out last requests ≡ true)
 
+-- a request whose change has a spelling in this layout
+abbrev pub IsGoodRequestBy : Layout → Request → Type 0
+IsGoodRequestBy layout request = (request.number < 2 ^ 32) × IsGoodChangeBy layout request.change
+
+-- requests that have spellings in this layout, and may be outstanding when the last request had this number
+abbrev pub AreWindow : Layout → ℕ → List Request → Type 0
+AreWindow layout last requests = AllByRecursion (IsGoodRequestBy layout) requests × (are_out last requests ≡ true)
+
 -- no request, or one that has this number and whose change has a spelling in this layout
 abbrev pub IsOneOut : Layout → ℕ → List Request → Type 0
 IsOneOut layout last [] = Unit {0}
@@ -152,7 +162,8 @@ IsOneOut layout last (request ∷ other ∷ more) = ⊥
 abbrev pub AreOutBy : Layout → ℕ → List Request → Type 0
 AreOutBy First = IsOneOut First
 AreOutBy Second = IsOneOut Second
-AreOutBy Third = AreOut
+AreOutBy Third = AreWindow Third
+AreOutBy Fourth = AreWindow Fourth
 
 -- items that have spellings, and not too many for their count
 abbrev pub AreListed : {A : Type 0} → (A → Type 0) → List A → Type 0
@@ -231,21 +242,22 @@ one_out last (Some change) = record { number = last; change = change } ∷ []
 unfoldable pub one_out_at : Layout → List ℕ → Reading (ℕ × List Request)
 one_out_at layout bytes = made (λ x. (x.0, one_out x.0 x.1)) (both (number_at w32) (change_out_at layout) bytes)
 
-unfoldable pub request_at : List ℕ → Reading Request
-request_at bytes = made (λ x. record { number = x.0; change = x.1 }) (both (number_at w32) change_at bytes)
+unfoldable pub request_at : Layout → List ℕ → Reading Request
+request_at layout bytes = made (λ x. record { number = x.0; change = x.1 }) (both (number_at w32) (change_by layout) bytes)
 
-unfoldable pub requests_listed_at : List ℕ → Reading (List Request)
-requests_listed_at bytes = counted_at WINDOW (λ held more. request_at more) bytes
+unfoldable pub requests_listed_at : Layout → List ℕ → Reading (List Request)
+requests_listed_at layout bytes = counted_at WINDOW (λ held more. request_at layout more) bytes
 
--- layout 3's last request number, and its outstanding requests
-unfoldable pub window_at : List ℕ → Reading (ℕ × List Request)
-window_at bytes = checked (λ x. are_out x.0 x.1) (both (number_at w32) requests_listed_at bytes)
+-- from layout 3 on: the last request number, and the outstanding requests
+unfoldable pub window_at : Layout → List ℕ → Reading (ℕ × List Request)
+window_at layout bytes = checked (λ x. are_out x.0 x.1) (both (number_at w32) (requests_listed_at layout) bytes)
 
 -- the last request number, and the outstanding requests
 abbrev pub out_at : Layout → List ℕ → Reading (ℕ × List Request)
 out_at First = one_out_at First
 out_at Second = one_out_at Second
-out_at Third = window_at
+out_at Third = window_at Third
+out_at Fourth = window_at Fourth
 
 -- the base of these fields
 abbrev pub base_of : ℕ × (ℕ × (List Record × (List Reply × (ℕ × List Request)))) → Base

@@ -12,15 +12,17 @@ use Rattle.bytejournal.specs.declared.opening.Returned.{Returned}
 use Rattle.bytejournal.specs.declared.opening.Older.{Older}
 use Rattle.bytejournal.specs.declared.opening.Opened.{Opened as OpenedTexts}
 use Rattle.bytejournal.specs.Meaning.{Contents as Texts, IsWhole}
-use Rattle.bytejournal.specs.Journal.{IsAtRest as AreTextsAtRest, DiskFailed, SameDisks, first_disk, second_disk}
+use Rattle.bytejournal.specs.Journal.{IsAtRest as AreTextsAtRest, DiskFailed, SameDisks, first_disk, second_disk, contents_of as texts_of}
 use Rattle.bytejournal.specs.Opening.{CannotCreate, HoldByte, Untouched, Reopened}
 use Rattle.botjournal.specs.declared.base.Base.{Base}
 use Rattle.botjournal.specs.declared.entry.Entry.{Entry}
 use Rattle.botjournal.specs.declared.TheConstants.{LAYOUT}
 use Rattle.botjournal.specs.declared.opening.OpenedJournal.{OpenedJournal}
+use Rattle.botjournal.specs.declared.sums.Seal.{Seal}
+use Rattle.botjournal.specs.declared.layouts.Layout.TheVariants.{Fourth}
 use Rattle.botjournal.specs.Bases.{IsGoodBase}
 use Rattle.botjournal.specs.Entries.{IsGoodEntry}
-use Rattle.botjournal.specs.Contents.{Contents, added, rebased, new_contents, spelled, meaning}
+use Rattle.botjournal.specs.Contents.{Contents, added, rebased, new_contents, seal_by, spelled, meaning}
 
 -- two images mean `before` or `after`, and all their gates exist
 pub record IsEither (before after : Option Contents) (first second : List ℕ) : Type 0 where
@@ -28,7 +30,16 @@ pub record IsEither (before after : Option Contents) (first second : List ℕ) :
   pub first_whole : IsWhole first
   pub second_whole : IsWhole second
 
+-- this is the seal after these texts, if they are in the layout that is written
+abbrev pub AreSealed : Option Texts → Seal → Type 0
+AreSealed None seal = Unit {0}
+AreSealed (Some texts) seal = texts.layout ≡ LAYOUT → seal_by Fourth texts ≡ Some seal
+
 module _ {D : Type 0} (state : D → State) where
+  -- the seal that a journal keeps is the one after its texts
+  abbrev pub IsSealed : OfTexts D → Seal → Type 0
+  IsSealed journal seal = journal.spent ≡ false → AreSealed (texts_of state journal) seal
+
   -- what the journal's disks mean
   abbrev pub contents_of : OfTexts D → Option Contents
   contents_of journal = meaning (state journal.active).seen (state journal.idle).seen

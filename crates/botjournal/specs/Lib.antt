@@ -1,8 +1,10 @@
 pub mod Whole
 pub mod Layouts
+pub mod Sums
 pub mod Entries
 pub mod Bases
 pub mod Empty
+pub mod CutShort
 pub mod Contents
 pub mod Journal
 pub mod Recovery

@@ -5,7 +5,7 @@ ghost use Rattle.botjournal.specs.Empty.{item_count, FindsSome};
 ghost use Rattle.botjournal.specs.Bases.{base_bytes, base_in, IsGoodBase, HasShapes, IsBaseOf};
 ghost use Rattle.botjournal.specs.Bases.{base_bytes_by, IsGoodBaseBy, IsBaseBy, FindsBase, is_of_its_bot};
 ghost use Rattle.botjournal.specs.Bases.{parts_at, base_at};
-ghost use Rattle.botjournal.specs.declared.layouts.Layout.TheVariants.{Third};
+ghost use Rattle.botjournal.specs.declared.layouts.Layout.TheVariants.{Fourth};
 
 use crate::base::Base;
 use crate::layouts::Layout;
@@ -46,14 +46,14 @@ fn put_base(out: &mut Vec<u8>, base: &Base) -> Result<(), NoMemory>
 /// `NoMemory` if it cannot allocate room for the base; never if the bytes begin with a base that holds no record, no
 /// reply and no request.
 pub fn read_base(alloc: Global, bytes: &[u8]) -> Result<Option<Base>, NoMemory>
-    ensures exact { IfOk result (λ read. read ≡ base_in Third bytes.now) }
+    ensures exact { IfOk result (λ read. read ≡ base_in Fourth bytes.now) }
     // What it reads is spelled by the bytes.
     ensures spelled { IfOk result (λ read. IsBaseOf bytes.now read) }
     // It reads whatever has a spelling.
     ensures only { (base : Base) → IsGoodBase base → bytes.now ≡ base_bytes base → FindsBase base result }
-    ensures memory { IfErr result (λ _. IfOk (base_at Third bytes.now) (λ x. 0 < item_count x.0)) }
+    ensures memory { IfErr result (λ _. IfOk (base_at Fourth bytes.now) (λ x. 0 < item_count x.0)) }
 {
-    read_base_by(alloc, Layout::Third, bytes)
+    read_base_by(alloc, Layout::Fourth, bytes)
 }
 
 /// Returns the base whose spelling in `layout` is all of `bytes`, or `None` if they are no base's spelling.

@@ -9,7 +9,7 @@ ghost use Rattle.botjournal.specs.declared.entry.Entry.{Entry};
 ghost use Rattle.botjournal.specs.Entries.{entry_bytes, entry_in, IsGoodEntry, IsGoodEntryBy, HasShape, IsEntryOf, FindsEntry};
 ghost use Rattle.botjournal.specs.Entries.{entry_at, entry_fields_at, accepted_at, settled_at, applied_at};
 ghost use Rattle.botjournal.specs.Entries.{request_out_at, request_done_at, MakesEntry, TakesMemory};
-ghost use Rattle.botjournal.specs.declared.layouts.Layout.TheVariants.{Third};
+ghost use Rattle.botjournal.specs.declared.layouts.Layout.TheVariants.{Fourth};
 
 use crate::entry::Entry;
 use crate::layouts::{Layout, change};
@@ -87,14 +87,14 @@ fn put_numbered(out: &mut Vec<u8>, tag: u8, n: u32, change: &Change) -> Result<(
 /// `NoMemory` if it cannot allocate room for the entry's change; never if the bytes begin with no entry, or with one
 /// that has no change.
 pub fn read_entry(alloc: Global, bytes: &[u8]) -> Result<Option<Entry>, NoMemory>
-    ensures exact { IfOk result (λ read. read ≡ entry_in Third bytes.now) }
+    ensures exact { IfOk result (λ read. read ≡ entry_in Fourth bytes.now) }
     // What it reads is spelled by the bytes.
-    ensures spelled { IfOk result (λ read. IsEntryOf Third bytes.now read) }
+    ensures spelled { IfOk result (λ read. IsEntryOf Fourth bytes.now read) }
     // It reads whatever has a spelling.
     ensures only { (entry : Entry) → IsGoodEntry entry → bytes.now ≡ entry_bytes entry → FindsEntry entry result }
-    ensures memory { IfErr result (λ _. TakesMemory (entry_at Third bytes.now)) }
+    ensures memory { IfErr result (λ _. TakesMemory (entry_at Fourth bytes.now)) }
 {
-    read_entry_by(alloc, Layout::Third, bytes)
+    read_entry_by(alloc, Layout::Fourth, bytes)
 }
 
 /// Returns the entry whose spelling in `layout` is all of `bytes`, or `None` if they are no entry's spelling.

@@ -1,20 +1,20 @@
 // The journal of a bot.
-ghost use Rattle.std.specs.Prelude.{◌≡◌, ◌≢◌, ◌<◌, ◌-◌, ◌^◌, ◌↔◌, IsTrue, false, length, option_map};
+ghost use Rattle.std.specs.Prelude.{◌≡◌, ◌≢◌, ◌<◌, ◌-◌, ◌^◌, ◌+◌, ◌↔◌, ◌∷◌, [], IsTrue, Some, false, length, option_map};
 ghost use Rattle.bytejournal.specs.Meaning.{rebased as rebased_text};
 ghost use Rattle.bytejournal.specs.Journal.{AnyMoment, HoldsOne, contents_of as texts_of};
 ghost use Rattle.bytejournal.specs.Journal.{IsSound as AreTextsSound, IsEither as IsEitherText};
 ghost use Rattle.bytejournal.specs.Journal.{Rebases as RebasesText};
 ghost use Rattle.botjournal.specs.Bases.{IsGoodBase};
 ghost use Rattle.botjournal.specs.Entries.{IsGoodEntry};
+ghost use Rattle.botjournal.specs.Sums.{start, through};
 ghost use Rattle.botjournal.specs.Contents.{added, rebased};
 ghost use Rattle.botjournal.specs.declared.TheConstants.{LAYOUT};
 ghost use Rattle.botjournal.specs.Journal.{IsSound, IsEither, Appends, Rebases, contents_of};
 
 use crate::LAYOUT;
 use crate::base::Base;
-use crate::bases::write_base;
-use crate::entries::write_entry;
 use crate::entry::Entry;
+use crate::sums::{Seal, sealed_base, sealed_entry};
 use bytejournal::{JournalError, JournalFault};
 use bytetext::Failure;
 use disks::Disk;
@@ -27,6 +27,8 @@ pub struct BotJournal<D: Disk> {
     pub(crate) texts: bytejournal::Journal<D>,
     /// Whether a disk failed since the journal was opened.
     pub(crate) spent: bool,
+    /// What the next entry's sum stands on.
+    pub(crate) seal: Seal,
 }
 
 impl<D: Disk> Model for BotJournal<D> {
@@ -37,7 +39,9 @@ impl<D: Disk> Model for BotJournal<D> {
 
     ghost view = { λ j. j.texts };
 
-    ghost invariant = { λ j. j.spent ≡ j.texts.spent };
+    ghost use Rattle.botjournal.specs.Journal.{IsSealed};
+
+    ghost invariant = { λ j. (j.spent ≡ j.texts.spent) × IsSealed D.state j.texts j.seal };
 }
 
 impl<D: Disk> BotJournal<D> {
@@ -59,9 +63,12 @@ impl<D: Disk> BotJournal<D> {
         if self.spent {
             return Err(Failure::Refused(JournalFault::Spent));
         }
-        let text = write_entry(alloc, entry)?;
-        match self.texts.append(alloc, &text) {
-            Ok(()) => Ok(()),
+        let made = sealed_entry(alloc, self.seal, entry)?;
+        match self.texts.append(alloc, &made.text) {
+            Ok(()) => {
+                self.seal = made.seal;
+                Ok(())
+            }
             Err(Failure::NoMemory) => Err(Failure::NoMemory),
             Err(Failure::Refused(fault)) => {
                 self.spent = true;
@@ -91,12 +98,14 @@ impl<D: Disk> BotJournal<D> {
         if self.generations_spent() {
             return Err(Failure::Refused(JournalFault::GenerationsSpent));
         }
-        let text = write_base(alloc, base)?;
-        self.rebase_text(alloc, &text)
+        let made = sealed_base(alloc, self.generation() + 1, base)?;
+        self.rebase_text(alloc, &made.text, made.seal)
     }
 
-    fn rebase_text(&mut self, alloc: Global, text: &[u8]) -> Result<(), JournalError>
+    // Replaces the base by the one that `text` spells, after which the seal is `seal`.
+    fn rebase_text(&mut self, alloc: Global, text: &[u8], seal: Seal) -> Result<(), JournalError>
         requires sound { AreTextsSound D.state self.old }
+        requires sealed { through (start LAYOUT (self.old.generation + 1)) (text.now ∷ []) ≡ Some seal }
         requires left { self.old.generation ≢ 2 ^ 32 - 1 }
         requires small { length text.now < 2 ^ 32 }
         ensures sound { AreTextsSound D.state self.new }
@@ -106,7 +115,10 @@ impl<D: Disk> BotJournal<D> {
             (option_map (rebased_text LAYOUT text.now) (texts_of D.state self.old))) }
     {
         match self.texts.rebase(alloc, LAYOUT, text) {
-            Ok(()) => Ok(()),
+            Ok(()) => {
+                self.seal = seal;
+                Ok(())
+            }
             Err(Failure::NoMemory) => Err(Failure::NoMemory),
             Err(Failure::Refused(fault)) => {
                 self.spent = true;

@@ -1,8 +1,15 @@
 // What spellings promise to those who store them, and the calls of a journal together, proved of the definitions.
-ghost use Rattle.std.specs.Prelude.{◌≡◌, Some, Result, Ok};
+ghost use Rattle.std.specs.Prelude.{◌≡◌, ◌⊎◌, ◌∷◌, ℕ, List, Some, Result, Ok, true, false};
+ghost use Rattle.bytejournal.specs.declared.ending.IfOpen.{IfOpen};
+ghost use Rattle.bytejournal.specs.Ending.{ending_of};
+ghost use Rattle.bytejournal.specs.Meaning.{Contents as Texts};
+ghost use Rattle.botjournal.specs.declared.TheConstants.{LAYOUT};
+ghost use Rattle.botjournal.specs.Sums.{start, AreCarried};
+ghost use Rattle.botjournal.specs.Contents.{Contents, meaning};
+ghost use Rattle.botjournal.specs.CutShort.{HasFewAfter, HasSums, is_cut_short};
 ghost use Rattle.bytejournal.specs.declared.journal.Journal.{Journal as OfTexts};
 ghost use Rattle.bytejournal.specs.declared.opening.Returned.{Returned};
-ghost use Rattle.bytejournal.specs.Journal.{first_disk, second_disk};
+ghost use Rattle.bytejournal.specs.Journal.{first_disk, second_disk, Holds};
 ghost use Rattle.bytejournal.specs.Recovery.{Stage, Lives, IsIntact, IsRecoverable};
 ghost use Rattle.bytejournal.specs.Recovery.Stage.{InProgram};
 ghost use Rattle.botjournal.specs.declared.base.Base.{Base};
@@ -10,7 +17,7 @@ ghost use Rattle.botjournal.specs.Bases.{base_bytes, base_bytes_by, base_in, IsG
 ghost use Rattle.botjournal.specs.declared.entry.Entry.{Entry};
 ghost use Rattle.botjournal.specs.Entries.{entry_bytes, entry_in, IsGoodEntry, IsGoodEntryBy};
 ghost use Rattle.botjournal.specs.declared.layouts.Layout.{Layout};
-ghost use Rattle.botjournal.specs.declared.layouts.Layout.TheVariants.{Third};
+ghost use Rattle.botjournal.specs.declared.layouts.Layout.TheVariants.{Fourth};
 ghost use Rattle.botjournal.specs.declared.opening.OpenedJournal.{OpenedJournal};
 ghost use Rattle.botjournal.specs.Journal.{IsSound, Creates, Opens, Restarts};
 ghost use Rattle.botjournal.specs.Recovery.{Calls, IsJournal, FindsJournal};
@@ -20,7 +27,7 @@ use disks::Disk;
 /// The law of the spellings of entries. The function does nothing: its clauses hold for any entries.
 pub fn laws_of_entries()
     // Reading an entry's spelling gives that entry, so no two entries share a spelling.
-    ensures again { (entry : Entry) → IsGoodEntry entry → entry_in Third (entry_bytes entry) ≡ Some entry }
+    ensures again { (entry : Entry) → IsGoodEntry entry → entry_in Fourth (entry_bytes entry) ≡ Some entry }
     // The same holds in each layout that is read, and what it spelled may be written.
     ensures again_old { (layout : Layout) (entry : Entry) → IsGoodEntryBy layout entry
         → entry_in layout (entry_bytes entry) ≡ Some entry }
@@ -30,11 +37,31 @@ pub fn laws_of_entries()
 /// The law of the spellings of bases. The function does nothing: its clauses hold for any bases.
 pub fn laws_of_bases()
     // Reading a base's spelling gives that base, so no two bases share a spelling.
-    ensures again { (base : Base) → IsGoodBase base → base_in Third (base_bytes base) ≡ Some base }
+    ensures again { (base : Base) → IsGoodBase base → base_in Fourth (base_bytes base) ≡ Some base }
     // The same holds in each layout that is read, and what it spelled may be written.
     ensures again_old { (layout : Layout) (base : Base) → IsGoodBaseBy layout base
         → base_in layout (base_bytes_by layout base) ≡ Some base }
     ensures writable { (layout : Layout) (base : Base) → IsGoodBaseBy layout base → IsGoodBase base }
+{}
+
+/// The law of the sums. The function does nothing: its clause holds for any bytes of two disks.
+pub fn laws_of_sums()
+    // Where two disks mean a bot's journal, each text of layout 4 that stands behind an open gate ends with its sum: on
+    // the disk that counts, and on the other one.
+    ensures carried { (first second : List ℕ) (contents : Contents) (texts : Texts) → meaning first second ≡ Some contents
+        → Holds first second texts → texts.layout ≡ LAYOUT
+        → AreCarried (start LAYOUT texts.generation) (texts.base ∷ texts.entries) }
+{}
+
+/// The laws of journals that a device cut short. The function does nothing: its clauses hold for any bytes of two disks.
+pub fn laws_of_cuts()
+    // If one was cut short, then the base and all entries that one of its disks would hold, if the gate that ends it
+    // were open, end with their sums.
+    ensures carried { (first second : List ℕ) → is_cut_short first second ≡ true → (texts : IfOpen)
+        × (((ending_of first).if_open ≡ Some texts) ⊎ ((ending_of second).if_open ≡ Some texts)) × HasSums texts }
+    // One entry more than those that count doesn't say so, nor a base alone: this is what a crash leaves.
+    ensures few { (first second : List ℕ) → HasFewAfter first → HasFewAfter second
+        → is_cut_short first second ≡ false }
 {}
 
 /// The laws of a bot's journal that only this library writes. The function does nothing: its clauses hold for any

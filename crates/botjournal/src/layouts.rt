@@ -16,8 +16,10 @@ pub(crate) enum Layout {
     First,
     /// The layout 2, which had one outstanding request and one reply to a leaf. It is no longer written.
     Second,
-    /// The layout that is written.
+    /// The layout 3, whose changes named nobody and whose texts carried no sums. It is no longer written.
     Third,
+    /// The layout that is written.
+    Fourth,
 }
 
 /// Returns the layout of this `number`, if it is one that is read.
@@ -27,7 +29,8 @@ pub(crate) fn layout_of(number: u8) -> Option<Layout>
     match number {
         1 => Some(Layout::First),
         2 => Some(Layout::Second),
-        LAYOUT => Some(Layout::Third),
+        3 => Some(Layout::Third),
+        LAYOUT => Some(Layout::Fourth),
         _ => None,
     }
 }
@@ -41,8 +44,9 @@ pub(crate) fn change(
 {
     match layout {
         Layout::First => reader.change_old(alloc),
-        Layout::Second => reader.change(alloc),
-        Layout::Third => reader.change(alloc),
+        Layout::Second => reader.nameless_change(alloc),
+        Layout::Third => reader.nameless_change(alloc),
+        Layout::Fourth => reader.change(alloc),
     }
 }
 
@@ -58,5 +62,6 @@ pub(crate) fn so_many_records(
         Layout::First => reader.records_old(alloc, count),
         Layout::Second => reader.records(alloc, count),
         Layout::Third => reader.records(alloc, count),
+        Layout::Fourth => reader.records(alloc, count),
     }
 }

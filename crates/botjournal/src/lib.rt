@@ -13,12 +13,17 @@
 //! if opened.whole { /* opened.base, opened.entries, and opened.journal to go on with */ }
 //! ```
 //!
-//! Each disk names the layout in which its texts are spelled. [`LAYOUT`] is written. The two layouts before it are read
+//! Each disk names the layout in which its texts are spelled. [`LAYOUT`] is written. The three layouts before it are read
 //! too, but their journals take no entry until `rebase` writes another base in the new layout. Whatever an older layout
 //! spelled may be written in the new one.
 //!
+//! In [`LAYOUT`] each text ends with a sum of eight bytes: the first ones of the SHA-256 of the sum before it, its place,
+//! its length and its bytes. Before the base stand its layout and generation. So a text that a device changed, lost,
+//! repeated or moved is noticed, on the disk that counts and on the other one.
+//!
 //! `NotAJournal` comes from disks that hold no journal of texts. It also comes when the disk that counts, or the other
-//! one if its gate is open, has a layout that isn't read, or holds a text that spells no base or entry. It never comes
+//! one if its gate is open, has a layout that isn't read, or holds a text that spells no base or entry or doesn't end
+//! with its sum. Then restore both disks from a copy; a leaf may also start over on empty disks. It never comes
 //! from disks that `create` made and only this journal wrote, whatever crashes came: [`laws_of_journals`] states this
 //! for any number of calls. After a disk's fault the journal is spent: what was being written may count or not, and
 //! opening the journal again shows which.
@@ -37,6 +42,7 @@
 
 mod base;
 mod bases;
+mod cut_short;
 mod entries;
 mod entry;
 mod found;
@@ -50,23 +56,28 @@ mod reply;
 mod request;
 mod requests;
 mod store;
+mod sums;
 
 pub use crate::base::Base;
 pub use crate::bases::{read_base, write_base};
+pub use crate::cut_short::is_cut_short;
 pub use crate::entries::{read_entry, write_entry};
 pub use crate::entry::Entry;
 pub use crate::found::{Found, LedgerError, RebaseError, RebaseFault};
 pub use crate::journal::BotJournal;
-pub use crate::laws::{laws_of_bases, laws_of_entries, laws_of_journals};
+pub use crate::laws::{
+    laws_of_bases, laws_of_cuts, laws_of_entries, laws_of_journals, laws_of_sums,
+};
 pub use crate::ledger::Ledger;
 pub use crate::opening::OpenedJournal;
 pub use crate::reply::{Reply, Verdict};
 pub use crate::request::Request;
 
-/// The layout in which a journal is written: the byte after the letters on its disks. Two older layouts are read too:
-/// layout 2, whose bases have at most one outstanding request and one reply to each leaf, and layout 1, which also has
-/// no info texts and no sticky bans. Nothing is appended to a journal in an older layout.
-pub const LAYOUT: u8 = 3;
+/// The layout in which a journal is written: the byte after the letters on its disks. Three older layouts are read too:
+/// layout 3, whose texts carry no sums and whose changes name nobody who asked; layout 2, whose bases also have at most
+/// one outstanding request and one reply to each leaf; and layout 1, which also has no info texts and no sticky bans.
+/// Nothing is appended to a journal in an older layout.
+pub const LAYOUT: u8 = 4;
 
 /// How many outstanding requests a leaf has at most, and how many replies to a leaf are kept.
 pub const WINDOW: usize = 8;

@@ -165,6 +165,7 @@ fn are_kept_by(layout: Layout, replies: &[Reply]) -> bool
         Layout::First => rise(replies),
         Layout::Second => rise(replies),
         Layout::Third => are_kept(replies),
+        Layout::Fourth => are_kept(replies),
     }
 }
 

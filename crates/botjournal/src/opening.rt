@@ -6,16 +6,18 @@ ghost use Rattle.bytetext.specs.declared.failure.Failure.TheVariants.{Refused};
 ghost use Rattle.bytejournal.specs.Journal.{first_disk, second_disk};
 ghost use Rattle.botjournal.specs.Bases.{IsGoodBase};
 ghost use Rattle.botjournal.specs.Entries.{IsGoodEntry};
-ghost use Rattle.botjournal.specs.Contents.{Contents, meaning, entries_in};
-ghost use Rattle.botjournal.specs.Journal.{Creates, Opens, Restarts, IsNotRefused, IsGoodOpened, ReadsTexts, is_spelled};
+ghost use Rattle.bytejournal.specs.Journal.{contents_of as texts_of};
+ghost use Rattle.botjournal.specs.Contents.{Contents, meaning, entries_in, body_in, seal_from};
+ghost use Rattle.botjournal.specs.Journal.{Creates, Opens, Restarts, IsNotRefused, IsGoodOpened, ReadsTexts, is_spelled, texts_found};
 
 use crate::LAYOUT;
 use crate::base::Base;
-use crate::bases::{read_base_by, write_base};
+use crate::bases::read_base_by;
 use crate::entries::read_entry_by;
 use crate::entry::Entry;
 use crate::journal::BotJournal;
 use crate::layouts::{Layout, layout_of};
+use crate::sums::{SUM, Seal, sealed_base};
 use bytejournal::{Disks, JournalFault, Older, Returned};
 use bytetext::{Failure, NoMemory, Seq, Text};
 use disks::Disk;
@@ -53,8 +55,8 @@ impl<D: Disk> BotJournal<D> {
         requires good { IsGoodBase base.now }
         ensures { Creates D.state first second base.now result }
     {
-        let text = match write_base(alloc, base) {
-            Ok(text) => text,
+        let made = match sealed_base(alloc, 1, base) {
+            Ok(made) => made,
             Err(NoMemory) => {
                 return Err(Returned {
                     error: Failure::NoMemory,
@@ -62,10 +64,11 @@ impl<D: Disk> BotJournal<D> {
                 });
             }
         };
-        match bytejournal::Journal::create(alloc, first, second, LAYOUT, &text) {
+        match bytejournal::Journal::create(alloc, first, second, LAYOUT, &made.text) {
             Ok(texts) => Ok(BotJournal {
                 texts,
                 spent: false,
+                seal: made.seal,
             }),
             Err(returned) => Err(returned),
         }
@@ -121,7 +124,8 @@ fn read_texts<D: Disk>(
     alloc: Global,
     texts: bytejournal::Opened<D>,
 ) -> Result<OpenedJournal<D>, Returned<D>>
-    requires { texts.journal.spent ≡ false }
+    requires going { texts.journal.spent ≡ false }
+    requires found { texts_of D.state texts.journal ≡ Some (texts_found texts) }
     ensures row { ReadsTexts texts result }
     ensures good { IfOk result IsGoodOpened }
 {
@@ -133,7 +137,16 @@ fn read_texts<D: Disk>(
     let Some(layout) = layout_of(texts.journal.layout()) else {
         return Err(not_a_journal(texts.journal));
     };
-    let base = match read_base_by(alloc, layout, texts.base.as_bytes()) {
+    let before = Seal::start(texts.journal.layout(), texts.journal.generation());
+    let Some(seal) = seal_from(
+        layout,
+        before,
+        texts.base.as_bytes(),
+        texts.entries.as_slice(),
+    ) else {
+        return Err(not_a_journal(texts.journal));
+    };
+    let base = match read_base_by(alloc, layout, body_in(layout, texts.base.as_bytes())) {
         Ok(Some(base)) => base,
         Ok(None) => return Err(not_a_journal(texts.journal)),
         Err(NoMemory) => return Err(no_memory(texts.journal)),
@@ -147,11 +160,35 @@ fn read_texts<D: Disk>(
         journal: BotJournal {
             texts: texts.journal,
             spent: false,
+            seal,
         },
         base,
         entries,
         whole: texts.whole,
     })
+}
+
+// The seal after a base and entries, if each of them ends with its sum: the texts of older layouts have none.
+fn seal_from(layout: Layout, before: Seal, base: &[u8], entries: &[Text]) -> Option<Seal>
+    ensures { result ≡ seal_from layout before base.now entries.now }
+{
+    match layout {
+        Layout::First | Layout::Second | Layout::Third => Some(before),
+        Layout::Fourth => match before.step(base) {
+            Some(seal) => seal.through(entries),
+            None => None,
+        },
+    }
+}
+
+// What a text spells: what stands before its sum, if its layout has sums.
+fn body_in(layout: Layout, text: &[u8]) -> &[u8]
+    ensures { result.now ≡ body_in layout text.now }
+{
+    match layout {
+        Layout::First | Layout::Second | Layout::Third => text,
+        Layout::Fourth => &text[..text.len().saturating_sub(SUM)],
+    }
 }
 
 // Whether the texts of the disk that doesn't count spell a base and entries, if its gate is open.
@@ -164,12 +201,18 @@ fn is_spelled(alloc: Global, older: &Option<Older>) -> Result<bool, NoMemory>
     let Some(layout) = layout_of(older.layout) else {
         return Ok(false);
     };
-    match read_base_by(alloc, layout, older.base.as_bytes())? {
+    let before = Seal::start(older.layout, older.generation);
+    let entries = older.entries.as_slice();
+    match seal_from(layout, before, older.base.as_bytes(), entries) {
         Some(_) => {}
         None => return Ok(false),
     }
-    let entries = read_entries(alloc, layout, older.entries.as_slice())?;
-    Ok(entries.is_some())
+    match read_base_by(alloc, layout, body_in(layout, older.base.as_bytes()))? {
+        Some(_) => {}
+        None => return Ok(false),
+    }
+    let read = read_entries(alloc, layout, entries)?;
+    Ok(read.is_some())
 }
 
 // Reads the entries that these texts spell in a layout.
@@ -183,7 +226,7 @@ fn read_entries(
 {
     let mut entries = Vec::new(alloc);
     for text in texts {
-        match read_entry_by(alloc, layout, text.as_bytes())? {
+        match read_entry_by(alloc, layout, body_in(layout, text.as_bytes()))? {
             Some(entry) => entries.push(entry)?,
             None => return Ok(None),
         }

@@ -53,16 +53,21 @@ pub(crate) fn out(
     match layout {
         Layout::First => one_out(alloc, layout, reader),
         Layout::Second => one_out(alloc, layout, reader),
-        Layout::Third => window(alloc, reader),
+        Layout::Third => window(alloc, layout, reader),
+        Layout::Fourth => window(alloc, layout, reader),
     }
 }
 
 #[tactic(auto, unfolding(crate::specs::Bases::window_at))]
-fn window(alloc: Global, reader: &mut Reader<'_>) -> Result<(u32, Seq<Request>), CodecError>
-    ensures { FindsSome (λ out. (out, reader.new)) (λ x. 0 < length x.0.1) result (window_at reader.old) }
+fn window(
+    alloc: Global,
+    layout: Layout,
+    reader: &mut Reader<'_>,
+) -> Result<(u32, Seq<Request>), CodecError>
+    ensures { FindsSome (λ out. (out, reader.new)) (λ x. 0 < length x.0.1) result (window_at layout reader.old) }
 {
     let last = reader.u32()?;
-    let requests = listed_requests(alloc, reader)?;
+    let requests = listed_requests(alloc, layout, reader)?;
     if !are_out(last, &requests) {
         return Err(Failure::Refused(CodecFault::NotCanonical));
     }
@@ -70,28 +75,33 @@ fn window(alloc: Global, reader: &mut Reader<'_>) -> Result<(u32, Seq<Request>),
 }
 
 #[tactic(auto, unfolding(crate::specs::Bases::requests_listed_at, usercodec::specs::Fields::count_at))]
-fn listed_requests(alloc: Global, reader: &mut Reader<'_>) -> Result<Vec<Request>, CodecError>
-    ensures { FindsSome (λ requests. (requests.items, reader.new)) (λ x. 0 < length x.0) result (requests_listed_at reader.old) }
+fn listed_requests(
+    alloc: Global,
+    layout: Layout,
+    reader: &mut Reader<'_>,
+) -> Result<Vec<Request>, CodecError>
+    ensures { FindsSome (λ requests. (requests.items, reader.new)) (λ x. 0 < length x.0) result (requests_listed_at layout reader.old) }
 {
     let count = reader.byte()?;
     if count as usize > WINDOW {
         return Err(Failure::Refused(CodecFault::NotCanonical));
     }
-    so_many_requests(alloc, reader, count)
+    so_many_requests(alloc, layout, reader, count)
 }
 
 fn so_many_requests(
     alloc: Global,
+    layout: Layout,
     reader: &mut Reader<'_>,
     count: u8,
 ) -> Result<Vec<Request>, CodecError>
     ensures value { Finds (λ requests. (requests.items, reader.new)) result
-        (items_at (λ held bytes. request_at bytes) count [] reader.old) }
+        (items_at (λ held bytes. request_at layout bytes) count [] reader.old) }
     ensures memory { IfErr result (λ _. 0 < count) }
 {
     let mut requests = Vec::new(alloc);
     for _ in 0..count {
-        match request(alloc, reader) {
+        match request(alloc, layout, reader) {
             Ok(request) => requests.push(request)?,
             Err(error) => return Err(error),
         }
@@ -100,11 +110,11 @@ fn so_many_requests(
 }
 
 #[tactic(auto, unfolding(crate::specs::Bases::request_at))]
-fn request(alloc: Global, reader: &mut Reader<'_>) -> Result<Request, CodecError>
-    ensures { Finds (λ request. (request, reader.new)) result (request_at reader.old) }
+fn request(alloc: Global, layout: Layout, reader: &mut Reader<'_>) -> Result<Request, CodecError>
+    ensures { Finds (λ request. (request, reader.new)) result (request_at layout reader.old) }
 {
     let number = reader.u32()?;
-    let change = reader.change(alloc)?;
+    let change = change(alloc, layout, reader)?;
     Ok(Request { number, change })
 }
 

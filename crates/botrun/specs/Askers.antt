@@ -10,8 +10,8 @@ use Rattle.botcore.specs.declared.report.Note.{Note}
 use Rattle.botcore.specs.declared.report.Note.TheVariants.{Link, Bound, Unbound, Bad}
 use Rattle.botcore.specs.declared.report.Report.{Report}
 use Rattle.administrators.specs.Askers.{askers_of, asks_of, at_most_usize, is_ask_fault, queued, settled}
-use Rattle.administrators.specs.declared.asks.Asker.{Asker}
-use Rattle.administrators.specs.declared.asks.Asker.TheVariants.{Nobody}
+use Rattle.administrators.specs.declared.asks.Recipient.{Recipient}
+use Rattle.administrators.specs.declared.asks.Recipient.TheVariants.{Nobody}
 use Rattle.botrun.specs.Outcomes.{told_by}
 
 -- ---- what procs asked for
@@ -32,20 +32,20 @@ asked_by_procs report = at_most_usize (sum_by asks_of report.calls) - count_by i
 
 -- The askers of the changes that the link took. If the link did not take all, it is unknown which ones it took, and
 -- nobody waits for an answer.
-abbrev pub proc_askers : Report → List Asker
+abbrev pub proc_askers : Report → List Recipient
 proc_askers report =
     if count_by is_refused_ask report.faults == 0 then flat_map askers_of report.calls else replicate (asked_by_procs report) Nobody
 
 -- ---- what a step says
 
-abbrev pub noted : Option ℕ → Option Note → List Asker → List Asker
+abbrev pub noted : Option ℕ → Option Note → List Recipient → List Recipient
 noted asker None askers = askers
 noted asker (Some (Link note)) askers = queued asker note askers
 noted asker (Some (Bound n)) askers = askers
 noted asker (Some (Unbound n)) askers = askers
 noted asker (Some (Bad fault)) askers = askers
 
-abbrev pub askers_after : Bool → Option ℕ → List Asker → Report → List Asker
+abbrev pub askers_after : Bool → Option ℕ → List Recipient → Report → List Recipient
 askers_after settles asker askers report = settled settles (told_by report) (noted asker report.note (askers ++ proc_askers report))
 
 -- Any step of a leaf can answer its changes. A hub's changes are answered by its pump, the last step of a turn that
@@ -54,7 +54,7 @@ abbrev pub is_last : List Report → Bool
 is_last [] = true
 is_last (report ∷ reports) = false
 
-abbrev pub turn_askers : Bool → Bool → Option ℕ → List Asker → List Report → List Asker
+abbrev pub turn_askers : Bool → Bool → Option ℕ → List Recipient → List Report → List Recipient
 turn_askers leaf pumped asker askers [] = askers
 turn_askers leaf pumped asker askers (report ∷ reports) =
     turn_askers leaf pumped asker (askers_after (leaf || (pumped && is_last reports)) asker askers report) reports

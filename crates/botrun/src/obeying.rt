@@ -19,7 +19,7 @@ use std::net::Net;
 use std::rt::Files;
 use upkeep::{
     RunError, backup, die, join, jump, part, refusal, renew, reopen, say, status_json, status_of,
-    trust,
+    tell_changes, trust,
 };
 use watching::Watcher;
 
@@ -153,6 +153,10 @@ impl Process {
             }
             AdminCommand::Show => show(alloc, &self.bot, settings),
             AdminCommand::ShowJson => Ok(show_json(alloc, &self.bot, settings)?),
+            AdminCommand::Changes(from) => {
+                let (held, version) = (self.bot.accepted(), self.bot.version());
+                Ok(tell_changes(alloc, settings, held, version, from)?)
+            }
             AdminCommand::Status => {
                 let (version, nick, uplink) = (
                     self.bot.version(),
@@ -226,6 +230,7 @@ fn log_command(log: &mut Log, command: &AdminCommand, line: &[u8], now: u64) {
     match command {
         AdminCommand::Show
         | AdminCommand::ShowJson
+        | AdminCommand::Changes(_)
         | AdminCommand::Status
         | AdminCommand::StatusJson => {}
         AdminCommand::Say(_)

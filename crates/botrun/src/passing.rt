@@ -7,15 +7,16 @@ ghost use Rattle.turns.specs.Queues.{packets_in};
 ghost use Rattle.turns.specs.Turns.{AllGood};
 ghost use Rattle.turns.specs.declared.turn.TurnEnd.TheVariants.{Done};
 ghost use Rattle.botrun.specs.Askers.{turn_askers};
-ghost use Rattle.botrun.specs.Passing.{told_all, told_of};
+ghost use Rattle.botrun.specs.Passing.{hub_takes, told_all, told_of};
 
 use crate::others::Others;
 use crate::outcome::told_by;
 use crate::proc_asks::refused_in;
-use administrators::{Admins, LogEntry, answer_oldest, log_changes, notice_callers};
+use administrators::{Admins, HubTakes, LogEntry, answer_oldest, log_changes, notice_callers};
 use botcore::{Faults, Report};
 use bytetext::NoMemory;
 use net::Log;
+use peers::Links;
 use serverlink::IrcConnection;
 use settings::Settings;
 use std::alloc::Global;
@@ -53,13 +54,14 @@ pub(crate) fn pass<R: AllocGlobal, W: Watcher>(
     let is_leaf = others.mail.links.is_leaf();
     // Whether a change that is asked for is decided on later.
     let waits = is_leaf || others.mail.links.doubt().is_some();
+    let takes = hub_takes(&others.mail.links);
     let mut rest = told.reports.as_slice();
     while let Some((report, behind)) = rest.split_first() {
         pass_lines(log, uplink, settings, report, now)?;
         log_changes(log, &report.calls, report.packets.as_slice(), now);
         others.pass(rt, log, report, now, watcher)?;
         if waits {
-            notice_waiting(rt.alloc(), uplink, report)?;
+            notice_waiting(rt.alloc(), uplink, report, takes)?;
         }
         let outcome = told_by(report);
         let settles = is_leaf || (pumped && behind.is_empty());
@@ -75,19 +77,34 @@ pub(crate) fn pass<R: AllocGlobal, W: Watcher>(
     }
 }
 
-// Queues a notice to each person whose words made a proc ask for a change in this step: it waits for the hub. If the link
-// did not take all changes, it is unknown which ones wait, and nobody gets a notice.
+// Which changes the hub takes from this bot. A leaf that was never linked doesn't know yet: it asks once it is linked.
+fn hub_takes(links: &Links) -> HubTakes
+    ensures { result ≡ hub_takes links.now }
+{
+    if links.is_new_leaf() || links.may_ask_nameless() {
+        HubTakes::All
+    } else if links.may_ask() {
+        HubTakes::OfPersons
+    } else {
+        HubTakes::Nothing
+    }
+}
+
+// Queues a notice to each person whose words made a proc ask for a change in this step: it waits for the hub, which
+// `takes` these changes from this bot. If the link did not take all changes, it is unknown which ones wait, and nobody
+// gets a notice.
 fn notice_waiting(
     alloc: Global,
     uplink: &mut IrcConnection,
     report: &Report,
+    takes: HubTakes,
 ) -> Result<(), NoMemory>
     ensures { uplink.new.session ≡ uplink.old.session }
 {
     if refused_in(&report.faults) > 0 {
         return Ok(());
     }
-    notice_callers(alloc, uplink, &report.calls)
+    notice_callers(alloc, uplink, &report.calls, takes)
 }
 
 // Queues the lines of a step for the server, in order, and logs what the step left out.

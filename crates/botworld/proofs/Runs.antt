@@ -2,8 +2,10 @@
 use Rattle.std.proofs.Common.{◌≡◌, ◌≤◌, ℕ, zero, suc, List, [], ◌∷◌, ◌++◌, length, map, slice_get, Some, refl, ap, sym, subst, ◌∙◌, arith, append_assoc}
 use Rattle.std.proofs.lemmas.List.{append-nil}
 use Rattle.protocol.specs.History.{Extends, records_of}
+use Rattle.protocol.specs.Rights.{KeepsRights}
 use Rattle.protocol.proofs.Growing.{Grows-refl, Grows-trans}
 use Rattle.protocol.proofs.Lists.{Extends-trans, Extends-length, records_of-more}
+use Rattle.protocol.proofs.Rights.{rights}
 use Rattle.procs.specs.Promises.{Promised}
 use Rattle.botworld.specs.declared.step.Step.{Step}
 use Rattle.botworld.specs.declared.outcome.Outcome.{Outcome}
@@ -198,3 +200,7 @@ none_back promised past steps outcomes old new stands led = rw (stands.net, led.
 pub promises_kept : (promised : Promised) (w : Net) (past : Past) → Stands promised w past
     → KeepsPromises past.now
 promises_kept promised w past stands = keeps_promises past.now (now_sound promised w past stands)
+
+-- the rights of persons are kept
+pub rights_kept : (promised : Promised) (w : Net) (past : Past) → Stands promised w past → KeepsRights (accepted_by past.now)
+rights_kept promised w past stands = rights past.now.links (now_sound promised w past stands).links.sound

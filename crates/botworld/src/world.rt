@@ -60,6 +60,7 @@ impl<P: Promise, D: Disk, B: Run> World<P, D, B> {
     ghost use Rattle.botworld.specs.Net.{is_bot, packet_at, part_of, NetStep, TakesPartAt};
     ghost use Rattle.botworld.specs.Net.{shown_version, shown_records};
     ghost use Rattle.protocol.specs.History.{records_of};
+    ghost use Rattle.protocol.specs.Rights.{EachIsAllowed, OnlyOwnersChangeRanks, NobodyClimbs, NobodyBecomesOwner};
     ghost use Rattle.botcore.specs.Steps.{IsGoodEvent};
     ghost use Rattle.botworld.specs.Network.{AllNew, AreNumbered, start, accepted_by, IsTruePacket, KeepsPromises, NeverBack};
     ghost use Rattle.botworld.specs.Standing.{Past, beginning, Stands, LeadsTo, SameRecords, SameAlways};
@@ -158,6 +159,15 @@ impl<P: Promise, D: Disk, B: Run> World<P, D, B> {
         // the change that the leaf asked for, and is reported under its number and never as refused. Each change that
         // was ever sent is the accepted change of its number, and each part is one of the records at its version.
         ensures promises { (past : Past) → Stands P.promised self.new past → KeepsPromises past.now }
+        // Each change that a person asked for was that person's right, by the records just before it. A change for which
+        // somebody asked who was no owner just before it left the owners and masters as they were.
+        ensures allowed { (past : Past) → Stands P.promised self.new past → EachIsAllowed (accepted_by past.now) }
+        ensures ranks { (past : Past) → Stands P.promised self.new past → OnlyOwnersChangeRanks (accepted_by past.now) }
+        // Nobody climbs: from any version to any later one the owners and masters are the same, with their hostmasks and
+        // flags, if only persons asked whom no owner's hostmask matched at the first. Nor is one of them an owner then.
+        ensures nobody_climbs { (past : Past) → Stands P.promised self.new past → NobodyClimbs (accepted_by past.now) }
+        ensures nobody_becomes_owner { (past : Past) → Stands P.promised self.new past
+            → NobodyBecomesOwner (accepted_by past.now) }
         // At any two steps so far, whether of lines, texts of other bots or readings of the clock, bots equal in
         // version, binds, `exclusive` and channels called the same procs in the same order for the same events.
         ensures same_calls { (past : Past) → Stands P.promised self.new past → SameCalls past.history }

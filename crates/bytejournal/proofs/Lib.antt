@@ -9,6 +9,7 @@ pub mod Pairs
 pub mod Appending
 pub mod Rebasing
 pub mod Choosing
+pub mod Endings
 pub mod Creating
 pub mod Lasting
 pub mod Recovering

@@ -5,5 +5,6 @@ pub mod Reading
 pub mod Writing
 pub mod Journal
 pub mod Opening
+pub mod Ending
 pub mod Recovery
 pub mod Unmade

@@ -12,6 +12,8 @@
 //!   the [`Disks`] back in a [`Returned`].
 //! - A [`JournalFault`] says why a call is rejected. After a disk's fault the journal is spent: what was being written
 //!   may count or not, and opening the journal again shows which.
+//! - [`read_ending`] says what would count if a closed gate were open. A device may close a gate; what a crash may leave
+//!   after one, the layers above can tell from the texts.
 //! - [`laws_of_journals`]: through any number of calls and crashes, disks that `create` made and only this journal
 //!   wrote never yield `NotAJournal`. At each moment of each call, every image that a crash may leave means the
 //!   contents before the call or after it.
@@ -38,10 +40,11 @@
 //! - `Meaning`: the format, and what the bytes of two disks mean. `Gates`: why a text is written after a closed gate.
 //! - `Journal`, `Opening`, `Writing`: what a journal stands for, and what its calls return. `Faults`: the letter and
 //!   number of each error.
-//! - `Reading`: what is known of the bytes that were read.
+//! - `Reading`: what is known of the bytes that were read. `Ending`: what stands after the gate that ends a disk.
 //! - `Recovery`: a journal over many calls and crashes. `Unmade`: what a stopped `create` leaves.
 #![tactic(auto)]
 
+mod ending;
 mod fault;
 mod gate;
 mod journal;
@@ -52,6 +55,7 @@ mod spelling;
 mod unmade;
 mod writing;
 
+pub use crate::ending::{Counted, Ending, IfOpen, read_ending};
 pub use crate::fault::{JournalError, JournalFault};
 pub use crate::journal::Journal;
 pub use crate::opening::{Disks, Older, Opened, Returned};

@@ -2,27 +2,46 @@
 use crate::sink::Sink;
 use bytetext::Text;
 use flagexpr::Flags;
+use rfccase::Casemapping;
 use std::alloc::Global;
 use usercodec::Record;
-use userfile::{Ban, Change, User};
+use userfile::{Asker, Ban, Change, Edit, User};
 
-/// Writes `change` to `out` in the words of a script: its name, texts as they are, `*` for all channels, letters or `-`
-/// for flags, and 1 or 0 for a mark.
+/// Writes `change` to `out` in the words of a script: `as`, the person and the casemapping, if a person asks, and then the
+/// edit.
 pub fn put_change(alloc: Global, change: &Change, out: &mut Sink) {
-    match change {
-        Change::AddUser { handle } => put_named(b"adduser", handle, out),
-        Change::DelUser { handle } => put_named(b"deluser", handle, out),
-        Change::AddHost { handle, mask } => put_two(b"addhost", handle, mask, out),
-        Change::DelHost { handle, mask } => put_two(b"delhost", handle, mask, out),
-        Change::SetGlobal { handle, flags } => {
+    if let Some(asker) = &change.by {
+        put_asker(asker, out);
+    }
+    put_edit(alloc, &change.edit, out);
+}
+
+fn put_asker(asker: &Asker, out: &mut Sink) {
+    out.put(b"as ");
+    out.put(asker.person.as_bytes());
+    out.put(match asker.casemapping {
+        Casemapping::Ascii => b" ascii ",
+        Casemapping::StrictRfc1459 => b" strict-rfc1459 ",
+        Casemapping::Rfc1459 => b" rfc1459 ",
+    });
+}
+
+// The edit's name, texts as they are, `*` for all channels, letters or `-` for flags, and 1 or 0 for a mark.
+fn put_edit(alloc: Global, edit: &Edit, out: &mut Sink) {
+    match edit {
+        Edit::AddUser { handle } => put_named(b"adduser", handle, out),
+        Edit::DelUser { handle } => put_named(b"deluser", handle, out),
+        Edit::AddHost { handle, mask } => put_two(b"addhost", handle, mask, out),
+        Edit::DelHost { handle, mask } => put_two(b"delhost", handle, mask, out),
+        Edit::SetGlobal { handle, flags } => {
             put_named(b"global", handle, out);
             put_flags(alloc, *flags, out);
         }
-        Change::SetBot { handle, flags } => {
+        Edit::SetBot { handle, flags } => {
             put_named(b"bot", handle, out);
             put_flags(alloc, *flags, out);
         }
-        Change::SetChan {
+        Edit::SetChan {
             handle,
             channel,
             flags,
@@ -30,7 +49,7 @@ pub fn put_change(alloc: Global, change: &Change, out: &mut Sink) {
             put_two(b"chan", handle, channel, out);
             put_flags(alloc, *flags, out);
         }
-        Change::AddBan {
+        Edit::AddBan {
             channel,
             mask,
             creator,
@@ -40,9 +59,9 @@ pub fn put_change(alloc: Global, change: &Change, out: &mut Sink) {
             put_masked(b"addban ", channel, mask.as_bytes(), out);
             put_made(creator, *expires, comment, out);
         }
-        Change::DelBan { channel, mask } => put_masked(b"delban ", channel, mask.as_bytes(), out),
-        Change::SetInfo { handle, info } => put_two(b"info", handle, info, out),
-        Change::SetSticky { channel, mask, on } => {
+        Edit::DelBan { channel, mask } => put_masked(b"delban ", channel, mask.as_bytes(), out),
+        Edit::SetInfo { handle, info } => put_two(b"info", handle, info, out),
+        Edit::SetSticky { channel, mask, on } => {
             put_masked(b"sticky ", channel, mask.as_bytes(), out);
             out.put(if *on { b" 1" } else { b" 0" });
         }

@@ -6,9 +6,10 @@ use Rattle.bytetext.specs.declared.failure.Failure.{Failure}
 use Rattle.bytetext.specs.declared.failure.Failure.TheVariants.{Refused, NoMemory}
 use Rattle.bytetext.specs.Numerals.{number_from}
 use Rattle.rfccase.specs.Channels.{is_channel_name}
-use Rattle.userfile.specs.declared.change.Change.{Change}
-use Rattle.recordtext.specs.Words.{words_of, is_empty, rest_of}
-use Rattle.recordtext.specs.Changes.{change_named}
+use Rattle.userfile.specs.declared.edit.Edit.{Edit}
+use Rattle.userfile.specs.Changes.{by_nobody}
+use Rattle.recordtext.specs.Words.{words_of, is_empty, rest_of, number_below}
+use Rattle.recordtext.specs.Edits.{edit_named}
 use Rattle.control.specs.declared.TheConstants.{MAX_COMMAND, MAX_KEY, MAX_LINE}
 use Rattle.control.specs.declared.command_word.CommandWord.{CommandWord}
 use Rattle.control.specs.declared.command_word.CommandWord.TheVariants as word
@@ -25,13 +26,13 @@ abbrev pub alone : CommandWord → List (List ℕ) → AdminCommand → Result A
 alone name [] asked = Ok asked
 alone name (w ∷ words) asked = Err (Form name)
 
--- a change by its name and words
-abbrev pub change_found : CommandWord → Option Change → Result AdminCommand CommandAdvice
-change_found name None = Err (Form name)
-change_found name (Some change) = Ok (command.Change change)
+-- an edit by its name and words: an admin asks for it in nobody's name
+abbrev pub edit_found : CommandWord → Option Edit → Result AdminCommand CommandAdvice
+edit_found name None = Err (Form name)
+edit_found name (Some edit) = Ok (command.Change (by_nobody edit))
 
 abbrev pub change_said : CommandWord → List ℕ → List (List ℕ) → Result AdminCommand CommandAdvice
-change_said name spelling words = change_found name (change_named spelling words)
+change_said name spelling words = edit_found name (edit_named spelling words)
 
 -- bind TYPE FLAGS PROC MASK: the mask takes the rest of the line
 abbrev pub bound : List ℕ → List ℕ → List ℕ → Option (List ℕ) → Result AdminCommand CommandAdvice
@@ -78,6 +79,16 @@ abbrev pub renew_said : List (List ℕ) → Result AdminCommand CommandAdvice
 renew_said [] = Err (Form word.Renew)
 renew_said (number ∷ []) = renewed (number_from 0 number)
 renew_said (number ∷ w ∷ words) = Err (Form word.Renew)
+
+-- changes FROM: the number of a change, from 1
+abbrev pub changes_from : Option ℕ → Result AdminCommand CommandAdvice
+changes_from None = Err (Form word.Changes)
+changes_from (Some from) = if from == 0 then Err (Form word.Changes) else Ok (command.Changes from)
+
+abbrev pub changes_said : List (List ℕ) → Result AdminCommand CommandAdvice
+changes_said [] = Err (Form word.Changes)
+changes_said (number ∷ []) = changes_from (number_below 4294967296 number)
+changes_said (number ∷ w ∷ words) = Err (Form word.Changes)
 
 -- die TEXT, which may be left out
 abbrev pub die_text : Option (List ℕ) → List ℕ
@@ -150,6 +161,7 @@ said_of (Some word.Backup) spelling words = backup_said words
 said_of (Some word.Bind) spelling words = bind_said words
 said_of (Some word.Bot) spelling words = change_said word.Bot spelling words
 said_of (Some word.Chan) spelling words = change_said word.Chan spelling words
+said_of (Some word.Changes) spelling words = changes_said words
 said_of (Some word.Compact) spelling words = alone word.Compact words command.Compact
 said_of (Some word.DelBan) spelling words = change_said word.DelBan spelling words
 said_of (Some word.DelHost) spelling words = change_said word.DelHost spelling words

@@ -2,7 +2,7 @@
 use Rattle.std.specs.Prelude.{ℕ, List, [], ◌∷◌, Option, find, codes}
 use Rattle.std.specs.Str.{bytes_eq}
 use Rattle.control.specs.declared.command_word.CommandWord.{CommandWord}
-use Rattle.control.specs.declared.command_word.CommandWord.TheVariants.{AddChan, DelChan, AddBan, AddHost, AddUser, Backup, Bind, Bot, Chan, Compact}
+use Rattle.control.specs.declared.command_word.CommandWord.TheVariants.{AddChan, DelChan, AddBan, AddHost, AddUser, Backup, Bind, Bot, Chan, Changes, Compact}
 use Rattle.control.specs.declared.command_word.CommandWord.TheVariants.{DelBan, DelHost, DelUser, Die, Global, Info, Jump, Reload, Renew, Reopen, Say, Show, Status, Sticky, Trust, Unbind}
 
 abbrev pub spelling_of : CommandWord → List ℕ
@@ -15,6 +15,7 @@ spelling_of Backup = codes "backup"
 spelling_of Bind = codes "bind"
 spelling_of Bot = codes "bot"
 spelling_of Chan = codes "chan"
+spelling_of Changes = codes "changes"
 spelling_of Compact = codes "compact"
 spelling_of DelBan = codes "delban"
 spelling_of DelHost = codes "delhost"
@@ -35,8 +36,8 @@ spelling_of Unbind = codes "unbind"
 
 abbrev pub all_words : List CommandWord
 all_words =
-    AddChan ∷ DelChan ∷ AddBan ∷ AddHost ∷ AddUser ∷ Backup ∷ Bind ∷ Bot ∷ Chan ∷ Compact ∷ DelBan ∷ DelHost ∷ DelUser ∷ Die ∷
-    Global ∷ Info ∷ Jump ∷ Reload ∷ Renew ∷ Reopen ∷ Say ∷
+    AddChan ∷ DelChan ∷ AddBan ∷ AddHost ∷ AddUser ∷ Backup ∷ Bind ∷ Bot ∷ Chan ∷ Changes ∷ Compact ∷ DelBan ∷ DelHost ∷
+    DelUser ∷ Die ∷ Global ∷ Info ∷ Jump ∷ Reload ∷ Renew ∷ Reopen ∷ Say ∷
     Show ∷ Status ∷ Sticky ∷ Trust ∷ Unbind ∷ []
 
 -- the word with this spelling: no two are spelled alike

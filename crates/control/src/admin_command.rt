@@ -6,12 +6,14 @@ use userfile::Change;
 /// What an admin asks a running bot for.
 #[derive(Drop)]
 pub enum AdminCommand {
-    /// To change the userfile. Nothing has checked that the handles, masks and channels are well formed.
+    /// To change the userfile, in nobody's name. Nothing has checked that the handles, masks and channels are well formed.
     Change(Change),
     /// To show the version and the records.
     Show,
     /// To show the version and the records as JSON.
     ShowJson,
+    /// To tell the accepted changes that the journal holds, from the one of this number on, from 1.
+    Changes(u32),
     /// To show the bot's status.
     Status,
     /// To show the bot's status as JSON.

@@ -28,7 +28,7 @@ impl Display for CommandAdvice {
                 "say it in one line, without a carriage return or NUL",
             ),
             CommandAdvice::Unknown => f.write_str(
-                "begin with +chan, -chan, addban, addhost, adduser, backup, bind, bot, chan, compact, delban, delhost, \
+                "begin with +chan, -chan, addban, addhost, adduser, backup, bind, bot, chan, changes, compact, delban, delhost, \
                  deluser, die, global, info, jump, reload, renew, reopen, say, show, status, sticky, trust-this-copy or \
                  unbind",
             ),
@@ -53,6 +53,7 @@ fn form_of(word: CommandWord) -> &'static str {
         CommandWord::Bind => "say bind TYPE FLAGS PROC MASK, as in bind pub - echo !echo",
         CommandWord::Bot => "say bot HANDLE FLAGS, as in bot egg1 s",
         CommandWord::Chan => "say chan HANDLE CHANNEL FLAGS, as in chan alice #egg o",
+        CommandWord::Changes => "say changes N, with N a change's number from 1, as in changes 17",
         CommandWord::Compact => "say compact alone",
         CommandWord::DelBan => "say delban CHANNEL MASK, as in delban #egg *!*@spam.example",
         CommandWord::DelHost =>

@@ -95,6 +95,7 @@ fn is_die(command: &AdminCommand) -> bool {
         AdminCommand::Change(_)
         | AdminCommand::Show
         | AdminCommand::ShowJson
+        | AdminCommand::Changes(_)
         | AdminCommand::Status
         | AdminCommand::StatusJson
         | AdminCommand::Bind(_)

@@ -23,6 +23,8 @@ pub enum CommandWord {
     Bot,
     /// A user's flags on a channel are set.
     Chan,
+    /// The accepted changes are told.
+    Changes,
     /// The journal is rewritten.
     Compact,
     /// A ban is removed.
@@ -60,7 +62,7 @@ pub enum CommandWord {
 }
 
 // Every word.
-const ALL: [CommandWord; 26] = [
+const ALL: [CommandWord; 27] = [
     CommandWord::AddChan,
     CommandWord::DelChan,
     CommandWord::AddBan,
@@ -70,6 +72,7 @@ const ALL: [CommandWord; 26] = [
     CommandWord::Bind,
     CommandWord::Bot,
     CommandWord::Chan,
+    CommandWord::Changes,
     CommandWord::Compact,
     CommandWord::DelBan,
     CommandWord::DelHost,
@@ -104,6 +107,7 @@ impl CommandWord {
             CommandWord::Bind => "bind",
             CommandWord::Bot => "bot",
             CommandWord::Chan => "chan",
+            CommandWord::Changes => "changes",
             CommandWord::Compact => "compact",
             CommandWord::DelBan => "delban",
             CommandWord::DelHost => "delhost",

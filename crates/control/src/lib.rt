@@ -43,7 +43,7 @@
 //! [`is_refusal`] whether they refuse the command.
 //!
 //! ```text
-//! AdminCommand::read(alloc, b"adduser alice")?;    // AdminCommand::Change(Change::AddUser { .. })
+//! AdminCommand::read(alloc, b"adduser alice")?;    // AdminCommand::Change(Change { by: None, .. })
 //! AdminCommand::read(alloc, b"chan alice #egg")    // say chan HANDLE CHANNEL FLAGS, as in chan alice #egg o
 //! body_of(b"accepted 1\n.\n")                      // Some(b"accepted 1\n")
 //! ```

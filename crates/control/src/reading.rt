@@ -1,8 +1,9 @@
 // A line of an admin, read.
 ghost use Rattle.std.specs.Prelude.{◌≡◌, ◌∷◌, map, IfOk};
 ghost use Rattle.std.specs.List.{list_all, list_any};
-ghost use Rattle.control.specs.Reading.{Answers, alone, backup_said, bind_said, bound, command_by_words, die_said, die_text};
-ghost use Rattle.control.specs.Reading.{folder_named, is_absolute, is_bare, is_key, is_key_byte, join_said, joined, part_said};
+ghost use Rattle.recordtext.specs.Words.{number_below};
+ghost use Rattle.control.specs.Reading.{Answers, alone, backup_said, bind_said, bound, changes_from, changes_said, command_by_words, die_said};
+ghost use Rattle.control.specs.Reading.{die_text, folder_named, is_absolute, is_bare, is_key, is_key_byte, join_said, joined, part_said};
 ghost use Rattle.control.specs.Reading.{renew_said, renewed, said, say_said, show_said, status_said, unbind_said, unbound};
 
 use crate::admin_command::{AdminCommand, ChannelWords, UnbindWords};
@@ -10,10 +11,11 @@ use crate::advice::{CommandAdvice, CommandError};
 use crate::command_word::CommandWord;
 use crate::{MAX_COMMAND, MAX_KEY, MAX_LINE};
 use bytetext::{Failure, Text};
-use recordtext::{change_named, pieces_of, rest_of};
+use recordtext::{edit_named, number, pieces_of, rest_of};
 use rfccase::is_channel_name;
 use settings::{BindWords, value_of_digits};
 use std::alloc::Global;
+use userfile::Change;
 
 impl AdminCommand {
     ghost use Rattle.std.specs.Prelude.{◌≡◌, ◌<◌, ◌≤◌, true, length, Err};
@@ -79,14 +81,15 @@ fn command_by_words(alloc: Global, words: &[&[u8]]) -> Result<AdminCommand, Comm
         | CommandWord::DelUser
         | CommandWord::Global
         | CommandWord::Info
-        | CommandWord::Sticky => match change_named(alloc, name, words)? {
-            Some(change) => Ok(AdminCommand::Change(change)),
+        | CommandWord::Sticky => match edit_named(alloc, name, words)? {
+            Some(edit) => Ok(AdminCommand::Change(Change::by_nobody(edit))),
             None => Err(Failure::Refused(CommandAdvice::Form(word))),
         },
         CommandWord::AddChan => join_said(alloc, words),
         CommandWord::DelChan => part_said(alloc, words),
         CommandWord::Backup => backup_said(alloc, words),
         CommandWord::Bind => bind_said(alloc, words),
+        CommandWord::Changes => changes_said(words),
         CommandWord::Compact => alone(word, words, AdminCommand::Compact),
         CommandWord::Die => die_said(alloc, words),
         CommandWord::Jump => alone(word, words, AdminCommand::Jump),
@@ -274,6 +277,38 @@ fn renewed(number: Option<u16>) -> Result<AdminCommand, CommandError>
     match number {
         Some(0) | None => Err(Failure::Refused(CommandAdvice::Form(CommandWord::Renew))),
         Some(leaf) => Ok(AdminCommand::Renew(leaf)),
+    }
+}
+
+// The number of a change.
+fn changes_said(words: &[&[u8]]) -> Result<AdminCommand, CommandError>
+    ensures { Answers (changes_said (map (λ word. word.now) words.now)) result }
+{
+    match words {
+        [from] => changes_from(change_number(from)),
+        [] | [_, _, ..] => Err(Failure::Refused(CommandAdvice::Form(CommandWord::Changes))),
+    }
+}
+
+// The accepted changes from this number on, if it is from 1.
+fn changes_from(from: Option<u32>) -> Result<AdminCommand, CommandError>
+    ensures { Answers (changes_from from) result }
+{
+    match from {
+        Some(0) | None => Err(Failure::Refused(CommandAdvice::Form(CommandWord::Changes))),
+        Some(from) => Ok(AdminCommand::Changes(from)),
+    }
+}
+
+// The number that the digits of `word` mean, if a change can have it.
+fn change_number(word: &[u8]) -> Option<u32>
+    ensures { result ≡ number_below 4294967296 word.now }
+{
+    let number = number(word)?;
+    if number < 4294967296 {
+        Some(number as u32)
+    } else {
+        None
     }
 }
 

@@ -99,7 +99,7 @@ pub(crate) enum Bad {
     OpenFolder,
     #[error("{0}")]
     Folder(FolderFault),
-    #[error("holds the journal of another bot, or none that can be read: give the folder of this bot")]
+    #[error("holds the journal of another bot, or one that is damaged: give the folder of this bot, or a copy of it; a leaf may also begin with an empty folder")]
     OtherJournal,
     #[error("holds a journal of an older layout that can't be rewritten, since its generations are used up: run an older version of eggnet, or give a leaf an empty folder")]
     SpentJournal,

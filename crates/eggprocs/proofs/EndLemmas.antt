@@ -14,7 +14,8 @@ use Rattle.std.proofs.lemmas.Option.{slice_get_within, get_or_from_slice_get, sl
 use Rattle.std.proofs.lemmas.Slice.Eq.{bytes_eq-Decides}
 use Rattle.bytetext.specs.Words.{after_word}
 use Rattle.userfile.specs.declared.ban.Ban.{Ban}
-use Rattle.userfile.specs.declared.change.Change.TheVariants.{DelBan}
+use Rattle.userfile.specs.Changes.{by_nobody}
+use Rattle.userfile.specs.declared.edit.Edit.TheVariants.{DelBan}
 use Rattle.userfile.specs.Apply.{new_ban}
 use Rattle.userfile.specs.Shapes.{is_hostmask}
 use Rattle.outqueue.specs.declared.queue.Queue.TheVariants.{Mode as mode_queue}
@@ -29,7 +30,7 @@ use Rattle.eggprocs.specs.declared.bans.TheConstants.{UTIMER_MINUTES}
 use Rattle.eggprocs.specs.declared.looks.TheConstants.{LOOK_SECONDS}
 use Rattle.eggprocs.specs.declared.proc_name.ProcName.TheVariants as which
 use Rattle.eggprocs.specs.Args.{channel_of, said_of}
-use Rattle.eggprocs.specs.Bans.{mask_of, minutes_in, ban_of, lift_wish, lift_of, and_then, mode_of, delete_first}
+use Rattle.eggprocs.specs.Bans.{mask_of, minutes_in, ban_of, lift_wish, lift_of, and_then, mode_of, ask_of, delete_first}
 use Rattle.eggprocs.specs.Channel.{put}
 use Rattle.eggprocs.specs.Ends.{has_ended, has_ended_by, lifts_on, is_left, lift_if, delete_if, ends_of, holds_ended, is_ended_if, is_ended_of, is_minute, all_ends}
 use Rattle.eggprocs.specs.Laws.{DoesOnly, deletes_no_lasting, is_end_of, is_end_of_ended}
@@ -117,7 +118,7 @@ ends-right second seen at ban =
     lifted : has_ended_by seen.second ban ≡ true → is_end_of seen (put mode_queue line) ban ≡ true
     lifted is = and_from (has_ended_by seen.second ban) (bytes_eq line line || false) is (ap (λ (b : Bool). b || false) ((bytes_eq-Decides line line).1 refl))
 
-    deleted : has_ended_by seen.second ban ≡ true → is_end_of seen (Ask (DelBan ban.channel ban.mask)) ban ≡ true
+    deleted : has_ended_by seen.second ban ≡ true → is_end_of seen (Ask (by_nobody (DelBan ban.channel ban.mask))) ban ≡ true
     deleted is =
         and_from (has_ended_by seen.second ban) (bytes_eq ban.channel ban.channel && bytes_eq ban.mask ban.mask) is
         (and_from (bytes_eq ban.channel ban.channel) (bytes_eq ban.mask ban.mask) ((bytes_eq-Decides ban.channel ban.channel).1 refl)
@@ -130,7 +131,7 @@ ends-right second seen at ban =
     by true is true false = ap (λ (b : Bool). b && true) (lifted is)
     by true is false true = ap (λ (b : Bool). b && true) (deleted is)
     by true is true true =
-        and_from (is_end_of seen (put mode_queue line) ban) (is_end_of seen (Ask (DelBan ban.channel ban.mask)) ban && true) (lifted is)
+        and_from (is_end_of seen (put mode_queue line) ban) (is_end_of seen (Ask (by_nobody (DelBan ban.channel ban.mask))) ban && true) (lifted is)
         (ap (λ (b : Bool). b && true) (deleted is))
 
 pub expire-only : DoesOnly is_end_of_ended (codes "expire")
@@ -187,7 +188,7 @@ ban-right call seen =
   where
     by : (test held : Bool) → holds_ended (channel_of call) (mask_of call) seen ≡ held → (lift : Option Action) → passes call seen lift ≡ true
         → list_all (deletes_no_lasting call seen)
-        (if test then cons_option (delete_first held call) (and_then (Ask (ban_of call seen)) (mode_of (codes "+b") call) lift) else []) ≡ true
+        (if test then cons_option (delete_first held call seen) (and_then (ask_of call seen (ban_of call seen)) (mode_of (codes "+b") call) lift) else []) ≡ true
     by false held is lift right = refl
     by true false is None right = refl
     by true false is (Some lift) right = ap (λ (b : Bool). b && true) right

@@ -6,7 +6,7 @@ use Rattle.std.specs.List.{list_all, list_any}
 use Rattle.flagexpr.specs.Letters.{has_letter}
 use Rattle.loosemask.specs.declared.looseness.Looseness.{Looseness}
 use Rattle.loosemask.specs.Loose.{looseness_of}
-use Rattle.userfile.specs.declared.change.Change.{Change}
+use Rattle.userfile.specs.declared.edit.Edit.{Edit}
 use Rattle.userfile.specs.declared.error.ChangeFault.{ChangeFault}
 use Rattle.userfile.specs.declared.ban.Ban.{Ban}
 use Rattle.userfile.specs.declared.user.User.{User}
@@ -24,22 +24,21 @@ use Rattle.procs.specs.Seen.{Seen}
 use Rattle.eggprocs.specs.declared.duties.Duty.{Duty}
 use Rattle.eggprocs.specs.declared.duties.Duty.TheVariants.{Each, First}
 use Rattle.eggprocs.specs.declared.rights.TheConstants.{AUTO_OP, AUTO_VOICE, OP, VOICE, MASTER, OWNER}
-use Rattle.eggprocs.specs.declared.rights.Requester.{Requester}
-use Rattle.eggprocs.specs.declared.rights.Requester.TheVariants.{Elsewhere, Stranger, Master}
 use Rattle.eggprocs.specs.declared.proc_name.ProcName.{ProcName}
 use Rattle.eggprocs.specs.declared.proc_name.ProcName.TheVariants as which
 use Rattle.eggprocs.specs.Args.{nick_of, handle_of, channel_of, told_of, last_of, has_word, or_else}
+use Rattle.eggprocs.specs.Askers.{in_callers_name}
 use Rattle.eggprocs.specs.Basics.{is_command}
 use Rattle.eggprocs.specs.Bans.{asked_by_ban, asked_by_unban}
 use Rattle.eggprocs.specs.Channel.{put, asked_for_mode, asked_for_newcomer, change_for, asked_by_kick, asked_by_topic, asked_by_invite}
 use Rattle.eggprocs.specs.Infos.{info_by, set_by, asked_by_known, greeting}
-use Rattle.eggprocs.specs.Laws.{has_one_of, op_letters, DoesNothing, AsksNoChange, is_ask, is_ask_for_owners, is_own, IsOnlyWithInfo, KeepsChannelsApart}
+use Rattle.eggprocs.specs.Laws.{has_one_of, op_letters, DoesNothing, AsksNoChange, is_ask, is_own, IsOnlyWithInfo, KeepsChannelsApart}
 use Rattle.eggprocs.specs.Lines.{privmsg}
 use Rattle.eggprocs.specs.Marks.{stick, unstick, left_out, told_ban, told_bans, asked_by_bans}
 use Rattle.eggprocs.specs.Outcomes.{mask_added}
-use Rattle.eggprocs.specs.People.{told, warned, for_owners, is_for_owners, asked_unless, asked_by_master, asked_by_command, plus_user, minus_user, plus_host, minus_host, chattr, asked_by_whois}
+use Rattle.eggprocs.specs.People.{told, warned, asked_unless, asked_for, asked_by_command, plus_user, minus_user, plus_host, minus_host, chattr, asked_by_whois}
 use Rattle.eggprocs.specs.Procs.{name_of, duty_of, wanted_by, actions_by, actions_if, ours}
-use Rattle.eggprocs.specs.Rights.{has_flag, has_op, flags_by, is_bot_op, is_from_op, is_from_voice, is_join, is_pub, is_msg, global_by, is_owner, is_master, standing_if, standing_of}
+use Rattle.eggprocs.specs.Rights.{has_flag, has_op, flags_by, is_bot_op, is_from_op, is_from_voice, is_join, is_pub, is_msg, global_by, is_master, standing_if, standing_of}
 use Rattle.eggprocs.specs.Whereabouts.{sought, shared, known_text, whereabouts_if}
 use Rattle.eggprocs.specs.Turns.{share_out}
 use Rattle.eggprocs.proofs.Names.{which_named-name_of}
@@ -178,7 +177,7 @@ ban-refused call seen denied = ap (λ (may : Bool). asked_by_ban may call seen) 
 
 pub unban-refused : (call : Call) (seen : Seen) → is_from_op call seen ≡ false → wanted_by which.Unban call seen ≡ []
 unfolding wanted_by
-unban-refused call seen denied = ap (λ (may : Bool). asked_by_unban may call) denied
+unban-refused call seen denied = ap (λ (may : Bool). asked_by_unban may call seen) denied
 
 pub autoop-lacks : (call : Call) (seen : Seen) → has_one_of (AUTO_OP ∷ AUTO_VOICE ∷ []) (flags_by call seen) ≡ false
     → wanted_by which.AutoOp call seen ≡ []
@@ -198,12 +197,12 @@ autoop-bot call seen denied =
 -- ---- commands of masters
 
 -- what is said by who is no master brings no change
-no-ask : (told : Bool) (call : Call) (seen : Seen) (usage : List ℕ) (wish : Option Change)
+no-ask : (told : Bool) (call : Call) (seen : Seen) (usage : List ℕ) (wish : Option Edit)
     → list_any is_ask (asked_by_command (standing_if told false) call seen usage wish) ≡ false
 no-ask false call seen usage wish = refl
 no-ask true call seen usage wish = refl
 
-stranger-asks : (call : Call) (seen : Seen) (usage : List ℕ) (wish : Option Change) → is_master call seen ≡ false
+stranger-asks : (call : Call) (seen : Seen) (usage : List ℕ) (wish : Option Edit) → is_master call seen ≡ false
     → list_any is_ask (asked_by_command (standing_of call seen) call seen usage wish) ≡ false
 stranger-asks call seen usage wish denied =
     ap (λ (master : Bool). list_any is_ask (asked_by_command (standing_if (is_msg call.kind) master) call seen usage wish)) denied
@@ -273,18 +272,18 @@ own-warned call None = refl
 own-warned call (Some looseness) = refl
 
 -- a change of who calls, or none where it is refused, is of who calls
-own-unless : (fault : Option ChangeFault) (call : Call) → list_all (is_own call) (asked_unless fault call (set_by call)) ≡ true
-own-unless None call =
+own-unless : (fault : Option ChangeFault) (call : Call) (seen : Seen)
+    → list_all (is_own call) (asked_unless fault call (in_callers_name call seen (set_by call))) ≡ true
+own-unless None call seen =
     ap (λ (own : Bool). own && list_all (is_own call) (warned call (looseness_of (mask_added (set_by call)))))
     ((bytes_eq-Decides (handle_of call) (handle_of call)).1 refl)
     ∙ own-warned call (looseness_of (mask_added (set_by call)))
-own-unless (Some fault) call = refl
+own-unless (Some fault) call seen = refl
 
 own-known : (call : Call) (seen : Seen) (asks : Bool) → list_all (is_own call)
-    (if asks then told call (or_else (info_by call seen) (codes "you have no info line")) ∷ []
-    else asked_unless (refusal seen.sight.records (set_by call)) call (set_by call)) ≡ true
+    (if asks then told call (or_else (info_by call seen) (codes "you have no info line")) ∷ [] else asked_for call seen (set_by call)) ≡ true
 own-known call seen true = refl
-own-known call seen false = own-unless (refusal seen.sight.records (set_by call)) call
+own-known call seen false = own-unless (refusal seen.sight.records (in_callers_name call seen (set_by call))) call seen
 
 own-info : (other known : Bool) (call : Call) (seen : Seen) → list_all (is_own call)
     (if other then [] else if known then asked_by_known call seen else told call (codes "you are not known here") ∷ []) ≡ true
@@ -346,104 +345,3 @@ seen-law call one other same none-one none-other turn = λ a b kept-a kept-b.
     ∙ ap (share_out First call one) (seen-apart call one none-one ∙ ap (by_these call) same ∙ sym (seen-apart call other none-other))
     ∙ ap (λ (at : ℕ). if at == 0 then wanted_by which.Seen call other else []) turn
     ∙ sym (actions-kept which.Seen call other b kept-b)
-
--- ---- what is for owners alone
-
-spared-warned : (call : Call) (seen : Seen) (loose : Option Looseness)
-    → list_any (is_ask_for_owners seen) (warned call loose) ≡ false
-spared-warned call seen None = refl
-spared-warned call seen (Some looseness) = refl
-
--- who is no owner has no change asked for that is for owners
-spared : (change : Change) (call : Call) (seen : Seen) (mine theirs : Bool) → is_owner call seen ≡ mine → mine ≡ false → is_for_owners change seen ≡ theirs
-    → list_any (is_ask_for_owners seen)
-    (if theirs && not mine then told call for_owners ∷ [] else asked_unless (refusal seen.sight.records change) call change) ≡ false
-spared change call seen mine true own none is = ap (λ (m : Bool). list_any (is_ask_for_owners seen)
-    (if true && not m then told call for_owners ∷ [] else asked_unless (refusal seen.sight.records change) call change)) none
-spared change call seen mine false own none is = by (refusal seen.sight.records change)
-  where
-    by : (fault : Option ChangeFault) → list_any (is_ask_for_owners seen) (asked_unless fault call change) ≡ false
-    by None =
-        ap (λ (b : Bool). b || list_any (is_ask_for_owners seen) (warned call (looseness_of (mask_added change)))) is
-        ∙ spared-warned call seen (looseness_of (mask_added change))
-    by (Some fault) = refl
-
-spared-wish : (wish : Option Change) (call : Call) (seen : Seen) (usage : List ℕ) → is_owner call seen ≡ false
-    → list_any (is_ask_for_owners seen) (asked_by_master call seen usage wish) ≡ false
-spared-wish None call seen usage none = refl
-spared-wish (Some change) call seen usage none = spared change call seen (is_owner call seen) (is_for_owners change seen) refl none refl
-
-spared-command : (standing : Requester) (call : Call) (seen : Seen) (usage : List ℕ) (wish : Option Change) → is_owner call seen ≡ false
-    → list_any (is_ask_for_owners seen) (asked_by_command standing call seen usage wish) ≡ false
-spared-command Elsewhere call seen usage wish none = refl
-spared-command Stranger call seen usage wish none = refl
-spared-command Master call seen usage wish none = spared-wish wish call seen usage none
-
-pub spares-owners : (w : ProcName) → duty_of w ≡ Each → (usage : List ℕ) (wish : Call → Option Change) (call : Call) (seen : Seen)
-    → wanted_by w call seen ≡ asked_by_command (standing_of call seen) call seen usage (wish call) → is_owner call seen ≡ false
-    → (reply : ProcReply) → IsKept ours (name_of w) call seen reply → list_any (is_ask_for_owners seen) reply.actions ≡ false
-spares-owners w each usage wish call seen is none = λ reply kept.
-    ap (list_any (is_ask_for_owners seen)) (alone-kept w call seen reply each kept ∙ is)
-    ∙ spared-command (standing_of call seen) call seen usage (wish call) none
-
-pub plus_user-is : (call : Call) (seen : Seen)
-    → wanted_by which.PlusUser call seen ≡ asked_by_command (standing_of call seen) call seen (codes "use +user HANDLE") (plus_user (told_of call))
-unfolding wanted_by
-plus_user-is call seen = refl
-
-pub minus_user-is : (call : Call) (seen : Seen)
-    → wanted_by which.MinusUser call seen ≡ asked_by_command (standing_of call seen) call seen (codes "use -user HANDLE") (minus_user (told_of call))
-unfolding wanted_by
-minus_user-is call seen = refl
-
-pub plus_host-is : (call : Call) (seen : Seen)
-    → wanted_by which.PlusHost call seen ≡ asked_by_command (standing_of call seen) call seen (codes "use +host HANDLE MASK") (plus_host (told_of call))
-unfolding wanted_by
-plus_host-is call seen = refl
-
-pub minus_host-is : (call : Call) (seen : Seen)
-    → wanted_by which.MinusHost call seen ≡ asked_by_command (standing_of call seen) call seen (codes "use -host HANDLE MASK") (minus_host (told_of call))
-unfolding wanted_by
-minus_host-is call seen = refl
-
-pub chattr-is : (call : Call) (seen : Seen)
-    → wanted_by which.Chattr call seen ≡ asked_by_command (standing_of call seen) call seen (codes "use chattr HANDLE FLAGS") (chattr (told_of call))
-unfolding wanted_by
-chattr-is call seen = refl
-
-pub stick-is : (call : Call) (seen : Seen)
-    → wanted_by which.Stick call seen ≡ asked_by_command (standing_of call seen) call seen (codes "use stick MASK CHANNEL") (stick (told_of call))
-unfolding wanted_by
-stick-is call seen = refl
-
-pub unstick-is : (call : Call) (seen : Seen)
-    → wanted_by which.Unstick call seen ≡ asked_by_command (standing_of call seen) call seen (codes "use unstick MASK CHANNEL") (unstick (told_of call))
-unfolding wanted_by
-unstick-is call seen = refl
-
--- the info line of who is no owner is of no owner
-spared-unless : (call : Call) (seen : Seen) (fault : Option ChangeFault) → is_owner call seen ≡ false
-    → list_any (is_ask_for_owners seen) (asked_unless fault call (set_by call)) ≡ false
-spared-unless call seen None none =
-    ap (λ (b : Bool). b || list_any (is_ask_for_owners seen) (warned call (looseness_of (mask_added (set_by call))))) none
-    ∙ spared-warned call seen (looseness_of (mask_added (set_by call)))
-spared-unless call seen (Some fault) none = refl
-
-spared-known : (call : Call) (seen : Seen) (asks : Bool) → is_owner call seen ≡ false → list_any (is_ask_for_owners seen)
-    (if asks then told call (or_else (info_by call seen) (codes "you have no info line")) ∷ []
-    else asked_unless (refusal seen.sight.records (set_by call)) call (set_by call)) ≡ false
-spared-known call seen true none = refl
-spared-known call seen false none = spared-unless call seen (refusal seen.sight.records (set_by call)) none
-
-spared-info : (other known : Bool) (call : Call) (seen : Seen) → is_owner call seen ≡ false → list_any (is_ask_for_owners seen)
-    (if other then [] else if known then asked_by_known call seen else told call (codes "you are not known here") ∷ []) ≡ false
-spared-info true known call seen none = refl
-spared-info false true call seen none = spared-known call seen (length (told_of call) == 0) none
-spared-info false false call seen none = refl
-
-pub info-spares : (call : Call) (seen : Seen) → is_owner call seen ≡ false → (reply : ProcReply) → IsKept ours (codes "info") call seen reply
-    → list_any (is_ask_for_owners seen) reply.actions ≡ false
-unfolding wanted_by
-info-spares call seen none reply kept =
-    ap (list_any (is_ask_for_owners seen)) (alone-kept which.Info call seen reply refl kept)
-    ∙ spared-info (not (is_msg call.kind)) (has_user (handle_of call) seen.sight.records.users) call seen none

@@ -1,6 +1,8 @@
+pub mod AskLemmas
 pub mod BanLines
 pub mod DueLemmas
 pub mod EndLemmas
+pub mod EveryAsk
 pub mod EveryoneLemmas
 pub mod KeepingLemmas
 pub mod LawLemmas

@@ -3,8 +3,8 @@ use Rattle.std.specs.Prelude.{ℕ, nat_lt, nat_le, ◌==◌, ◌*◌, ◌&&◌, 
 use Rattle.std.specs.List.{cons_option}
 use Rattle.bytetext.specs.declared.moment.TheConstants.{MOMENTS_END}
 use Rattle.recordtext.specs.Words.{number_below}
-use Rattle.userfile.specs.declared.change.Change.{Change}
-use Rattle.userfile.specs.declared.change.Change.TheVariants.{AddBan, DelBan}
+use Rattle.userfile.specs.declared.edit.Edit.{Edit}
+use Rattle.userfile.specs.declared.edit.Edit.TheVariants.{AddBan, DelBan}
 use Rattle.userfile.specs.declared.limits.TheConstants.{MAX_COMMENT}
 use Rattle.userfile.specs.Persons.{expires_at}
 use Rattle.userfile.specs.Shapes.{is_hostmask}
@@ -17,6 +17,7 @@ use Rattle.procs.specs.declared.call.Call.{Call}
 use Rattle.procs.specs.Seen.{Seen}
 use Rattle.eggprocs.specs.declared.bans.TheConstants.{UTIMER_MINUTES}
 use Rattle.eggprocs.specs.Args.{handle_of, channel_of, said_of, timer_text, has_word}
+use Rattle.eggprocs.specs.Askers.{in_callers_name}
 use Rattle.eggprocs.specs.Channel.{put}
 use Rattle.eggprocs.specs.Ends.{holds_ended}
 use Rattle.eggprocs.specs.Lines.{mode}
@@ -46,11 +47,11 @@ end_of (Some second) None = 0
 end_of (Some second) (Some minutes) = if nat_lt second MOMENTS_END then expires_at second minutes else 0
 
 -- the ban that a command means: mask, minutes and comment
-abbrev pub ban_in : Call → Option ℕ → List ℕ → Change
+abbrev pub ban_in : Call → Option ℕ → List ℕ → Edit
 ban_in call second rest =
     AddBan (channel_of call) (mask_of call) (handle_of call) (end_of second (minutes_in rest)) (comment_after (minutes_in rest) rest)
 
-abbrev pub ban_of : Call → Seen → Change
+abbrev pub ban_of : Call → Seen → Edit
 ban_of call seen = ban_in call seen.second (after_word (said_of call))
 
 -- ---- its end on the channel
@@ -80,13 +81,21 @@ and_then first second (Some third) = first ∷ second ∷ third ∷ []
 abbrev pub mode_of : List ℕ → Call → Action
 mode_of sign call = put mode_queue (mode (channel_of call) sign (mask_of call))
 
--- the deletion of the command's ban, if the records hold one that has ended: they take no second ban of a mask
-abbrev pub delete_first : Bool → Call → Option Action
-delete_first false call = None
-delete_first true call = Some (Ask (DelBan (channel_of call) (mask_of call)))
+-- the request of an edit, in the caller's name
+abbrev pub ask_of : Call → Seen → Edit → Action
+ask_of call seen edit = Ask (in_callers_name call seen edit)
+
+-- the deletion of the command's ban
+abbrev pub deletion : Call → Edit
+deletion call = DelBan (channel_of call) (mask_of call)
+
+-- the deletion first, if the records hold such a ban that has ended: they take no second ban of a mask
+abbrev pub delete_first : Bool → Call → Seen → Option Action
+delete_first false call seen = None
+delete_first true call seen = Some (ask_of call seen (deletion call))
 
 abbrev pub deleted_first : Call → Seen → Option Action
-deleted_first call seen = delete_first (holds_ended (channel_of call) (mask_of call) seen) call
+deleted_first call seen = delete_first (holds_ended (channel_of call) (mask_of call) seen) call seen
 
 -- what `ban` requests: the ban in the userfile, after the deletion of one that has ended, the ban on the channel, and
 -- later its end there
@@ -94,14 +103,14 @@ abbrev pub asked_by_ban : Bool → Call → Seen → List Action
 asked_by_ban may call seen =
     if may && is_hostmask (mask_of call)
     then cons_option (deleted_first call seen)
-    (and_then (Ask (ban_of call seen)) (mode_of (codes "+b") call) (lift_of call (minutes_in (after_word (said_of call)))))
+    (and_then (ask_of call seen (ban_of call seen)) (mode_of (codes "+b") call) (lift_of call (minutes_in (after_word (said_of call)))))
     else []
 
 -- what `unban` requests: the end of the ban in the userfile and on the channel
-abbrev pub asked_by_unban : Bool → Call → List Action
-asked_by_unban may call =
+abbrev pub asked_by_unban : Bool → Call → Seen → List Action
+asked_by_unban may call seen =
     if may && is_hostmask (mask_of call)
-    then Ask (DelBan (channel_of call) (mask_of call)) ∷ mode_of (codes "-b") call ∷ []
+    then ask_of call seen (deletion call) ∷ mode_of (codes "-b") call ∷ []
     else []
 
 -- what `lift` requests, for a timer's text of a channel and a mask: the end of the ban on the channel

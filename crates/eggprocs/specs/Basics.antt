@@ -1,6 +1,7 @@
 -- What the procs request that use nothing but their call.
 use Rattle.std.specs.Prelude.{ℕ, List, [], ◌∷◌, Bool, true, false, if◌then◌else◌, codes, Option, Some, None}
-use Rattle.userfile.specs.declared.change.Change.TheVariants.{AddUser}
+use Rattle.userfile.specs.Changes.{by_nobody}
+use Rattle.userfile.specs.declared.edit.Edit.TheVariants.{AddUser}
 use Rattle.outqueue.specs.declared.queue.Queue.TheVariants.{Help}
 use Rattle.procs.specs.declared.action.Action.{Action}
 use Rattle.procs.specs.declared.action.Action.TheVariants.{Ask, Utimer, SendBot, Put}
@@ -31,9 +32,9 @@ is_command Time = false
 is_command Cron = false
 is_command Timer = false
 
--- what `adduser` requests: a user whose handle is the text
+-- what `adduser` requests: a user whose handle is the text, in nobody's name, since the bind's flags say who may
 abbrev pub asked_by_adduser : Call → List Action
-asked_by_adduser call = if is_command call.kind then Ask (AddUser (last_of call.args)) ∷ [] else []
+asked_by_adduser call = if is_command call.kind then Ask (by_nobody (AddUser (last_of call.args))) ∷ [] else []
 
 -- what `tick` requests, whatever event calls it: one call of `quiet` after ten seconds, with an empty text
 abbrev pub asked_by_tick : List Action

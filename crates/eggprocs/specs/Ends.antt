@@ -3,7 +3,8 @@ use Rattle.std.specs.Prelude.{ℕ, ◌==◌, ◌-◌, ◌&&◌, ◌||◌, not, n
 use Rattle.std.specs.List.{flat_map, list_any}
 use Rattle.std.specs.Option.{option_to_list}
 use Rattle.userfile.specs.declared.ban.Ban.{Ban}
-use Rattle.userfile.specs.declared.change.Change.TheVariants.{DelBan}
+use Rattle.userfile.specs.Changes.{by_nobody}
+use Rattle.userfile.specs.declared.edit.Edit.TheVariants.{DelBan}
 use Rattle.userfile.specs.Held.{is_ban}
 use Rattle.outqueue.specs.declared.queue.Queue.TheVariants.{Mode as mode_queue}
 use Rattle.procs.specs.declared.action.Action.{Action}
@@ -59,14 +60,14 @@ is_left second ban = (length ban.channel == 0) || nat_le LEFT_SECONDS (second - 
 
 -- ---- what is requested
 
--- the end of a ban on its channel, and its deletion from the records
+-- the end of a ban on its channel, and its deletion from the records, which the bot requests in nobody's name
 abbrev pub lift_if : Bool → Ban → Option Action
 lift_if false ban = None
 lift_if true ban = Some (put mode_queue (mode ban.channel (codes "-b") ban.mask))
 
 abbrev pub delete_if : Bool → Ban → Option Action
 delete_if false ban = None
-delete_if true ban = Some (Ask (DelBan ban.channel ban.mask))
+delete_if true ban = Some (Ask (by_nobody (DelBan ban.channel ban.mask)))
 
 -- for a ban that has ended: first off its channel, then out of the records
 abbrev pub ends_of : ℕ → Seen → Ban → List Action

@@ -1,9 +1,8 @@
 -- What `info` and `greet` request, given the info lines of users.
 use Rattle.std.specs.Prelude.{ℕ, ◌==◌, not, ◌&&◌, List, [], ◌∷◌, ◌++◌, length, if◌then◌else◌, codes}
 use Rattle.std.specs.Str.{bytes_eq}
-use Rattle.userfile.specs.declared.change.Change.{Change}
-use Rattle.userfile.specs.declared.change.Change.TheVariants.{SetInfo}
-use Rattle.userfile.specs.Apply.{refusal}
+use Rattle.userfile.specs.declared.edit.Edit.{Edit}
+use Rattle.userfile.specs.declared.edit.Edit.TheVariants.{SetInfo}
 use Rattle.userfile.specs.Held.{has_user}
 use Rattle.userfile.specs.Persons.{info_of}
 use Rattle.outqueue.specs.declared.queue.Queue.TheVariants.{Help}
@@ -13,7 +12,7 @@ use Rattle.procs.specs.Seen.{Seen}
 use Rattle.eggprocs.specs.Args.{nick_of, handle_of, channel_of, told_of, or_else}
 use Rattle.eggprocs.specs.Channel.{put}
 use Rattle.eggprocs.specs.Lines.{privmsg}
-use Rattle.eggprocs.specs.People.{told, asked_unless}
+use Rattle.eggprocs.specs.People.{told, asked_for}
 use Rattle.eggprocs.specs.Rights.{is_join, is_msg}
 
 -- the info line of the caller
@@ -26,16 +25,16 @@ info_by call seen = info_of seen.sight.records.users (handle_of call)
 abbrev pub info_in : List ℕ → List ℕ
 info_in text = if bytes_eq text (codes "none") then [] else text
 
--- the change that a text means: of the caller's info line
-abbrev pub set_by : Call → Change
+-- the edit that a text means: of the caller's info line
+abbrev pub set_by : Call → Edit
 set_by call = SetInfo (handle_of call) (info_in (told_of call))
 
--- what `info` requests for a caller whom the userfile knows: a NOTICE with the info line, or the change that the text
+-- what `info` requests for a caller whom the userfile knows: a NOTICE with the info line, or the edit that the text
 -- means
 abbrev pub asked_by_known : Call → Seen → List Action
 asked_by_known call seen =
     if length (told_of call) == 0 then told call (or_else (info_by call seen) (codes "you have no info line")) ∷ []
-    else asked_unless (refusal seen.sight.records (set_by call)) call (set_by call)
+    else asked_for call seen (set_by call)
 
 abbrev pub asked_by_info : Call → Seen → List Action
 asked_by_info call seen =

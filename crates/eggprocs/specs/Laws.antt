@@ -1,16 +1,20 @@
 -- Laws of the procs: when nothing is done, and for whose call.
-use Rattle.std.specs.Prelude.{◌≡◌, ℕ, not, ◌&&◌, ◌||◌, Bool, true, false, List, [], ◌∷◌, Option, Some, None, codes}
+use Rattle.std.specs.Prelude.{◌≡◌, ◌⊎◌, ℕ, not, ◌&&◌, ◌||◌, Bool, true, false, List, [], ◌∷◌, slice_get, Option, Some, None, codes}
 use Rattle.std.specs.List.{list_all, list_any}
 use Rattle.std.specs.Str.{bytes_eq}
 use Rattle.bytetext.specs.Words.{after_word}
 use Rattle.flagexpr.specs.Letters.{has_letter}
 use Rattle.userfile.specs.declared.change.Change.{Change}
-use Rattle.userfile.specs.declared.change.Change.TheVariants.{AddUser, DelUser, AddHost, DelHost, SetGlobal, SetChan, SetBot, AddBan, DelBan, SetInfo, SetSticky}
+use Rattle.userfile.specs.declared.edit.Edit.{Edit}
+use Rattle.userfile.specs.declared.edit.Edit.TheVariants.{AddUser, DelUser, AddHost, DelHost, SetGlobal, SetChan, SetBot, AddBan, DelBan, SetInfo, SetSticky}
 use Rattle.userfile.specs.declared.ban.Ban.{Ban}
 use Rattle.userfile.specs.declared.flags.PersonFlags.{PersonFlags}
+use Rattle.userfile.specs.Apply.{refusal}
 use Rattle.userfile.specs.Held.{user_of}
+use Rattle.userfile.specs.Persons.{user_for}
+use Rattle.userfile.specs.Rights.{may}
 use Rattle.chanstate.specs.declared.member.Member.{Member}
-use Rattle.chanstate.specs.Views.{members_in}
+use Rattle.chanstate.specs.Views.{mapping_of, members_in}
 use Rattle.procs.specs.declared.action.Action.{Action}
 use Rattle.procs.specs.declared.action.Action.TheVariants.{Ask, Timer, Utimer, KillTimer, SendBot, Put}
 use Rattle.procs.specs.declared.call.Call.{Call}
@@ -20,12 +24,12 @@ use Rattle.procs.specs.Seen.{Seen}
 use Rattle.eggprocs.specs.declared.rights.TheConstants.{AUTO_OP, AUTO_VOICE, OP, FRIEND, MASTER, OWNER}
 use Rattle.eggprocs.specs.declared.duties.Duty.TheVariants.{First}
 use Rattle.eggprocs.specs.Args.{handle_of, channel_of, mode_argument}
+use Rattle.eggprocs.specs.Askers.{asker_of, caller_address}
 use Rattle.eggprocs.specs.Ends.{has_ended_by, holds_ended}
 use Rattle.eggprocs.specs.Everyone.{is_own_join, flags_of_member}
 use Rattle.eggprocs.specs.Infos.{info_by}
 use Rattle.eggprocs.specs.Keeping.{is_by_bot, is_by_server, is_by_trusted, flags_named, is_hit, is_self}
 use Rattle.eggprocs.specs.Lines.{mode, kick}
-use Rattle.eggprocs.specs.People.{is_for_owners}
 use Rattle.eggprocs.specs.Procs.{ours}
 use Rattle.eggprocs.specs.Rights.{flags_by, has_flag, has_bot, global_by, is_bot_op}
 use Rattle.eggprocs.specs.Turns.{turn_of}
@@ -88,20 +92,50 @@ abbrev pub AsksNoChange : List ℕ → Call → Seen → Type 0
 AsksNoChange name call seen =
     (reply : ProcReply) → IsKept ours name call seen reply → list_any is_ask reply.actions ≡ false
 
--- an action that requests a change that makes an owner or changes one
-abbrev pub is_ask_for_owners : Seen → Action → Bool
-is_ask_for_owners seen (Ask change) = is_for_owners change seen
-is_ask_for_owners seen (Timer wish) = false
-is_ask_for_owners seen (Utimer wish) = false
-is_ask_for_owners seen (KillTimer name) = false
-is_ask_for_owners seen (SendBot wish) = false
-is_ask_for_owners seen (Put wish) = false
+-- each change that these actions request is so
+abbrev pub EachAsk : (Change → Type 0) → List Action → Type 0
+EachAsk is_so actions = (place : ℕ) (change : Change) → slice_get actions place ≡ Some (Ask change) → is_so change
 
--- a proc requests no such change for a caller who does not have n everywhere
-abbrev pub SparesOwners : List ℕ → Type 0
-SparesOwners name =
-    (call : Call) (seen : Seen) → has_letter (global_by call seen) OWNER ≡ false
-    → (reply : ProcReply) → IsKept ours name call seen reply → list_any (is_ask_for_owners seen) reply.actions ≡ false
+-- whatever the proc of this name answers, each change that it requests is so
+abbrev pub AsksOnly : (Call → Seen → Change → Type 0) → List ℕ → Type 0
+AsksOnly is_so name =
+    (call : Call) (seen : Seen) (reply : ProcReply) → IsKept ours name call seen reply → EachAsk (is_so call seen) reply.actions
+
+-- a change that is requested in the caller's name: the caller's nick!user@host and the casemapping of the bot's server
+abbrev pub IsInCallersName : Call → Seen → Change → Type 0
+IsInCallersName call seen change = change.by ≡ Some (asker_of call seen)
+
+-- an edit that gives nobody a flag or a hostmask: it adds a user, or deletes a ban
+abbrev pub gives_nothing : Edit → Bool
+gives_nothing (AddUser handle) = true
+gives_nothing (DelBan channel mask) = true
+gives_nothing (DelUser handle) = false
+gives_nothing (AddHost handle mask) = false
+gives_nothing (DelHost handle mask) = false
+gives_nothing (SetGlobal handle flags) = false
+gives_nothing (SetChan handle channel flags) = false
+gives_nothing (SetBot handle flags) = false
+gives_nothing (AddBan channel mask creator expires comment) = false
+gives_nothing (SetInfo handle info) = false
+gives_nothing (SetSticky channel mask on) = false
+
+-- a change that is requested in the caller's name, or in nobody's and gives nothing
+abbrev pub IsNamedOrGivesNothing : Call → Seen → Change → Type 0
+IsNamedOrGivesNothing call seen change =
+    IsInCallersName call seen change ⊎ ((change.by ≡ None) × (gives_nothing change.edit ≡ true))
+
+-- the records know the caller under the call's handle
+abbrev pub KnowsCaller : Call → Seen → Type 0
+KnowsCaller call seen =
+    user_for (mapping_of seen.sight.channels) (caller_address call) seen.sight.records.users ≡ user_of (handle_of call) seen.sight.records.users
+
+-- a change to which the caller has the right, if the records know the caller under the call's handle
+abbrev pub IsAllowed : Call → Seen → Change → Type 0
+IsAllowed call seen change = KnowsCaller call seen → may seen.sight.records.users (asker_of call seen) change.edit ≡ true
+
+-- a change that the records which the proc sees take, so that its asker has the right to it by them
+abbrev pub IsTaken : Call → Seen → Change → Type 0
+IsTaken call seen change = refusal seen.sight.records change ≡ None
 
 -- a proc requests no change for a caller who has neither m nor n everywhere
 abbrev pub IsOnlyForMasters : List ℕ → Type 0
@@ -112,8 +146,8 @@ IsOnlyForMasters name =
 
 -- ---- info lines
 
--- a change of the info line of this handle's user
-abbrev pub is_info_of : List ℕ → Change → Bool
+-- an edit of the info line of this handle's user
+abbrev pub is_info_of : List ℕ → Edit → Bool
 is_info_of handle (SetInfo other info) = bytes_eq other handle
 is_info_of handle (AddUser other) = false
 is_info_of handle (DelUser other) = false
@@ -128,7 +162,7 @@ is_info_of handle (SetSticky channel mask on) = false
 
 -- an action that requests no change, or one of the caller's info line
 abbrev pub is_own : Call → Action → Bool
-is_own call (Ask change) = is_info_of (handle_of call) change
+is_own call (Ask change) = is_info_of (handle_of call) change.edit
 is_own call (Timer wish) = true
 is_own call (Utimer wish) = true
 is_own call (KillTimer name) = true
@@ -257,19 +291,23 @@ KeepsChannelsApart name =
 
 -- ---- bans that have ended
 
--- the deletion of this ban from the records
+-- an edit that deletes this ban from the records
+abbrev pub deletes_ban : Ban → Edit → Bool
+deletes_ban ban (DelBan channel mask) = bytes_eq channel ban.channel && bytes_eq mask ban.mask
+deletes_ban ban (AddUser handle) = false
+deletes_ban ban (DelUser handle) = false
+deletes_ban ban (AddHost handle mask) = false
+deletes_ban ban (DelHost handle mask) = false
+deletes_ban ban (SetGlobal handle flags) = false
+deletes_ban ban (SetChan handle channel flags) = false
+deletes_ban ban (SetBot handle flags) = false
+deletes_ban ban (AddBan channel mask creator expires comment) = false
+deletes_ban ban (SetInfo handle info) = false
+deletes_ban ban (SetSticky channel mask on) = false
+
+-- the request of such an edit
 abbrev pub is_deletion_of : Ban → Action → Bool
-is_deletion_of ban (Ask (DelBan channel mask)) = bytes_eq channel ban.channel && bytes_eq mask ban.mask
-is_deletion_of ban (Ask (AddUser handle)) = false
-is_deletion_of ban (Ask (DelUser handle)) = false
-is_deletion_of ban (Ask (AddHost handle mask)) = false
-is_deletion_of ban (Ask (DelHost handle mask)) = false
-is_deletion_of ban (Ask (SetGlobal handle flags)) = false
-is_deletion_of ban (Ask (SetChan handle channel flags)) = false
-is_deletion_of ban (Ask (SetBot handle flags)) = false
-is_deletion_of ban (Ask (AddBan channel mask creator expires comment)) = false
-is_deletion_of ban (Ask (SetInfo handle info)) = false
-is_deletion_of ban (Ask (SetSticky channel mask on)) = false
+is_deletion_of ban (Ask change) = deletes_ban ban change.edit
 is_deletion_of ban (Timer wish) = false
 is_deletion_of ban (Utimer wish) = false
 is_deletion_of ban (KillTimer name) = false
@@ -285,8 +323,8 @@ is_end_of seen action ban =
 abbrev pub is_end_of_ended : Call → Seen → Action → Bool
 is_end_of_ended call seen action = list_any (is_end_of seen action) seen.sight.records.bans
 
--- a change that deletes no ban, or one that has ended
-abbrev pub spares_lasting : Seen → Change → Bool
+-- an edit that deletes no ban, or one that has ended
+abbrev pub spares_lasting : Seen → Edit → Bool
 spares_lasting seen (DelBan channel mask) = holds_ended channel mask seen
 spares_lasting seen (AddUser handle) = true
 spares_lasting seen (DelUser handle) = true
@@ -301,7 +339,7 @@ spares_lasting seen (SetSticky channel mask on) = true
 
 -- an action that requests no deletion of a ban, or that of one that has ended
 abbrev pub deletes_no_lasting : Call → Seen → Action → Bool
-deletes_no_lasting call seen (Ask change) = spares_lasting seen change
+deletes_no_lasting call seen (Ask change) = spares_lasting seen change.edit
 deletes_no_lasting call seen (Timer wish) = true
 deletes_no_lasting call seen (Utimer wish) = true
 deletes_no_lasting call seen (KillTimer name) = true

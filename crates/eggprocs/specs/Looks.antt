@@ -11,7 +11,8 @@ use Rattle.procs.specs.declared.action.Action.TheVariants.{Ask, Timer, Utimer, K
 use Rattle.procs.specs.declared.call.Call.{Call}
 use Rattle.procs.specs.Seen.{Seen}
 use Rattle.eggprocs.specs.declared.looks.TheConstants.{LOOK_SECONDS}
-use Rattle.eggprocs.specs.Args.{arg_at, nick_of, channel_of, timer_text}
+use Rattle.eggprocs.specs.Args.{channel_of, timer_text}
+use Rattle.eggprocs.specs.Askers.{caller_address}
 use Rattle.eggprocs.specs.Channel.{put}
 use Rattle.eggprocs.specs.Effects.{channel_in, target_in, effect_in, is_done}
 use Rattle.eggprocs.specs.Everyone.{address_of}
@@ -44,10 +45,6 @@ look_of turn line address =
 abbrev pub look_if : ℕ → List ℕ → Option (List ℕ) → Option Action
 look_if turn line None = None
 look_if turn line (Some address) = look_of turn line address
-
--- the caller as nick!user@host
-abbrev pub caller_address : Call → List ℕ
-caller_address call = nick_of call ++ codes "!" ++ arg_at call.args 1
 
 -- the address that belongs to a nick: of the caller who joins, and whom the bot does not see on the channel yet, or of
 -- the member of this nick

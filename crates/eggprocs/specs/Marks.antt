@@ -1,8 +1,8 @@
 -- What `stick`, `unstick` and `bans` request.
 use Rattle.std.specs.Prelude.{ℕ, ◌-◌, Bool, true, false, List, [], ◌∷◌, ◌++◌, map, take, drop, if◌then◌else◌, unwrap_or, codes, Option, Some, None}
 use Rattle.recordtext.specs.Words.{number_below}
-use Rattle.userfile.specs.declared.change.Change.{Change}
-use Rattle.userfile.specs.declared.change.Change.TheVariants.{SetSticky}
+use Rattle.userfile.specs.declared.edit.Edit.{Edit}
+use Rattle.userfile.specs.declared.edit.Edit.TheVariants.{SetSticky}
 use Rattle.userfile.specs.declared.ban.Ban.{Ban}
 use Rattle.bytetext.specs.Words.{first_word, after_word}
 use Rattle.procs.specs.declared.action.Action.{Action}
@@ -14,16 +14,16 @@ use Rattle.eggprocs.specs.declared.rights.Requester.TheVariants.{Elsewhere, Stra
 use Rattle.eggprocs.specs.Args.{told_of, has_word, or_else}
 use Rattle.eggprocs.specs.People.{told, for_masters}
 
--- ---- the changes that texts mean
+-- ---- the edits that texts mean
 
 -- MASK CHANNEL: of the ban on all channels if no channel is given
-abbrev pub marked : List ℕ → Bool → Option Change
+abbrev pub marked : List ℕ → Bool → Option Edit
 marked text on = if has_word text then Some (SetSticky (first_word (after_word text)) (first_word text) on) else None
 
-abbrev pub stick : List ℕ → Option Change
+abbrev pub stick : List ℕ → Option Edit
 stick text = marked text true
 
-abbrev pub unstick : List ℕ → Option Change
+abbrev pub unstick : List ℕ → Option Edit
 unstick text = marked text false
 
 -- ---- bans

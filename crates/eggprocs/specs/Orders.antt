@@ -1,6 +1,6 @@
 -- The commands by which masters change the userfile, and how each is used.
 use Rattle.std.specs.Prelude.{ℕ, List, codes, Option}
-use Rattle.userfile.specs.declared.change.Change.{Change}
+use Rattle.userfile.specs.declared.edit.Edit.{Edit}
 use Rattle.procs.specs.declared.action.Action.{Action}
 use Rattle.procs.specs.declared.call.Call.{Call}
 use Rattle.procs.specs.Seen.{Seen}
@@ -21,8 +21,8 @@ usage_of Chattr = codes "use chattr HANDLE FLAGS"
 usage_of Stick = codes "use stick MASK CHANNEL"
 usage_of Unstick = codes "use unstick MASK CHANNEL"
 
--- the change that a text means
-abbrev pub wish_of : Order → List ℕ → Option Change
+-- the edit that a text means
+abbrev pub wish_of : Order → List ℕ → Option Edit
 wish_of PlusUser text = plus_user text
 wish_of MinusUser text = minus_user text
 wish_of PlusHost text = plus_host text

@@ -1,10 +1,10 @@
--- What the NOTICEs say of changes that are refused, and which hostmask a change adds.
+-- What the NOTICEs say of changes that are refused, and which hostmask an edit adds.
 use Rattle.std.specs.Prelude.{ℕ, List, [], ◌++◌, codes}
-use Rattle.userfile.specs.declared.change.Change.{Change}
-use Rattle.userfile.specs.declared.change.Change.TheVariants.{AddUser, DelUser, AddHost, DelHost, SetGlobal, SetChan, SetBot, AddBan, DelBan, SetInfo, SetSticky}
+use Rattle.userfile.specs.declared.edit.Edit.{Edit}
+use Rattle.userfile.specs.declared.edit.Edit.TheVariants.{AddUser, DelUser, AddHost, DelHost, SetGlobal, SetChan, SetBot, AddBan, DelBan, SetInfo, SetSticky}
 use Rattle.userfile.specs.declared.error.ChangeFault.{ChangeFault}
 use Rattle.userfile.specs.declared.error.ChangeFault.TheVariants.{BadHandle, BadMask, BadChannel, BadComment, NoSuchUser, UserExists, MaskExists}
-use Rattle.userfile.specs.declared.error.ChangeFault.TheVariants.{NoSuchMask, BanExists, NoSuchBan, Full}
+use Rattle.userfile.specs.declared.error.ChangeFault.TheVariants.{NoSuchMask, BanExists, NoSuchBan, Full, NotAllowed}
 use Rattle.userfile.specs.Codes.{fault_code}
 
 -- ---- refusals
@@ -21,6 +21,7 @@ refusal_words BanExists = codes "there is such a ban already"
 refusal_words NoSuchBan = codes "there is no such ban"
 refusal_words BadComment = codes "a comment has at most 100 bytes, an info line at most 80"
 refusal_words Full = codes "there is no room for one more"
+refusal_words NotAllowed = codes "only an owner may make or change an owner or a master, and the last owner stays"
 
 -- why a change is refused, and the refusal's code in brackets
 abbrev pub refusal_text : ChangeFault → List ℕ
@@ -28,8 +29,8 @@ refusal_text fault = refusal_words fault ++ codes " (" ++ fault_code fault ++ co
 
 -- ---- what is asked for
 
--- the hostmask that a change adds to a user, or nothing
-abbrev pub mask_added : Change → List ℕ
+-- the hostmask that an edit adds to a user, or nothing
+abbrev pub mask_added : Edit → List ℕ
 mask_added (AddHost handle mask) = mask
 mask_added (AddUser handle) = []
 mask_added (DelUser handle) = []

@@ -162,10 +162,7 @@ is_from_voice call seen =
 abbrev pub global_by : Call → Seen → ℕ
 global_by call seen = (flags_of seen.sight.records.users (handle_of call) []).global
 
--- an owner has the flag n everywhere, and a master m or n
-abbrev pub is_owner : Call → Seen → Bool
-is_owner call seen = has_letter (global_by call seen) OWNER
-
+-- a master has the flag m or n everywhere
 abbrev pub is_master : Call → Seen → Bool
 is_master call seen = has_letter (global_by call seen) MASTER || has_letter (global_by call seen) OWNER
 

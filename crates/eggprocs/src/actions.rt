@@ -62,7 +62,7 @@ fn wanted_by(
         ProcName::Topic => asked_by_topic(alloc, is_from_op(call, view), call),
         ProcName::Invite => asked_by_invite(alloc, is_from_op(call, view), call),
         ProcName::Ban => asked_by_ban(alloc, is_from_op(call, view), call, view),
-        ProcName::Unban => asked_by_unban(alloc, is_from_op(call, view), call),
+        ProcName::Unban => asked_by_unban(alloc, is_from_op(call, view), call, view),
         ProcName::Lift => asked_by_lift(alloc, call, view),
         ProcName::PlusUser => asked_by_order(alloc, Order::PlusUser, call, view),
         ProcName::MinusUser => asked_by_order(alloc, Order::MinusUser, call, view),

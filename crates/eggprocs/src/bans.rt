@@ -1,10 +1,10 @@
 // The procs that ban.
 ghost use Rattle.std.specs.Prelude.{◌≡◌, IfOk};
-ghost use Rattle.eggprocs.specs.Bans.{mask_of, minutes_in, short, comment_after, end_of, ban_in, lift_wish, lift_after, lift_of, mode_of, deleted_first};
-ghost use Rattle.eggprocs.specs.Args.{channel_of};
+ghost use Rattle.eggprocs.specs.Bans.{mask_of, minutes_in, short, comment_after, end_of, ban_in, lift_wish, lift_after, lift_of, mode_of, ask_of, deletion, deleted_first};
 ghost use Rattle.eggprocs.specs.Bans.{asked_by_ban, asked_by_unban, asked_by_lift};
 
 use crate::args::{channel_of, handle_of, said_of, timer_text};
+use crate::askers::in_callers_name;
 use crate::ends::holds_ended;
 use crate::lines::mode;
 use crate::pairs::{after_one, and_then, two};
@@ -14,7 +14,7 @@ use outqueue::Queue;
 use procs::{Action, Actions, Call, PutWish, TimerWish, View, starts_with_word};
 use recordtext::number;
 use std::alloc::Global;
-use userfile::{Change, MAX_COMMENT, expires_at, is_hostmask};
+use userfile::{Edit, MAX_COMMENT, expires_at, is_hostmask};
 
 /// The maximum number of minutes for which a ban's timer counts seconds; above it, the timer counts minutes.
 pub const UTIMER_MINUTES: u32 = 16_666;
@@ -69,8 +69,8 @@ fn end_of(second: Option<u64>, minutes: Option<u32>) -> u64
 }
 
 // The ban that a command means, where this text follows the mask.
-fn ban_in(alloc: Global, call: &Call, second: Option<u64>, rest: &[u8]) -> Result<Change, NoMemory>
-    ensures { IfOk result (λ change. change ≡ ban_in call.now second rest.now) }
+fn ban_in(alloc: Global, call: &Call, second: Option<u64>, rest: &[u8]) -> Result<Edit, NoMemory>
+    ensures { IfOk result (λ edit. edit ≡ ban_in call.now second rest.now) }
 {
     let channel = Text::from_slice(alloc, channel_of(call))?;
     let mask = Text::from_slice(alloc, mask_of(call))?;
@@ -78,7 +78,7 @@ fn ban_in(alloc: Global, call: &Call, second: Option<u64>, rest: &[u8]) -> Resul
     let minutes = minutes_in(rest);
     let expires = end_of(second, minutes);
     let comment = Text::from_slice(alloc, comment_after(minutes, rest))?;
-    Ok(Change::AddBan {
+    Ok(Edit::AddBan {
         channel,
         mask,
         creator,
@@ -133,6 +133,14 @@ fn mode_of(alloc: Global, sign: &[u8], call: &Call) -> Result<Action, NoMemory>
     Ok(Action::Put(PutWish { queue, line }))
 }
 
+// The request of an edit, in the caller's name.
+fn ask_of(alloc: Global, call: &Call, view: &View<'_>, edit: Edit) -> Result<Action, NoMemory>
+    ensures { IfOk result (λ action. action ≡ ask_of call.now view.now edit) }
+{
+    let change = in_callers_name(alloc, call, view, edit)?;
+    Ok(Action::Ask(change))
+}
+
 // What `ban` requests: the ban in the userfile, after the deletion of one that has ended, the ban on the channel, and
 // later its end there.
 pub(crate) fn asked_by_ban(
@@ -147,12 +155,13 @@ pub(crate) fn asked_by_ban(
         return Ok(Actions::empty(alloc));
     }
     let rest = after_word(said_of(call));
-    let ban = ban_in(alloc, call, view.second(), rest)?;
+    let edit = ban_in(alloc, call, view.second(), rest)?;
+    let ban = ask_of(alloc, call, view, edit)?;
     let sets = mode_of(alloc, b"+b", call)?;
     let lift = lift_of(alloc, call, minutes_in(rest))?;
     match deleted_first(alloc, call, view)? {
-        Some(delete) => after_one(alloc, delete, Action::Ask(ban), sets, lift),
-        None => and_then(alloc, Action::Ask(ban), sets, lift),
+        Some(delete) => after_one(alloc, delete, ban, sets, lift),
+        None => and_then(alloc, ban, sets, lift),
     }
 }
 
@@ -163,28 +172,35 @@ fn deleted_first(alloc: Global, call: &Call, view: &View<'_>) -> Result<Option<A
     if !holds_ended(channel_of(call), mask_of(call), view) {
         return Ok(None);
     }
-    Ok(Some(Action::Ask(deletion(alloc, call)?)))
+    let edit = deletion(alloc, call)?;
+    Ok(Some(ask_of(alloc, call, view, edit)?))
 }
 
 // The deletion of the command's ban from the userfile.
-fn deletion(alloc: Global, call: &Call) -> Result<Change, NoMemory>
-    ensures { IfOk result (λ change. change ≡ Change.DelBan (channel_of call.now) (mask_of call.now)) }
+fn deletion(alloc: Global, call: &Call) -> Result<Edit, NoMemory>
+    ensures { IfOk result (λ edit. edit ≡ deletion call.now) }
 {
     let channel = Text::from_slice(alloc, channel_of(call))?;
     let mask = Text::from_slice(alloc, mask_of(call))?;
-    Ok(Change::DelBan { channel, mask })
+    Ok(Edit::DelBan { channel, mask })
 }
 
 // What `unban` requests: the end of the ban in the userfile and on the channel.
-pub(crate) fn asked_by_unban(alloc: Global, may: bool, call: &Call) -> Result<Actions, NoMemory>
-    ensures { IfOk result (λ actions. actions ≡ asked_by_unban may call.now) }
+pub(crate) fn asked_by_unban(
+    alloc: Global,
+    may: bool,
+    call: &Call,
+    view: &View<'_>,
+) -> Result<Actions, NoMemory>
+    ensures { IfOk result (λ actions. actions ≡ asked_by_unban may call.now view.now) }
 {
     if !(may && is_hostmask(mask_of(call))) {
         return Ok(Actions::empty(alloc));
     }
-    let change = deletion(alloc, call)?;
+    let edit = deletion(alloc, call)?;
+    let ask = ask_of(alloc, call, view, edit)?;
     let clears = mode_of(alloc, b"-b", call)?;
-    two(alloc, Action::Ask(change), clears)
+    two(alloc, ask, clears)
 }
 
 // What `lift` requests, for a timer's text of a channel and a mask: the end of the ban on the channel.

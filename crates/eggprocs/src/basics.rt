@@ -8,9 +8,10 @@ use bytetext::{NoMemory, Text};
 use outqueue::Queue;
 use procs::{Action, Actions, BotWish, Call, CallKind, PutWish, TimerWish};
 use std::alloc::Global;
-use userfile::Change;
+use userfile::{Change, Edit};
 
-// What `adduser` requests: a user whose handle is the text after the command.
+// What `adduser` requests: a user whose handle is the text after the command. The bind's flags say who may, so the
+// request is in nobody's name.
 pub(crate) fn asked_by_adduser(alloc: Global, call: &Call) -> Result<Actions, NoMemory>
     ensures { IfOk result (λ actions. actions ≡ asked_by_adduser call.now) }
 {
@@ -18,7 +19,8 @@ pub(crate) fn asked_by_adduser(alloc: Global, call: &Call) -> Result<Actions, No
         return Ok(Actions::empty(alloc));
     }
     let handle = Text::from_slice(alloc, last_of(call.args.as_slice()))?;
-    Actions::one(alloc, Action::Ask(Change::AddUser { handle }))
+    let change = Change::by_nobody(Edit::AddUser { handle });
+    Actions::one(alloc, Action::Ask(change))
 }
 
 // What `tick` requests: one call of `quiet` after ten seconds.

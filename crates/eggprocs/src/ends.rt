@@ -14,7 +14,7 @@ use outqueue::Queue;
 use procs::{Action, Actions, Call, CallKind, PutWish, View};
 use rfccase::same;
 use std::alloc::Global;
-use userfile::{Ban, Change, Userfile};
+use userfile::{Ban, Change, Edit, Userfile};
 
 /// How many seconds after its end any bot deletes a ban that no operator of its channel has ended: a day.
 pub const LEFT_SECONDS: u64 = 86_400;
@@ -140,7 +140,7 @@ fn lift_if(alloc: Global, lifts: bool, ban: &Ban) -> Result<Option<Action>, NoMe
     Ok(Some(Action::Put(PutWish { queue, line })))
 }
 
-// The deletion of a ban from the records, if the bot is to delete it.
+// The deletion of a ban from the records, if the bot is to delete it. The bot requests it in nobody's name.
 fn delete_if(alloc: Global, deletes: bool, ban: &Ban) -> Result<Option<Action>, NoMemory>
     ensures { IfOk result (λ delete. delete ≡ delete_if deletes ban.now) }
 {
@@ -149,7 +149,8 @@ fn delete_if(alloc: Global, deletes: bool, ban: &Ban) -> Result<Option<Action>, 
     }
     let channel = ban.channel.copy(alloc)?;
     let mask = Text::from_slice(alloc, ban.mask.as_bytes())?;
-    Ok(Some(Action::Ask(Change::DelBan { channel, mask })))
+    let change = Change::by_nobody(Edit::DelBan { channel, mask });
+    Ok(Some(Action::Ask(change)))
 }
 
 // Whether the records hold a ban of this channel and mask that has ended by the second that the bot's clock shows.

@@ -4,13 +4,13 @@ ghost use Rattle.eggprocs.specs.Infos.{info_by, info_in, set_by, asked_by_known,
 
 use crate::args::{channel_of, handle_of, nick_of, or_else, told_of};
 use crate::lines::privmsg;
-use crate::people::{asked_unless, only_told};
+use crate::people::{asked_for, only_told};
 use crate::rights::{is_join, is_msg};
 use bytetext::{NoMemory, Text};
 use outqueue::Queue;
 use procs::{Action, Actions, Call, PutWish, View};
 use std::alloc::Global;
-use userfile::Change;
+use userfile::Edit;
 
 // The info line of the caller.
 fn info_by<'a>(call: &Call, view: &'a View<'_>) -> &'a [u8]
@@ -30,16 +30,16 @@ fn info_in(text: &[u8]) -> &[u8]
     }
 }
 
-// The change that a text means: of the caller's info line.
-fn set_by(alloc: Global, call: &Call) -> Result<Change, NoMemory>
-    ensures { IfOk result (λ change. change ≡ set_by call.now) }
+// The edit that a text means: of the caller's info line.
+fn set_by(alloc: Global, call: &Call) -> Result<Edit, NoMemory>
+    ensures { IfOk result (λ edit. edit ≡ set_by call.now) }
 {
     let handle = Text::from_slice(alloc, handle_of(call))?;
     let info = Text::from_slice(alloc, info_in(told_of(call)))?;
-    Ok(Change::SetInfo { handle, info })
+    Ok(Edit::SetInfo { handle, info })
 }
 
-// What `info` requests: a NOTICE with the caller's info line, or the change that the text means.
+// What `info` requests: a NOTICE with the caller's info line, or the edit that the text means.
 pub(crate) fn asked_by_info(
     alloc: Global,
     call: &Call,
@@ -64,9 +64,8 @@ fn asked_by_known(alloc: Global, call: &Call, view: &View<'_>) -> Result<Actions
         let info = or_else(info_by(call, view), b"you have no info line");
         return only_told(alloc, call, info);
     }
-    let change = set_by(alloc, call)?;
-    let fault = view.userfile().refusal_of(&change);
-    asked_unless(alloc, fault, call, change)
+    let edit = set_by(alloc, call)?;
+    asked_for(alloc, call, view, edit)
 }
 
 // [NICK] TEXT

@@ -1,6 +1,7 @@
 // Laws of the procs: when nothing is done, and for whose call.
-ghost use Rattle.std.specs.Prelude.{codes, ◌∷◌, []};
-ghost use Rattle.eggprocs.specs.Laws.{IsOnlyForOneOf, IsOnlyByOps, IsOnlyForMasters, SparesOwners};
+ghost use Rattle.std.specs.Prelude.{ℕ, List, codes, ◌∷◌, []};
+ghost use Rattle.eggprocs.specs.Laws.{IsOnlyForOneOf, IsOnlyByOps, IsOnlyForMasters};
+ghost use Rattle.eggprocs.specs.Laws.{AsksOnly, IsInCallersName, IsNamedOrGivesNothing, IsTaken, IsAllowed};
 ghost use Rattle.eggprocs.specs.Laws.{ChangesOwnInfo, IsOnlyForKnown, IsOnlyWithInfo, GivesWhatIsDue, KeepsChannelsApart};
 ghost use Rattle.eggprocs.specs.Laws.{IsOnlyForOthers, DoesOnly, is_op_of_known, is_deop_of_unknown, is_end_of_ban, is_kick_of_banned};
 ghost use Rattle.eggprocs.specs.Laws.{LeavesTrusted, LeavesServers, DoesOnlyForTrusted, is_end_of_ban_on_bot};
@@ -96,17 +97,42 @@ pub fn changes_want_a_master()
     ensures bans { IsOnlyForMasters (codes "bans") }
 {}
 
-/// A law; calling it does nothing. A caller who does not have the flag `n` everywhere can't make anybody an owner by
-/// these procs, and can't change an owner. So a master can't become an owner by a hostmask or a flag.
-pub fn changes_of_owners_want_an_owner()
-    ensures plus_user { SparesOwners (codes "+user") }
-    ensures minus_user { SparesOwners (codes "-user") }
-    ensures plus_host { SparesOwners (codes "+host") }
-    ensures minus_host { SparesOwners (codes "-host") }
-    ensures chattr { SparesOwners (codes "chattr") }
-    ensures info { SparesOwners (codes "info") }
-    ensures stick { SparesOwners (codes "stick") }
-    ensures unstick { SparesOwners (codes "unstick") }
+/// A law; calling it does nothing. Each change that a proc requests is in the caller's name: it bears the caller's
+/// `nick!user@host` and the casemapping of the bot's server, by which the bot also finds the caller's handle. So each
+/// userfile that the change reaches judges the caller's right by its own records just before the change.
+///
+/// Two procs also request changes in nobody's name: `adduser`, of which the bind's flags say who may use it, adds a
+/// user, who has neither flags nor hostmasks, and `expire` deletes bans. No proc requests anything else in nobody's
+/// name. This holds for any answer that [`Ours`](crate::Ours) allows, whatever body a store has.
+pub fn changes_are_in_the_callers_name()
+    ensures plus_user { AsksOnly IsInCallersName (codes "+user") }
+    ensures minus_user { AsksOnly IsInCallersName (codes "-user") }
+    ensures plus_host { AsksOnly IsInCallersName (codes "+host") }
+    ensures minus_host { AsksOnly IsInCallersName (codes "-host") }
+    ensures chattr { AsksOnly IsInCallersName (codes "chattr") }
+    ensures stick { AsksOnly IsInCallersName (codes "stick") }
+    ensures unstick { AsksOnly IsInCallersName (codes "unstick") }
+    ensures info { AsksOnly IsInCallersName (codes "info") }
+    ensures ban { AsksOnly IsInCallersName (codes "ban") }
+    ensures unban { AsksOnly IsInCallersName (codes "unban") }
+    ensures all { (name : List ℕ) → AsksOnly IsNamedOrGivesNothing name }
+{}
+
+/// A law; calling it does nothing. The commands of masters and `info` request no change that the records of the bot
+/// refuse, so none to which the caller has no right by them (see [`may`](userfile::Userfile::may)). A caller who does not
+/// have the flag `n` everywhere can't make anybody an owner or a master by these procs, and can't change one. `ban` and
+/// `unban` request no change to which the caller has no right, if the records know the caller under the call's handle.
+pub fn changes_want_a_right()
+    ensures plus_user { AsksOnly IsTaken (codes "+user") }
+    ensures minus_user { AsksOnly IsTaken (codes "-user") }
+    ensures plus_host { AsksOnly IsTaken (codes "+host") }
+    ensures minus_host { AsksOnly IsTaken (codes "-host") }
+    ensures chattr { AsksOnly IsTaken (codes "chattr") }
+    ensures stick { AsksOnly IsTaken (codes "stick") }
+    ensures unstick { AsksOnly IsTaken (codes "unstick") }
+    ensures info { AsksOnly IsTaken (codes "info") }
+    ensures ban { AsksOnly IsAllowed (codes "ban") }
+    ensures unban { AsksOnly IsAllowed (codes "unban") }
 {}
 
 /// A law; calling it does nothing. `info` requests no change except of the caller's info line, and none if the userfile

@@ -87,8 +87,9 @@
 //!   stranger to it. So bind `opall` to joins too: it asks for the hosts when the bot itself joins.
 //!
 //! In private messages, for callers who have one of the flags `m` and `n` everywhere. Anyone else gets a NOTICE that
-//! says so, and no change ([`changes_want_a_master`]). An owner is a user with the flag `n`. A caller with `m` alone
-//! makes nobody an owner and changes no owner ([`changes_of_owners_want_an_owner`]):
+//! says so, and no change ([`changes_want_a_master`]). An owner is a user with the flag `n`, and a master one with `m`. A
+//! caller with `m` alone makes nobody an owner or a master, and changes none, not even the caller's own record. Nobody
+//! deletes the only owner, or takes `n` from that one. Who tries gets a NOTICE that says so ([`changes_want_a_right`]):
 //!
 //! | Proc | Kind | Words | What it requests |
 //! |---|---|---|---|
@@ -124,6 +125,12 @@
 //! if a word is missing; why, in words and by its code, if the present records refuse the change; and otherwise that the
 //! change is queued, since the hub decides. `+host` adds a warning for a mask that is likely to fit strangers
 //! ([`loosemask`]). `bans` has a NOTICE for each ban.
+//!
+//! Each change that a proc requests is in the caller's name: the caller's `nick!user@host`, and the casemapping of the
+//! bot's server. So the hub judges the caller's right once more, by its own records, when the change reaches it. A master
+//! who has been removed at the hub changes nothing from a bot that has not heard of it yet. Only `adduser` and `expire`
+//! request changes in nobody's name: a new user, who has no flags and no hostmasks, and the deletion of a ban
+//! ([`changes_are_in_the_callers_name`]).
 //!
 //! If several bots of a net are on one channel, all of them get the same calls there, and one acts
 //! ([`one_bot_acts`]). A *hand* is a member whom the userfile knows with the flag `b` everywhere. The *rank* of a bot is
@@ -161,7 +168,7 @@
 //! | Proc | Kind | Words | What it requests |
 //! |---|---|---|---|
 //! | `quiet`, `stop` | any | | nothing |
-//! | `adduser` | `msg`, `pub` | HANDLE | a new user |
+//! | `adduser` | `msg`, `pub` | HANDLE | a new user, in nobody's name: the bind's flags say who may |
 //! | `tick` | any | | a call of `quiet` after ten seconds |
 //! | `tell` | `msg`, `pub` | TEXT | that the bot sends the text to the hub |
 //! | `echo` | `msg`, `msgm`, `pub`, `pubm` | TEXT | that the bot repeats it, on the channel or to the nick |
@@ -175,6 +182,7 @@
 
 mod actions;
 mod args;
+mod askers;
 mod bans;
 mod basics;
 mod body;
@@ -209,9 +217,9 @@ pub use crate::effects::LineEffect;
 pub use crate::ends::LEFT_SECONDS;
 pub use crate::full_store::store;
 pub use crate::laws::{
-    answers_keep_channels_apart, bans_end_at_their_second, changes_of_owners_want_an_owner,
-    changes_want_a_master, commands_want_an_operator, commands_want_flags, greetings_want_an_info,
-    info_is_of_who_asks, keeping_answers_others, keeping_spares_operators,
+    answers_keep_channels_apart, bans_end_at_their_second, changes_are_in_the_callers_name,
+    changes_want_a_master, changes_want_a_right, commands_want_an_operator, commands_want_flags,
+    greetings_want_an_info, info_is_of_who_asks, keeping_answers_others, keeping_spares_operators,
 };
 pub use crate::looks::{LOOK_SECONDS, MAX_TURN};
 pub use crate::orders::Order;

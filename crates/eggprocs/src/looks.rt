@@ -1,9 +1,10 @@
 // What a bot looks for that lets another bot go first.
 ghost use Rattle.std.specs.Prelude.{◌≡◌, ◌≤◌, IfOk};
 ghost use Rattle.eggprocs.specs.declared.looks.TheConstants.{MAX_TURN};
-ghost use Rattle.eggprocs.specs.Looks.{is_wanted, look_text, look_of, look_if, caller_address, address_now, look_at, look_for, line_of, may_look, asked_by_later};
+ghost use Rattle.eggprocs.specs.Looks.{is_wanted, look_text, look_of, look_if, address_now, look_at, look_for, line_of, may_look, asked_by_later};
 
-use crate::args::{arg_at, channel_of, nick_of, timer_text};
+use crate::args::{channel_of, timer_text};
+use crate::askers::caller_address;
 use crate::channel::one_line;
 use crate::effects::{channel_in, effect_in, is_done, target_in};
 use crate::everyone::address_of;
@@ -63,16 +64,6 @@ fn look_of(
         proc,
         text,
     })))
-}
-
-// The caller as nick!user@host.
-fn caller_address(alloc: Global, call: &Call) -> Result<Text, NoMemory>
-    ensures { IfOk result (λ who. who ≡ caller_address call.now) }
-{
-    let mut who = Vec::from_slice(alloc, nick_of(call))?;
-    who.extend_from_slice(b"!")?;
-    who.extend_from_slice(arg_at(call.args.as_slice(), 1))?;
-    Ok(Text::new(who))
 }
 
 // The address that belongs to a nick: of the caller who joins, or of the member of this nick.

@@ -12,24 +12,24 @@ use bytetext::{NoMemory, Text, after_word, first_word};
 use procs::{Action, Actions, Call, MAX_ACTIONS, View, starts_with_word};
 use recordtext::bot_number;
 use std::alloc::Global;
-use userfile::{Ban, Change, Userfile};
+use userfile::{Ban, Edit, Userfile};
 
-// The change that `stick` means: MASK CHANNEL.
-pub(crate) fn stick(alloc: Global, text: &[u8]) -> Result<Option<Change>, NoMemory>
+// The edit that `stick` means: MASK CHANNEL.
+pub(crate) fn stick(alloc: Global, text: &[u8]) -> Result<Option<Edit>, NoMemory>
     ensures { IfOk result (λ wish. wish ≡ stick text.now) }
 {
     marked(alloc, text, true)
 }
 
-// The change that `unstick` means: MASK CHANNEL.
-pub(crate) fn unstick(alloc: Global, text: &[u8]) -> Result<Option<Change>, NoMemory>
+// The edit that `unstick` means: MASK CHANNEL.
+pub(crate) fn unstick(alloc: Global, text: &[u8]) -> Result<Option<Edit>, NoMemory>
     ensures { IfOk result (λ wish. wish ≡ unstick text.now) }
 {
     marked(alloc, text, false)
 }
 
-// A change of whether a ban is sticky: of the ban on all channels if no channel is given.
-fn marked(alloc: Global, text: &[u8], on: bool) -> Result<Option<Change>, NoMemory>
+// An edit of whether a ban is sticky: of the ban on all channels if no channel is given.
+fn marked(alloc: Global, text: &[u8], on: bool) -> Result<Option<Edit>, NoMemory>
     ensures { IfOk result (λ wish. wish ≡ marked text.now on) }
 {
     if !starts_with_word(text) {
@@ -37,7 +37,7 @@ fn marked(alloc: Global, text: &[u8], on: bool) -> Result<Option<Change>, NoMemo
     }
     let channel = Text::from_slice(alloc, first_word(after_word(text)))?;
     let mask = Text::from_slice(alloc, first_word(text))?;
-    Ok(Some(Change::SetSticky { channel, mask, on }))
+    Ok(Some(Edit::SetSticky { channel, mask, on }))
 }
 
 // What `bans` requests: NOTICEs that list the bans to a master, as many as an answer has room for.

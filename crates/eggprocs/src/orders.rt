@@ -8,7 +8,7 @@ use crate::people::{asked_by_command, chattr, minus_host, minus_user, plus_host,
 use bytetext::NoMemory;
 use procs::{Actions, Call, View};
 use std::alloc::Global;
-use userfile::Change;
+use userfile::Edit;
 
 /// A command by which a master changes the userfile: the proc of the same name.
 #[derive(Clone, Copy, Debug)]
@@ -50,8 +50,8 @@ fn usage_of(order: Order) -> &'static [u8]
     }
 }
 
-// The change that a text means.
-fn wish_of(alloc: Global, order: Order, text: &[u8]) -> Result<Option<Change>, NoMemory>
+// The edit that a text means.
+fn wish_of(alloc: Global, order: Order, text: &[u8]) -> Result<Option<Edit>, NoMemory>
     ensures { IfOk result (λ wish. wish ≡ wish_of order text.now) }
 {
     match order {

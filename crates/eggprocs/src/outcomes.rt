@@ -1,10 +1,10 @@
-// What the NOTICEs say of changes that are refused, and which hostmask a change adds.
+// What the NOTICEs say of changes that are refused, and which hostmask an edit adds.
 ghost use Rattle.std.specs.Prelude.{◌≡◌, IfOk};
 ghost use Rattle.eggprocs.specs.Outcomes.{mask_added, refusal_text, refusal_words};
 
 use bytetext::{NoMemory, Text};
 use std::alloc::Global;
-use userfile::{Change, ChangeFault};
+use userfile::{ChangeFault, Edit};
 
 // Why the userfile refuses a change, and the refusal's code.
 pub(crate) fn refusal_text(alloc: Global, fault: ChangeFault) -> Result<Text, NoMemory>
@@ -32,24 +32,27 @@ fn refusal_words(fault: ChangeFault) -> &'static [u8]
         ChangeFault::NoSuchBan => b"there is no such ban",
         ChangeFault::BadComment => b"a comment has at most 100 bytes, an info line at most 80",
         ChangeFault::Full => b"there is no room for one more",
+        ChangeFault::NotAllowed => {
+            b"only an owner may make or change an owner or a master, and the last owner stays"
+        }
     }
 }
 
-// The hostmask that a change adds to a user, or the empty text if it adds none.
-pub(crate) fn mask_added(change: &Change) -> &[u8]
-    ensures { result.now ≡ mask_added change.now }
+// The hostmask that an edit adds to a user, or the empty text if it adds none.
+pub(crate) fn mask_added(edit: &Edit) -> &[u8]
+    ensures { result.now ≡ mask_added edit.now }
 {
-    match change {
-        Change::AddHost { handle: _, mask } => mask.as_bytes(),
-        Change::AddUser { .. }
-        | Change::DelUser { .. }
-        | Change::DelHost { .. }
-        | Change::SetGlobal { .. }
-        | Change::SetChan { .. }
-        | Change::SetBot { .. }
-        | Change::AddBan { .. }
-        | Change::DelBan { .. }
-        | Change::SetInfo { .. }
-        | Change::SetSticky { .. } => b"",
+    match edit {
+        Edit::AddHost { handle: _, mask } => mask.as_bytes(),
+        Edit::AddUser { .. }
+        | Edit::DelUser { .. }
+        | Edit::DelHost { .. }
+        | Edit::SetGlobal { .. }
+        | Edit::SetChan { .. }
+        | Edit::SetBot { .. }
+        | Edit::AddBan { .. }
+        | Edit::DelBan { .. }
+        | Edit::SetInfo { .. }
+        | Edit::SetSticky { .. } => b"",
     }
 }

@@ -1,31 +1,28 @@
 // The procs by which masters change the userfile.
 ghost use Rattle.std.specs.Prelude.{◌≡◌, ◌∷◌, [], IfOk};
 ghost use Rattle.std.specs.Option.{option_copied};
-ghost use Rattle.eggprocs.specs.People.{handle_in, makes_owner, is_for_owners};
-ghost use Rattle.eggprocs.specs.People.{told, asked_by_command, asked_by_master, asked_unless, plus_user, minus_user, plus_host, minus_host, chattr, listed, info_text, described, asked_by_whois};
+ghost use Rattle.eggprocs.specs.People.{told, asked_by_command, asked_by_master, asked_for, asked_unless, plus_user, minus_user, plus_host, minus_host, chattr, listed, info_text, described, asked_by_whois};
 ghost use Rattle.eggprocs.specs.Args.{told_of};
 ghost use Rattle.eggprocs.specs.Rights.{standing_of};
 ghost use Rattle.bytetext.specs.Words.{first_word};
 ghost use Rattle.userfile.specs.Held.{user_of};
 
 use crate::args::{nick_of, told_of};
+use crate::askers::in_callers_name;
 use crate::lines::notice;
 use crate::outcomes::{mask_added, refusal_text};
 use crate::pairs::two;
-use crate::rights::{OWNER, Requester, is_owner, standing_of};
+use crate::rights::{Requester, standing_of};
 use bytetext::{NoMemory, Text, after_word, first_word};
 use flagexpr::Flags;
 use loosemask::looseness_of;
 use outqueue::Queue;
 use procs::{Action, Actions, Call, PutWish, View, starts_with_word};
 use std::alloc::Global;
-use userfile::{Change, ChangeFault, Hostmask, User};
+use userfile::{Change, ChangeFault, Edit, Hostmask, User};
 
 // What the NOTICE to a stranger says.
 pub(crate) const FOR_MASTERS: &[u8] = b"only masters and owners may do that";
-
-// What the NOTICE to a master who is no owner says.
-const FOR_OWNERS: &[u8] = b"only owners may do that";
 
 // A NOTICE to the caller.
 pub(crate) fn told(alloc: Global, call: &Call, words: &[u8]) -> Result<Action, NoMemory>
@@ -50,7 +47,7 @@ pub(crate) fn asked_by_command(
     call: &Call,
     view: &View<'_>,
     usage: &[u8],
-    wish: Option<Change>,
+    wish: Option<Edit>,
 ) -> Result<Actions, NoMemory>
     ensures { IfOk result (λ actions.
         actions ≡ asked_by_command (standing_of call.now view.now) call.now view.now usage.now wish) }
@@ -62,81 +59,38 @@ pub(crate) fn asked_by_command(
     }
 }
 
-// What a master's command requests: its change, unless that is for owners, or a NOTICE of how it is used.
+// What a master's command requests: its edit, or a NOTICE of how it is used.
 fn asked_by_master(
     alloc: Global,
     call: &Call,
     view: &View<'_>,
     usage: &[u8],
-    wish: Option<Change>,
+    wish: Option<Edit>,
 ) -> Result<Actions, NoMemory>
     ensures { IfOk result (λ actions. actions ≡ asked_by_master call.now view.now usage.now wish) }
 {
     match wish {
-        Some(change) => {
-            if is_for_owners(&change, view) && !is_owner(call, view) {
-                return only_told(alloc, call, FOR_OWNERS);
-            }
-            let fault = view.userfile().refusal_of(&change);
-            asked_unless(alloc, fault, call, change)
-        }
+        Some(edit) => asked_for(alloc, call, view, edit),
         None => only_told(alloc, call, usage),
     }
 }
 
-// Whether a change makes an owner or changes one.
-fn is_for_owners(change: &Change, view: &View<'_>) -> bool
-    ensures { result ≡ is_for_owners change.now view.now }
+// The request of an edit in the caller's name, or a NOTICE of why the bot's userfile would refuse it.
+pub(crate) fn asked_for(
+    alloc: Global,
+    call: &Call,
+    view: &View<'_>,
+    edit: Edit,
+) -> Result<Actions, NoMemory>
+    ensures { IfOk result (λ actions. actions ≡ asked_for call.now view.now edit) }
 {
-    makes_owner(change)
-        || view
-            .userfile()
-            .flags_of(handle_in(change), b"")
-            .global
-            .has(OWNER)
-}
-
-fn makes_owner(change: &Change) -> bool
-    ensures { result ≡ makes_owner change.now }
-{
-    match change {
-        Change::SetGlobal { handle: _, flags } => flags.has(OWNER),
-        Change::AddUser { .. }
-        | Change::DelUser { .. }
-        | Change::AddHost { .. }
-        | Change::DelHost { .. }
-        | Change::SetChan { .. }
-        | Change::SetBot { .. }
-        | Change::AddBan { .. }
-        | Change::DelBan { .. }
-        | Change::SetInfo { .. }
-        | Change::SetSticky { .. } => false,
-    }
-}
-
-// The user that a change is about.
-fn handle_in(change: &Change) -> &[u8]
-    ensures { result.now ≡ handle_in change.now }
-{
-    match change {
-        Change::AddUser { handle }
-        | Change::DelUser { handle }
-        | Change::AddHost { handle, mask: _ }
-        | Change::DelHost { handle, mask: _ }
-        | Change::SetGlobal { handle, flags: _ }
-        | Change::SetChan {
-            handle,
-            channel: _,
-            flags: _,
-        }
-        | Change::SetBot { handle, flags: _ }
-        | Change::SetInfo { handle, info: _ } => handle.as_bytes(),
-        Change::AddBan { .. } | Change::DelBan { .. } | Change::SetSticky { .. } => b"",
-    }
+    let change = in_callers_name(alloc, call, view, edit)?;
+    let fault = view.userfile().refusal_of(&change);
+    asked_unless(alloc, fault, call, change)
 }
 
 // The request of a change, with a warning if it adds a loose hostmask, or a NOTICE of why the userfile refuses it.
-pub(crate) fn asked_unless(
+fn asked_unless(
     alloc: Global,
     fault: Option<ChangeFault>,
     call: &Call,
@@ -149,7 +103,7 @@ pub(crate) fn asked_unless(
             let words = refusal_text(alloc, fault)?;
             only_told(alloc, call, words.as_bytes())
         }
-        None => match looseness_of(mask_added(&change)) {
+        None => match looseness_of(mask_added(&change.edit)) {
             Some(looseness) => {
                 let warning = told(alloc, call, looseness.warning().as_bytes())?;
                 two(alloc, Action::Ask(change), warning)
@@ -159,30 +113,30 @@ pub(crate) fn asked_unless(
     }
 }
 
-// The change that `+user` means: HANDLE.
-pub(crate) fn plus_user(alloc: Global, text: &[u8]) -> Result<Option<Change>, NoMemory>
+// The edit that `+user` means: HANDLE.
+pub(crate) fn plus_user(alloc: Global, text: &[u8]) -> Result<Option<Edit>, NoMemory>
     ensures { IfOk result (λ wish. wish ≡ plus_user text.now) }
 {
     if !starts_with_word(text) {
         return Ok(None);
     }
     let handle = Text::from_slice(alloc, first_word(text))?;
-    Ok(Some(Change::AddUser { handle }))
+    Ok(Some(Edit::AddUser { handle }))
 }
 
-// The change that `-user` means: HANDLE.
-pub(crate) fn minus_user(alloc: Global, text: &[u8]) -> Result<Option<Change>, NoMemory>
+// The edit that `-user` means: HANDLE.
+pub(crate) fn minus_user(alloc: Global, text: &[u8]) -> Result<Option<Edit>, NoMemory>
     ensures { IfOk result (λ wish. wish ≡ minus_user text.now) }
 {
     if !starts_with_word(text) {
         return Ok(None);
     }
     let handle = Text::from_slice(alloc, first_word(text))?;
-    Ok(Some(Change::DelUser { handle }))
+    Ok(Some(Edit::DelUser { handle }))
 }
 
-// The change that `+host` means: HANDLE MASK.
-pub(crate) fn plus_host(alloc: Global, text: &[u8]) -> Result<Option<Change>, NoMemory>
+// The edit that `+host` means: HANDLE MASK.
+pub(crate) fn plus_host(alloc: Global, text: &[u8]) -> Result<Option<Edit>, NoMemory>
     ensures { IfOk result (λ wish. wish ≡ plus_host text.now) }
 {
     let rest = after_word(text);
@@ -191,11 +145,11 @@ pub(crate) fn plus_host(alloc: Global, text: &[u8]) -> Result<Option<Change>, No
     }
     let handle = Text::from_slice(alloc, first_word(text))?;
     let mask = Text::from_slice(alloc, first_word(rest))?;
-    Ok(Some(Change::AddHost { handle, mask }))
+    Ok(Some(Edit::AddHost { handle, mask }))
 }
 
-// The change that `-host` means: HANDLE MASK.
-pub(crate) fn minus_host(alloc: Global, text: &[u8]) -> Result<Option<Change>, NoMemory>
+// The edit that `-host` means: HANDLE MASK.
+pub(crate) fn minus_host(alloc: Global, text: &[u8]) -> Result<Option<Edit>, NoMemory>
     ensures { IfOk result (λ wish. wish ≡ minus_host text.now) }
 {
     let rest = after_word(text);
@@ -204,11 +158,11 @@ pub(crate) fn minus_host(alloc: Global, text: &[u8]) -> Result<Option<Change>, N
     }
     let handle = Text::from_slice(alloc, first_word(text))?;
     let mask = Text::from_slice(alloc, first_word(rest))?;
-    Ok(Some(Change::DelHost { handle, mask }))
+    Ok(Some(Edit::DelHost { handle, mask }))
 }
 
-// The change that `chattr` means: HANDLE FLAGS.
-pub(crate) fn chattr(alloc: Global, text: &[u8]) -> Result<Option<Change>, NoMemory>
+// The edit that `chattr` means: HANDLE FLAGS.
+pub(crate) fn chattr(alloc: Global, text: &[u8]) -> Result<Option<Edit>, NoMemory>
     ensures { IfOk result (λ wish. wish ≡ chattr text.now) }
 {
     let rest = after_word(text);
@@ -219,7 +173,7 @@ pub(crate) fn chattr(alloc: Global, text: &[u8]) -> Result<Option<Change>, NoMem
         return Ok(None);
     };
     let handle = Text::from_slice(alloc, first_word(text))?;
-    Ok(Some(Change::SetGlobal { handle, flags }))
+    Ok(Some(Edit::SetGlobal { handle, flags }))
 }
 
 // What `whois` requests: a NOTICE to a master that says who a user is.

@@ -2,7 +2,7 @@
 ghost use Rattle.std.specs.Prelude.{◌≡◌};
 ghost use Rattle.eggprocs.specs.Rights.{is_pub, is_join, is_msg, is_timer, is_mode, is_change};
 ghost use Rattle.eggprocs.specs.Rights.{flags_by, has_flag, has_master, has_op, has_bot, is_protected, is_op_of, is_bot_op, is_from_op, is_from_voice};
-ghost use Rattle.eggprocs.specs.Rights.{global_by, is_owner, is_master, standing_if, standing_of};
+ghost use Rattle.eggprocs.specs.Rights.{global_by, is_master, standing_if, standing_of};
 
 use crate::args::{channel_of, handle_of, mode_change};
 use flagexpr::Flags;
@@ -164,13 +164,6 @@ fn global_by(call: &Call, view: &View<'_>) -> Flags
     ensures { result ≡ global_by call.now view.now }
 {
     view.userfile().flags_of(handle_of(call), b"").global
-}
-
-// Whether the caller has the flag n everywhere.
-pub(crate) fn is_owner(call: &Call, view: &View<'_>) -> bool
-    ensures { result ≡ is_owner call.now view.now }
-{
-    global_by(call, view).has(OWNER)
 }
 
 // Whether the caller has one of the flags m and n everywhere.

@@ -3,7 +3,8 @@ use Rattle.std.specs.Prelude.{ℕ, ◌+◌, nat_lt, Bool, ◌||◌, List, [], �
 use Rattle.std.specs.List.{concat}
 use Rattle.bytetext.specs.declared.moment.TheConstants.{MOMENTS_END}
 use Rattle.flagexpr.specs.Letters.{has_letter}
-use Rattle.userfile.specs.declared.change.Change.TheVariants.{AddBan}
+use Rattle.userfile.specs.declared.edit.Edit.TheVariants.{AddBan}
+use Rattle.userfile.specs.Changes.{by_nobody}
 use Rattle.userfile.specs.declared.flags.PersonFlags.{PersonFlags}
 use Rattle.userfile.specs.Persons.{flags_of}
 use Rattle.chanstate.specs.Views.{member_in, is_op as is_op_there}
@@ -60,6 +61,6 @@ put_after seconds parts = Utimer (record { interval = seconds; count = 1; proc =
 abbrev pub put_later : Call → List Action
 put_later call = put Mode (arg_at call 0 ∷ []) ∷ []
 
--- a ban in the records that ends at this second
+-- a ban in the records that ends at this second, which the bot asks for in nobody's name
 abbrev pub ban : List ℕ → List ℕ → ℕ → List ℕ → Action
-ban channel mask expires comment = Ask (AddBan channel mask (codes "egg") expires comment)
+ban channel mask expires comment = Ask (by_nobody (AddBan channel mask (codes "egg") expires comment))

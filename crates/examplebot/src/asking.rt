@@ -7,7 +7,7 @@ use bytetext::{MOMENTS_END, NoMemory, Text};
 use outqueue::Queue;
 use procs::{Action, Actions, Call, PutWish, TimerWish, View};
 use std::alloc::Global;
-use userfile::Change;
+use userfile::{Change, Edit};
 
 // Returns the call's argument at `place`, or the empty text if it has none there.
 pub(crate) fn arg_at(call: &Call, place: usize) -> &[u8]
@@ -113,7 +113,7 @@ pub(crate) fn put_later(alloc: Global, call: &Call) -> Result<Actions, NoMemory>
     Ok(these(vec![in alloc; line]?))
 }
 
-// Asks for a ban in the records, made by `egg`, that ends at the second `expires`.
+// Asks in nobody's name for a ban in the records, made by `egg`, that ends at the second `expires`.
 pub(crate) fn ban(
     alloc: Global,
     channel: &[u8],
@@ -127,13 +127,13 @@ pub(crate) fn ban(
     let mask = Text::from_slice(alloc, mask)?;
     let creator = Text::from_slice(alloc, b"egg")?;
     let comment = Text::from_slice(alloc, comment)?;
-    Ok(Action::Ask(Change::AddBan {
+    Ok(Action::Ask(Change::by_nobody(Edit::AddBan {
         channel,
         mask,
         creator,
         expires,
         comment,
-    }))
+    })))
 }
 
 // Wraps `actions`, of which there are eight at most.

@@ -1,6 +1,6 @@
 // Our procs, and the actions that each asks for, in the words of `specs/Ours.antt`.
-ghost use Rattle.std.specs.Prelude.{◌≡◌, IfOk};
-ghost use Rattle.examplebot.specs.Ours.{actions_of, badword, greet, op};
+ghost use Rattle.std.specs.Prelude.{◌≡◌, IfOk, Some};
+ghost use Rattle.examplebot.specs.Ours.{actions_of, badword, banned_until, greet, op};
 
 use crate::asking::{
     ban, channel_of, handle_of, has_o, is_op, mask_of, nick_of, put, put_after, put_later,
@@ -55,9 +55,16 @@ fn badword(alloc: Global, call: &Call, view: &View<'_>) -> Result<Actions, NoMem
     if is_op(call, view) || has_o(call, view) {
         return Ok(Actions::empty(alloc));
     }
-    let Some(end) = second_after(view, 600) else {
-        return Ok(Actions::empty(alloc));
-    };
+    match second_after(view, 600) {
+        Some(end) => banned_until(alloc, call, end),
+        None => Ok(Actions::empty(alloc)),
+    }
+}
+
+// Kicks that person, and bans them until the second `end`.
+fn banned_until(alloc: Global, call: &Call, end: u64) -> Result<Actions, NoMemory>
+    ensures { IfOk result (λ actions. actions ≡ banned_until (Some end) call.now) }
+{
     let (channel, nick) = (channel_of(call), nick_of(call));
     let mask = mask_of(alloc, call)?;
     let mask = mask.as_bytes();

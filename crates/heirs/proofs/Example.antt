@@ -3,7 +3,8 @@
 use Rattle.std.proofs.Common.{◌≡◌, inl, ℕ, zero, suc, List, [], ◌∷◌, slice_get, Some, Ok, refl, subst}
 use Rattle.userfile.specs.Shapes.{is_handle}
 use Rattle.userfile.specs.declared.change.Change.{Change as UserChange}
-use Rattle.userfile.specs.declared.change.Change.TheVariants.{AddUser}
+use Rattle.userfile.specs.Changes.{by_nobody}
+use Rattle.userfile.specs.declared.edit.Edit.TheVariants.{AddUser}
 use Rattle.sharewire.specs.declared.packet.Packet.{Packet}
 use Rattle.sharewire.specs.declared.packet.Packet.TheVariants.{Hello, Change, Part}
 use Rattle.procs.specs.Promises.{Promised}
@@ -32,10 +33,10 @@ use Rattle.heirs.specs.Examples.{CatchesUp}
 -- ---- the changes, and the ends of the link
 
 abbrev first : UserChange
-first = AddUser (97 ∷ [])
+first = by_nobody (AddUser (97 ∷ []))
 
 abbrev second : UserChange
-second = AddUser (98 ∷ [])
+second = by_nobody (AddUser (98 ∷ []))
 
 -- the hub with an ask that waits, and after it accepted that
 abbrev asked : Hub → UserChange → Hub

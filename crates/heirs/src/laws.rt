@@ -25,7 +25,8 @@ use procs::Promise;
 /// promise `P`. The call does nothing.
 pub fn laws_of_heirs<P: Promise>()
     // An heir of a bot at version v stands for the history in which its hub has accepted the first v changes of the old
-    // net. So `goes`, `at_version` and `grows_as_told` of `laws_of_processes` hold of all that it does.
+    // net. So `goes`, `at_version` and `grows_as_told` of `laws_of_processes` hold of all that it does, and so do the laws
+    // of rights there, from versions of the old net on.
     ensures begins { (old : Net) (h : History) → Stands old h → (bot version count : ℕ) (w : Net)
         → IsHeirOf old bot version count w → Stands w (heir_start count (take version h.hub.kept.accepted)) }
     // If the hub was promoted, or a bot at the hub's version, the heir's hub has accepted each change that the old hub had.

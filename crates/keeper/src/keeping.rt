@@ -14,7 +14,7 @@ use procs::{Nobodies, ProcStore};
 use std::alloc::Global;
 use std::fs::File;
 use std::rt::Files;
-use userfile::{Change, Userfile};
+use userfile::{Change, Edit, Userfile};
 
 /// The number of changes after which the hub rewrites its journal.
 const A_BASE: u32 = 50;
@@ -107,9 +107,9 @@ fn accept_one(alloc: Global, hub: &mut Bot<FileDisk>, store: &Nobodies) -> Resul
 fn next_change(alloc: Global, userfile: &Userfile) -> Result<Change, NoMemory> {
     let handle = Text::from_slice(alloc, b"egg")?;
     if userfile.user_count() == 0 {
-        Ok(Change::AddUser { handle })
+        Ok(Change::by_nobody(Edit::AddUser { handle }))
     } else {
-        Ok(Change::DelUser { handle })
+        Ok(Change::by_nobody(Edit::DelUser { handle }))
     }
 }
 

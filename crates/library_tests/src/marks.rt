@@ -3,7 +3,7 @@ use crate::users::{EIGHTY_ONE, adding, answer};
 use bytetext::Text;
 use rfccase::Casemapping;
 use std::alloc::Global;
-use userfile::{Change, Userfile};
+use userfile::{Change, Edit, Userfile};
 
 // Makes the change that sets the info text of the user `handle`.
 fn telling(alloc: Global, handle: &[u8], info: &[u8]) -> Option<Change> {
@@ -11,7 +11,7 @@ fn telling(alloc: Global, handle: &[u8], info: &[u8]) -> Option<Change> {
         Text::from_slice(alloc, handle),
         Text::from_slice(alloc, info),
     ) {
-        (Ok(handle), Ok(info)) => Some(Change::SetInfo { handle, info }),
+        (Ok(handle), Ok(info)) => Some(Change::by_nobody(Edit::SetInfo { handle, info })),
         (_, _) => None,
     }
 }
@@ -54,13 +54,15 @@ fn banning(alloc: Global, channel: &[u8], mask: &[u8], expires: u64) -> Option<C
         Text::from_slice(alloc, b"bob"),
         Text::from_slice(alloc, b"go"),
     ) {
-        (Ok(channel), Ok(mask), Ok(creator), Ok(comment)) => Some(Change::AddBan {
-            channel,
-            mask,
-            creator,
-            expires,
-            comment,
-        }),
+        (Ok(channel), Ok(mask), Ok(creator), Ok(comment)) => Some(Change::by_nobody(
+            Edit::AddBan {
+                channel,
+                mask,
+                creator,
+                expires,
+                comment,
+            },
+        )),
         (_, _, _, _) => None,
     }
 }
@@ -71,7 +73,9 @@ fn marking(alloc: Global, channel: &[u8], mask: &[u8], on: bool) -> Option<Chang
         Text::from_slice(alloc, channel),
         Text::from_slice(alloc, mask),
     ) {
-        (Ok(channel), Ok(mask)) => Some(Change::SetSticky { channel, mask, on }),
+        (Ok(channel), Ok(mask)) => {
+            Some(Change::by_nobody(Edit::SetSticky { channel, mask, on }))
+        }
         (_, _) => None,
     }
 }

@@ -4,8 +4,8 @@ use flagexpr::Flags;
 use rfccase::Casemapping;
 use std::alloc::Global;
 use userfile::{
-    Ban, Change, ChangeError, ChannelEntries, ChannelFlags, Hostmask, Hostmasks, User, Userfile,
-    are_bans, are_users, expires_at,
+    Ban, Change, ChangeError, ChannelEntries, ChannelFlags, Edit, Hostmask, Hostmasks, User,
+    Userfile, are_bans, are_users, expires_at,
 };
 
 fn letters(text: &[u8]) -> Flags {
@@ -254,7 +254,7 @@ fn answer_to(alloc: Global, change: Option<Change>) -> &'static str {
 
 pub(crate) fn adding(alloc: Global, handle: &[u8]) -> Option<Change> {
     let handle = Text::from_slice(alloc, handle).ok()?;
-    Some(Change::AddUser { handle })
+    Some(Change::by_nobody(Edit::AddUser { handle }))
 }
 
 fn giving(alloc: Global, mask: &[u8]) -> Option<Change> {
@@ -262,7 +262,7 @@ fn giving(alloc: Global, mask: &[u8]) -> Option<Change> {
         Text::from_slice(alloc, b"al"),
         Text::from_slice(alloc, mask),
     ) {
-        (Ok(handle), Ok(mask)) => Some(Change::AddHost { handle, mask }),
+        (Ok(handle), Ok(mask)) => Some(Change::by_nobody(Edit::AddHost { handle, mask })),
         (_, _) => None,
     }
 }
@@ -281,9 +281,14 @@ fn texts_that_no_script_can_spell_are_refused(rt: HostRuntime) {
 fn a_change_is_copied(alloc: Global) -> bool {
     let twin = giving(alloc, b"*!*@a.net").map(|change| change.copy(alloc));
     match &twin {
-        Some(Ok(Change::AddHost { handle, mask })) => {
-            handle.is_same(b"al") && mask.is_same(b"*!*@a.net")
-        }
+        Some(
+            Ok(
+                Change {
+                    by: None,
+                    edit: Edit::AddHost { handle, mask },
+                },
+            ),
+        ) => { handle.is_same(b"al") && mask.is_same(b"*!*@a.net") }
         _ => false,
     }
 }

@@ -1,11 +1,12 @@
 // What the server answers to one line of a connected client, before anything is changed.
-ghost use Rattle.std.specs.Prelude.{◌≡◌, [], Some, None, IfOk, IfSome, OnErr};
+ghost use Rattle.std.specs.Prelude.{◌≡◌, [], true, Some, None, IfOk, IfSome, OnErr};
 ghost use Rattle.ircline.specs.declared.line.Line.TheVariants.{Message as message_line};
 ghost use Rattle.ircline.specs.Words.{up_to};
 ghost use Rattle.ircline.specs.Classes.{is_end};
 ghost use Rattle.ircline.specs.Reading.{line_of, TakesMemory};
-ghost use Rattle.miniircd.specs.declared.server_change.Effect.TheVariants.{Left};
-ghost use Rattle.miniircd.specs.Mail.{deliveries};
+ghost use Rattle.miniircd.specs.declared.server_change.Effect.TheVariants.{Changed, Left};
+ghost use Rattle.miniircd.specs.declared.server_change.ServerChange.TheVariants.{Same};
+ghost use Rattle.miniircd.specs.Mail.{are_sound, deliveries};
 ghost use Rattle.miniircd.specs.Rooms.{rooms_after, Leave};
 ghost use Rattle.miniircd.specs.Commands.{change_of};
 ghost use Rattle.miniircd.specs.Talk.{exact_letters};
@@ -84,15 +85,34 @@ pub fn farewell_of(
     ensures left { IfOk result (λ reply. reply.effect ≡ Left (rooms_after None (Leave me.now.key) channels.now)) }
     ensures sound { IfOk result (λ reply. IsSoundAfter me.now.key clients.now.slots reply.effect reply.lines) }
 {
-    let mut post = post_of_leaver(alloc, clients, me.key);
-    let source = source_of(alloc, me.person)?;
-    let line = farewell(alloc, source.as_slice(), reason)?;
-    spread_to_neighbours(alloc, &mut post, clients, channels, me.key, line.as_slice())?;
+    let lines = farewells(alloc, clients, channels, me, reason)?;
     let after = rooms_after(alloc, channels, None, ChannelEdit::Leave(me.key))?;
     Ok(ServerReply {
         effect: Effect::Left(Seq::new(after)),
-        lines: Seq::new(post.into_lines()),
+        lines,
     })
+}
+
+// Returns the QUIT of the client `me` for each client that shares a channel with it.
+fn farewells(
+    alloc: Global,
+    clients: &Slab<ClientIdentity>,
+    channels: &[ServerChannel],
+    me: &Sender<'_>,
+    reason: Option<&[u8]>,
+) -> Result<Seq<SentLine>, NoMemory>
+    ensures { IfOk result (λ lines. are_sound clients.now.slots (Some me.now.key) lines ≡ true) }
+{
+    let line = quit_line(alloc, me, reason)?;
+    let mut post = post_of_leaver(alloc, clients, me.key);
+    spread_to_neighbours(alloc, &mut post, clients, channels, me.key, line.as_slice())?;
+    Ok(Seq::new(post.into_lines()))
+}
+
+// Returns the QUIT of the client `me`.
+fn quit_line(alloc: Global, me: &Sender<'_>, reason: Option<&[u8]>) -> Result<Vec<u8>, NoMemory> {
+    let source = source_of(alloc, me.person)?;
+    farewell(alloc, source.as_slice(), reason)
 }
 
 // Returns the reply to a message, be it a QUIT or another.
@@ -144,11 +164,42 @@ pub fn reply_to(
     ensures sound { IfOk result (λ reply. IsSoundAfter me.now.key clients.now.slots reply.effect reply.lines) }
     ensures memory { OnErr result (TakesMemory (line_of (up_to is_end text.now))) }
 {
-    match read_line(alloc, text)? {
-        Line::Bad(_) => Ok(ServerReply {
-            effect: Effect::Changed(ServerChange::Same),
-            lines: Seq::empty(alloc),
-        }),
-        Line::Message(message) => reply_to_any(alloc, clients, channels, me, &message),
+    let line = read_line(alloc, text)?;
+    reply_to_line(alloc, clients, channels, me, &line)
+}
+
+// Returns the reply to a line of the client `me`.
+fn reply_to_line(
+    alloc: Global,
+    clients: &Slab<ClientIdentity>,
+    channels: &mut Vec<ServerChannel>,
+    me: &Sender<'_>,
+    line: &Line,
+) -> Result<ServerReply, NoMemory>
+    ensures after { IfOk result
+        (λ reply. effected me.now.key reply.effect (record { clients = clients.now.slots; channels = channels.new.items }) ≡ after_line me.now.key me.now.person.now line.now
+        (record { clients = clients.now.slots; channels = channels.old.items })) }
+    ensures told { IfOk result
+        (λ reply. IfSome (letters_of me.now.key me.now.person.now line.now
+        (record { clients = clients.now.slots; channels = channels.old.items }))
+        (λ letters. reply.lines ≡ deliveries clients.now.slots None letters)) }
+    ensures err { OnErr result (channels.new.items ≡ channels.old.items) }
+    ensures sound { IfOk result (λ reply. IsSoundAfter me.now.key clients.now.slots reply.effect reply.lines) }
+    ensures memory { OnErr result (TakesMemory line.now) }
+{
+    match line {
+        Line::Bad(_) => Ok(no_reply(alloc)),
+        Line::Message(message) => reply_to_any(alloc, clients, channels, me, message),
+    }
+}
+
+// Returns the reply to a line that is ignored. Allocates nothing.
+fn no_reply(alloc: Global) -> ServerReply
+    ensures same { result.effect ≡ Changed Same }
+    ensures silent { result.lines ≡ [] }
+{
+    ServerReply {
+        effect: Effect::Changed(ServerChange::Same),
+        lines: Seq::empty(alloc),
     }
 }

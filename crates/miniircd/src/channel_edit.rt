@@ -224,9 +224,22 @@ pub fn rooms_after(
     ensures { IfOk result
         (λ after. after.items ≡ rooms_after (option_copied name.entry) (seen edit.entry) channels.now) }
 {
+    edit_each(alloc, channels, &name, &edit)
+}
+
+// Does what `rooms_after` does. It borrows the name and the edit, so that its loop carries two references.
+fn edit_each(
+    alloc: Global,
+    channels: &[ServerChannel],
+    name: &Option<&[u8]>,
+    edit: &ChannelEdit<'_>,
+) -> Result<Vec<ServerChannel>, NoMemory>
+    ensures { IfOk result
+        (λ after. after.items ≡ rooms_after (option_copied name.now) (seen edit.now) channels.now) }
+{
     let mut after = Vec::with_capacity(alloc, channels.len())?;
     for channel in channels {
-        push_edited(alloc, &mut after, name, edit, channel)?;
+        push_edited(alloc, &mut after, *name, *edit, channel)?;
     }
     Ok(after)
 }

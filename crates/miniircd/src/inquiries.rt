@@ -37,7 +37,8 @@ pub fn inquire(
 ) -> Result<(), NoMemory>
     ensures { OnOk result (readers post.new ≡ readers post.old) }
 {
-    let (first, second) = (word(params, 0), word(params, 1));
+    let first = word(params, 0);
+    let second = word(params, 1);
     match inquiry {
         Inquiry::Cap => cap(alloc, post, me, first, second),
         Inquiry::Invite => invite(alloc, post, clients, channels, me, first, second),
@@ -45,10 +46,16 @@ pub fn inquire(
         Inquiry::List => list(alloc, post, channels, me, first),
         Inquiry::Pong => Ok(()),
         Inquiry::Userhost => userhost(alloc, post, clients, me, params),
-        Inquiry::Whois => {
-            let nick = if params.len() > 1 { second } else { first };
-            whois(alloc, post, clients, channels, me, nick)
-        }
+        Inquiry::Whois => whois(alloc, post, clients, channels, me, last_of_two(params)),
+    }
+}
+
+// Returns the second parameter, or the first if there is no second.
+fn last_of_two(params: &[Text]) -> &[u8] {
+    if params.len() > 1 {
+        word(params, 1)
+    } else {
+        word(params, 0)
     }
 }
 

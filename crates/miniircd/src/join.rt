@@ -2,7 +2,7 @@
 ghost use Rattle.std.specs.Prelude.{◌≡◌, ◌∷◌, [], IfOk, OnErr, OnOk, codes};
 ghost use Rattle.std.specs.Option.{option_copied};
 ghost use Rattle.miniircd.specs.Mail.{posted};
-ghost use Rattle.miniircd.specs.Rooms.{room, entered, joined, joined_each, undone};
+ghost use Rattle.miniircd.specs.Rooms.{room, entered, entrance_of, joined, joined_each, undone};
 ghost use Rattle.miniircd.specs.declared.undo_step.UndoStep.TheVariants.{Nowhere};
 ghost use Rattle.miniircd.specs.Lines.{told, repeated, source_of, relayed, spread, titling, arrival, join_letters, join_letters_each};
 
@@ -73,6 +73,21 @@ fn arrive(
     Ok(())
 }
 
+// Sends what a JOIN brings about to the members of the channel that the client has entered.
+fn greet(
+    alloc: Global,
+    post: &mut Post<'_>,
+    clients: &Slab<ClientIdentity>,
+    me: &Sender<'_>,
+    name: &[u8],
+    channels: &[ServerChannel],
+) -> Result<(), NoMemory>
+    ensures { OnOk result (post.new
+        ≡ posted (arrival me.now.key me.now.person.now name.now clients.now.slots (room name.now channels.now)) post.old) }
+{
+    arrive(alloc, post, clients, me, name, channel_of(channels, name))
+}
+
 // Lets a client join a channel that is open to it.
 fn come_in(
     alloc: Global,
@@ -90,8 +105,7 @@ fn come_in(
     ensures err { OnErr result (channels.new.items ≡ channels.old.items) }
 {
     let entry = enter(alloc, channels, name, me.key)?;
-    let channel = channel_of(channels.as_slice(), name);
-    match arrive(alloc, post, clients, me, name, channel) {
+    match greet(alloc, post, clients, me, name, channels.as_slice()) {
         Ok(()) => Ok(entry),
         Err(refused) => {
             undo(channels, entry);
@@ -117,6 +131,20 @@ fn keep_out(
     Ok(UndoStep::Nowhere)
 }
 
+// Returns what keeps a client out of the channel of one name.
+fn entrance_for(
+    alloc: Global,
+    channels: &[ServerChannel],
+    me: &Sender<'_>,
+    name: &[u8],
+) -> Result<Entrance, NoMemory>
+    ensures { IfOk result (λ entrance. entrance
+        ≡ entrance_of me.now.key (source_of me.now.person.now) name.now channels.now) }
+{
+    let source = source_of(alloc, me.person)?;
+    Ok(find_entrance(channels, name, me.key, source.as_slice()))
+}
+
 // Lets a client join the channel of one name, if it may.
 #[tactic(auto, using(crate::proofs::MailLemmas::posted_none))]
 fn join(
@@ -133,8 +161,7 @@ fn join(
         ≡ posted (join_letters me.now.key me.now.person.now clients.now.slots name.now channels.old.items) post.old) }
     ensures err { OnErr result (channels.new.items ≡ channels.old.items) }
 {
-    let source = source_of(alloc, me.person)?;
-    match find_entrance(channels.as_slice(), name, me.key, source.as_slice()) {
+    match entrance_for(alloc, channels.as_slice(), me, name)? {
         Entrance::Open => come_in(alloc, post, clients, me, name, channels),
         Entrance::Inside => Ok(UndoStep::Nowhere),
         Entrance::Nameless => keep_out(alloc, post, me, b"403", name, b"No such channel"),

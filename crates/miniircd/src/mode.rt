@@ -1,7 +1,8 @@
 // MODE (RFC 2812 section 3.2.3).
-ghost use Rattle.std.specs.Prelude.{◌≡◌, IfOk, OnOk};
+ghost use Rattle.std.specs.Prelude.{◌≡◌, IfOk, OnOk, if◌then◌else◌};
 ghost use Rattle.std.specs.List.{list_any};
 ghost use Rattle.miniircd.specs.Mail.{readers};
+ghost use Rattle.miniircd.specs.declared.server_change.ServerChange.TheVariants.{Same, Channels};
 ghost use Rattle.miniircd.specs.Rooms.{room};
 ghost use Rattle.miniircd.specs.Commands.{standing_in, is_mark, is_ban_of, counts, marked_on, banned_on, target_on, moded, moded_each, mode_change};
 
@@ -217,16 +218,20 @@ fn refuse(
     Ok(())
 }
 
-// Replies with the modes of a channel, which has none.
+// Replies with the modes of a channel, which has none, to a MODE without `modes`.
 fn tell_modes(
     alloc: Global,
     post: &mut Post<'_>,
     channels: &[ServerChannel],
     me: &Sender<'_>,
     name: &[u8],
+    modes: &[u8],
 ) -> Result<(), NoMemory>
     ensures { OnOk result (readers post.new ≡ readers post.old) }
 {
+    if !modes.is_empty() {
+        return Ok(());
+    }
     if channel_of(channels, name).is_some() {
         tell_of(alloc, post, me, b"324", name, b"+")?;
     } else if is_channel_name(name) {
@@ -272,32 +277,76 @@ pub fn mode(
         ≡ mode_change (standing_in me.now.key (room name.now channels.now)) clients.now.slots name.now modes.now arguments.now channels.now) }
     ensures readers { OnOk result (readers post.new ≡ readers post.old) }
 {
-    if modes.is_empty() {
-        tell_modes(alloc, post, channels, me, name)?;
-    }
+    tell_modes(alloc, post, channels, me, name, modes)?;
     let singles = singles(alloc, modes, arguments)?;
     let standing = find_standing(channels, name, me.key);
     match standing {
         Standing::Unknown | Standing::Outside => {
-            if is_about_a_channel(name, modes) {
-                turn_away(alloc, post, me, name, standing)?;
-            }
+            keep_out(alloc, post, me, name, modes, standing)?;
             Ok(ServerChange::Same)
         }
         Standing::Plain => {
-            answer_questions(alloc, post, channels, me, name, singles.as_slice())?;
-            refuse(alloc, post, me, name, singles.as_slice())?;
+            hear_member(alloc, post, channels, me, name, singles.as_slice())?;
             Ok(ServerChange::Same)
         }
         Standing::Op => {
-            answer_questions(alloc, post, channels, me, name, singles.as_slice())?;
-            if !any_counts(singles.as_slice()) {
-                return Ok(ServerChange::Same);
-            }
-            let after = apply_each(alloc, post, clients, channels, me, name, singles.as_slice())?;
-            Ok(ServerChange::Channels(Seq::new(after)))
+            hear_operator(alloc, post, clients, channels, me, name, singles.as_slice())
         }
     }
+}
+
+// Refuses the modes of a client that is not on the channel, if there are modes.
+fn keep_out(
+    alloc: Global,
+    post: &mut Post<'_>,
+    me: &Sender<'_>,
+    name: &[u8],
+    modes: &[u8],
+    standing: Standing,
+) -> Result<(), NoMemory>
+    ensures { OnOk result (readers post.new ≡ readers post.old) }
+{
+    if is_about_a_channel(name, modes) {
+        turn_away(alloc, post, me, name, standing)?;
+    }
+    Ok(())
+}
+
+// Answers the modes of a client that is on the channel and is no operator of it.
+fn hear_member(
+    alloc: Global,
+    post: &mut Post<'_>,
+    channels: &[ServerChannel],
+    me: &Sender<'_>,
+    name: &[u8],
+    singles: &[Single],
+) -> Result<(), NoMemory>
+    ensures { OnOk result (readers post.new ≡ readers post.old) }
+{
+    answer_questions(alloc, post, channels, me, name, singles)?;
+    refuse(alloc, post, me, name, singles)
+}
+
+// Answers and applies the modes of an operator.
+fn hear_operator(
+    alloc: Global,
+    post: &mut Post<'_>,
+    clients: &Slab<ClientIdentity>,
+    channels: &[ServerChannel],
+    me: &Sender<'_>,
+    name: &[u8],
+    singles: &[Single],
+) -> Result<ServerChange, NoMemory>
+    ensures change { IfOk result (λ change. change ≡ (if list_any counts singles.now
+        then Channels (moded_each clients.now.slots name.now singles.now channels.now) else Same)) }
+    ensures readers { OnOk result (readers post.new ≡ readers post.old) }
+{
+    answer_questions(alloc, post, channels, me, name, singles)?;
+    if !any_counts(singles) {
+        return Ok(ServerChange::Same);
+    }
+    let after = apply_each(alloc, post, clients, channels, me, name, singles)?;
+    Ok(ServerChange::Channels(Seq::new(after)))
 }
 
 // Returns whether there are modes, and the name is a channel's.

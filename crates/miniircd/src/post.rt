@@ -15,11 +15,21 @@ const MAX_LINE: usize = 510;
 
 /// The lines of one call. Whatever is put in, the lines that come out are sound: each goes to a client that is
 /// connected and isn't about to leave, has 1 to 510 bytes, and no NUL, CR or LF.
-#[derive(Drop)]
 pub struct Post<'a> {
     clients: &'a Slab<ClientIdentity>,
     leaver: Option<usize>,
     lines: Vec<SentLine>,
+}
+
+// By hand, so that this is proved once, and not in each function in which one ends.
+impl<'a> Drop for Post<'a> {
+    fn drop(self) {
+        let Post {
+            clients: _,
+            leaver: _,
+            lines: _,
+        } = self;
+    }
 }
 
 impl<'a> Model for Post<'a> {
@@ -82,7 +92,12 @@ impl<'a> Post<'a> {
         ensures lines { result.items ≡ self.entry.lines }
         ensures sound { are_sound self.entry.clients self.entry.leaver result.items ≡ true }
     {
-        self.lines
+        let Post {
+            clients: _,
+            leaver: _,
+            lines,
+        } = self;
+        lines
     }
 }
 

@@ -1,8 +1,9 @@
 // NICK and USER (RFC 2812 sections 3.1.2 and 3.1.3).
-ghost use Rattle.std.specs.Prelude.{◌≡◌, map, IfOk, OnOk};
+ghost use Rattle.std.specs.Prelude.{◌≡◌, map, take, IfOk, OnOk};
 ghost use Rattle.std.specs.List.{list_all};
 ghost use Rattle.miniircd.specs.People.{holder};
 ghost use Rattle.miniircd.specs.Mail.{readers};
+ghost use Rattle.miniircd.specs.declared.server_change.ServerChange.TheVariants.{Same};
 ghost use Rattle.miniircd.specs.Commands.{is_other, is_nick_byte, is_nick, nick_change, user_byte, user_change};
 
 use crate::client_identity::ClientIdentity;
@@ -102,23 +103,58 @@ pub fn nick(
     ensures readers { OnOk result (readers post.new ≡ readers post.old) }
 {
     if is_other(me.key, holder(clients, new)) {
-        tell_of(alloc, post, me, b"433", new, b"Nickname in use")?;
-        return Ok(ServerChange::Same);
+        return refuse(alloc, post, me, b"433", new, b"Nickname in use");
     }
     if !is_nick(new) {
-        tell_of(alloc, post, me, b"432", new, b"Erroneous nickname")?;
-        return Ok(ServerChange::Same);
+        return refuse(alloc, post, me, b"432", new, b"Erroneous nickname");
     }
-    let person = ClientIdentity {
-        nick: Text::from_slice(alloc, new)?,
-        user: me.person.user.copy(alloc)?,
-    };
-    if me.person.is_registered() {
-        announce(alloc, post, clients, channels, me, new)?;
-    } else {
-        welcome(alloc, post, me.key, &person)?;
-    }
+    let person = called(alloc, me.person, new)?;
+    tell_nick(alloc, post, clients, channels, me, &person)?;
     Ok(ServerChange::Person(person))
+}
+
+// Tells the client why it doesn't get the nick `new`.
+fn refuse(
+    alloc: Global,
+    post: &mut Post<'_>,
+    me: &Sender<'_>,
+    code: &[u8],
+    new: &[u8],
+    why: &[u8],
+) -> Result<ServerChange, NoMemory>
+    ensures change { IfOk result (λ change. change ≡ Same) }
+    ensures readers { OnOk result (readers post.new ≡ readers post.old) }
+{
+    tell_of(alloc, post, me, code, new, why)?;
+    Ok(ServerChange::Same)
+}
+
+// Returns a client under the nick `new`.
+fn called(alloc: Global, person: &ClientIdentity, new: &[u8]) -> Result<ClientIdentity, NoMemory>
+    ensures { IfOk result (λ after. after ≡ record person.now { nick = new.now }) }
+{
+    Ok(ClientIdentity {
+        nick: Text::from_slice(alloc, new)?,
+        user: person.user.copy(alloc)?,
+    })
+}
+
+// Sends the new nick of a registered client, and welcomes one that the nick registers. `person` is the client under it.
+fn tell_nick(
+    alloc: Global,
+    post: &mut Post<'_>,
+    clients: &Slab<ClientIdentity>,
+    channels: &[ServerChannel],
+    me: &Sender<'_>,
+    person: &ClientIdentity,
+) -> Result<(), NoMemory>
+    ensures { OnOk result (readers post.new ≡ readers post.old) }
+{
+    if me.person.is_registered() {
+        announce(alloc, post, clients, channels, me, person.nick.as_bytes())
+    } else {
+        welcome(alloc, post, me.key, person)
+    }
 }
 
 fn user_byte(byte: u8) -> u8
@@ -142,6 +178,17 @@ fn user_name(alloc: Global, text: &[u8]) -> Result<Vec<u8>, NoMemory>
     Ok(name)
 }
 
+// Returns a client with the user name that `name` gives it.
+fn named(alloc: Global, person: &ClientIdentity, name: &[u8]) -> Result<ClientIdentity, NoMemory>
+    ensures { IfOk result (λ after. after ≡ record person.now { user = map user_byte (take 30 name.now) }) }
+{
+    let name = user_name(alloc, front(name, MAX_NAME))?;
+    Ok(ClientIdentity {
+        nick: person.nick.copy(alloc)?,
+        user: Text::new(name),
+    })
+}
+
 /// Answers a USER of the client `me` with the user name `name`.
 ///
 /// # Errors
@@ -158,11 +205,7 @@ pub fn user(
     if me.person.user.len() > 0 {
         return Ok(ServerChange::Same);
     }
-    let name = user_name(alloc, front(name, MAX_NAME))?;
-    let person = ClientIdentity {
-        nick: me.person.nick.copy(alloc)?,
-        user: Text::new(name),
-    };
+    let person = named(alloc, me.person, name)?;
     welcome(alloc, post, me.key, &person)?;
     Ok(ServerChange::Person(person))
 }

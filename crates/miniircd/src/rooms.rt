@@ -3,7 +3,8 @@ ghost use Rattle.std.specs.Prelude.{◌≡◌, Some, IfOk, OnOk};
 ghost use Rattle.std.specs.Option.{option_copied};
 ghost use Rattle.miniircd.specs.People.{holder};
 ghost use Rattle.miniircd.specs.Mail.{readers};
-ghost use Rattle.miniircd.specs.Rooms.{room};
+ghost use Rattle.miniircd.specs.declared.server_change.ServerChange.TheVariants.{Same, Channels};
+ghost use Rattle.miniircd.specs.Rooms.{room, rooms_after, seen};
 ghost use Rattle.miniircd.specs.Commands.{standing_in, part_change, topic_change, target_on, kicked, kick_change};
 
 use crate::channel_edit::{ChannelEdit, rooms_after};
@@ -106,19 +107,58 @@ pub fn part(
 {
     let standing = find_standing(channels, name, me.key);
     match standing {
-        Standing::Unknown | Standing::Outside => {
-            turn_away(alloc, post, me, name, standing)?;
-            Ok(ServerChange::Same)
-        }
+        Standing::Unknown | Standing::Outside => refuse(alloc, post, me, name, standing),
         Standing::Plain | Standing::Op => {
-            match text {
-                Some(text) => pass_on(alloc, post, channels, me, b"PART", name, b"", text)?,
-                None => pass_name_on(alloc, post, channels, me, b"PART", name)?,
-            }
-            let after = rooms_after(alloc, channels, Some(name), ChannelEdit::Leave(me.key))?;
-            Ok(ServerChange::Channels(Seq::new(after)))
+            pass_part_on(alloc, post, channels, me, name, text)?;
+            change_room(alloc, channels, name, ChannelEdit::Leave(me.key))
         }
     }
+}
+
+// Sends a PART to all who are on the channel.
+fn pass_part_on(
+    alloc: Global,
+    post: &mut Post<'_>,
+    channels: &[ServerChannel],
+    me: &Sender<'_>,
+    name: &[u8],
+    text: Option<&[u8]>,
+) -> Result<(), NoMemory>
+    ensures { OnOk result (readers post.new ≡ readers post.old) }
+{
+    match text {
+        Some(text) => pass_on(alloc, post, channels, me, b"PART", name, b"", text),
+        None => pass_name_on(alloc, post, channels, me, b"PART", name),
+    }
+}
+
+// Tells the client `me` why it can't give a command on the channel `name`, and changes nothing.
+fn refuse(
+    alloc: Global,
+    post: &mut Post<'_>,
+    me: &Sender<'_>,
+    name: &[u8],
+    standing: Standing,
+) -> Result<ServerChange, NoMemory>
+    ensures change { IfOk result (λ change. change ≡ Same) }
+    ensures readers { OnOk result (readers post.new ≡ readers post.old) }
+{
+    turn_away(alloc, post, me, name, standing)?;
+    Ok(ServerChange::Same)
+}
+
+// Returns the change of the channel `name` by `edit`.
+fn change_room(
+    alloc: Global,
+    channels: &[ServerChannel],
+    name: &[u8],
+    edit: ChannelEdit<'_>,
+) -> Result<ServerChange, NoMemory>
+    ensures { IfOk result (λ change. change
+        ≡ Channels (rooms_after (Some name.now) (seen edit.entry) channels.now)) }
+{
+    let after = rooms_after(alloc, channels, Some(name), edit)?;
+    Ok(ServerChange::Channels(Seq::new(after)))
 }
 
 // Sends the topic of a channel to the client that asked.
@@ -158,18 +198,14 @@ pub fn topic(
 {
     let standing = find_standing(channels, name, me.key);
     match (standing, text) {
-        (Standing::Unknown | Standing::Outside, _) => {
-            turn_away(alloc, post, me, name, standing)?;
-            Ok(ServerChange::Same)
-        }
+        (Standing::Unknown | Standing::Outside, _) => refuse(alloc, post, me, name, standing),
         (Standing::Plain | Standing::Op, None) => {
             tell_topic(alloc, post, channels, me, name)?;
             Ok(ServerChange::Same)
         }
         (Standing::Plain | Standing::Op, Some(text)) => {
             pass_on(alloc, post, channels, me, b"TOPIC", name, b"", text)?;
-            let after = rooms_after(alloc, channels, Some(name), ChannelEdit::Title(text))?;
-            Ok(ServerChange::Channels(Seq::new(after)))
+            change_room(alloc, channels, name, ChannelEdit::Title(text))
         }
     }
 }
@@ -207,8 +243,23 @@ fn kick_out(
         tell_of(alloc, post, me, b"401", nick, b"No such nick")?;
         return Ok(ServerChange::Same);
     };
-    let mut words = Vec::from_slice(alloc, b" ")?;
-    words.extend_from_slice(nick)?;
+    pass_kick_on(alloc, post, channels, me, name, nick, reason)?;
+    change_room(alloc, channels, name, ChannelEdit::Leave(client))
+}
+
+// Sends a KICK to all who are on the channel.
+fn pass_kick_on(
+    alloc: Global,
+    post: &mut Post<'_>,
+    channels: &[ServerChannel],
+    me: &Sender<'_>,
+    name: &[u8],
+    nick: &[u8],
+    reason: &[u8],
+) -> Result<(), NoMemory>
+    ensures { OnOk result (readers post.new ≡ readers post.old) }
+{
+    let words = [b" ", nick].concat(alloc)?;
     pass_on(
         alloc,
         post,
@@ -218,9 +269,7 @@ fn kick_out(
         name,
         words.as_slice(),
         reason,
-    )?;
-    let after = rooms_after(alloc, channels, Some(name), ChannelEdit::Leave(client))?;
-    Ok(ServerChange::Channels(Seq::new(after)))
+    )
 }
 
 /// Answers a KICK of `nick` off the channel `name`. If there is no `reason`, the nick of the client `me` is the reason.
@@ -244,8 +293,7 @@ pub fn kick(
     let standing = find_standing(channels, name, me.key);
     match standing {
         Standing::Unknown | Standing::Outside | Standing::Plain => {
-            turn_away(alloc, post, me, name, standing)?;
-            Ok(ServerChange::Same)
+            refuse(alloc, post, me, name, standing)
         }
         Standing::Op => {
             let target = target_on(clients, channels, name, nick);

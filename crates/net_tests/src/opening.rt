@@ -9,7 +9,7 @@ use bytejournal::Disks;
 use bytetext::{Failure, NoMemory, Text, Texts};
 use disks::{Disk as _, MemDisk};
 use std::alloc::Global;
-use userfile::Change;
+use userfile::{Change, Edit};
 
 // Returns the configuration of the bot of this `number`, in a net of one leaf.
 fn config(alloc: Global, number: u16) -> Result<Config, NoMemory> {
@@ -29,7 +29,7 @@ fn ask_alice(alloc: Global) -> Result<BotEvent, NoMemory>
     ensures { IfOk result IsGoodEvent }
 {
     let handle = Text::from_slice(alloc, b"alice")?;
-    Ok(BotEvent::Ask(Change::AddUser { handle }))
+    Ok(BotEvent::Ask(Change::by_nobody(Edit::AddUser { handle })))
 }
 
 // Has a hub accept alice.

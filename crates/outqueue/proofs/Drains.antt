@@ -9,7 +9,7 @@ use Rattle.outqueue.specs.Lanes.{first_of}
 use Rattle.outqueue.specs.Sending.{Sending, waiting, gone, count_at, sent, after, IsGreatest, next_line, after_line}
 use Rattle.outqueue.specs.Sending.{sent_over, after_over, AllUpTo}
 
--- ---- the first n lines of three queues
+-- ---- the first n lines that wait
 
 drop_zero : {X : Type 0} (n : ℕ) (xs : List X) → n ≡ 0 → drop n xs ≡ xs
 drop_zero n xs e = ap (λ k. drop k xs) e
@@ -28,32 +28,40 @@ drop-append (suc n) (x ∷ xs) ys =
 -- what waits when n lines have gone is the rest
 pub waiting-gone : (n : ℕ) (q : Sending) (timer : ℕ) → waiting (gone n q timer) ≡ drop n (waiting q)
 waiting-gone n q timer =
-    let split : n - length q.mode - length q.server ≡ n - (length q.mode + length q.server) = omega arith in
-    sym (drop-append n q.mode (q.server ++ q.help)
-    ∙ ap (λ rest. drop n q.mode ++ rest) (drop-append (n - length q.mode) q.server q.help)
-    ∙ ap (λ k. drop n q.mode ++ (drop (n - length q.mode) q.server ++ drop k q.help)) split)
+    let in_mode = n - length q.prompt in
+    let split : n - length q.prompt - length q.mode ≡ n - (length q.prompt + length q.mode) = omega arith in
+    let split_help : n - length q.prompt - length q.mode - length q.server
+    ≡ n - (length q.prompt + (length q.mode + length q.server)) = omega arith in
+    sym (drop-append n q.prompt (q.mode ++ (q.server ++ q.help))
+    ∙ ap (λ rest. drop n q.prompt ++ rest) (drop-append in_mode q.mode (q.server ++ q.help))
+    ∙ ap (λ rest. drop n q.prompt ++ (drop in_mode q.mode ++ rest)) (drop-append (in_mode - length q.mode) q.server q.help)
+    ∙ ap (λ k. drop n q.prompt ++ (drop in_mode q.mode ++ (drop k q.server ++ drop (in_mode - length q.mode - length q.server) q.help))) split
+    ∙ ap (λ k. drop n q.prompt ++ (drop in_mode q.mode ++ (drop (n - (length q.prompt + length q.mode)) q.server ++ drop k q.help))) split_help)
 
 -- ---- one moment
 
 -- where n lines have gone, of those that wait and may
 pub record Drained (old : Sending) (now : ℕ) (lines : List (List ℕ)) (q : Sending) : Type 0 where
   pub lines_are : lines ≡ take (length lines) (waiting old)
-  pub mode : q.mode ≡ drop (length lines) old.mode
-  pub server : q.server ≡ drop (length lines - length old.mode) old.server
-  pub help : q.help ≡ drop (length lines - (length old.mode + length old.server)) old.help
+  pub prompt : q.prompt ≡ drop (length lines) old.prompt
+  pub mode : q.mode ≡ drop (length lines - length old.prompt) old.mode
+  pub server : q.server ≡ drop (length lines - (length old.prompt + length old.mode)) old.server
+  pub help : q.help ≡ drop (length lines - (length old.prompt + (length old.mode + length old.server))) old.help
   pub room : q.room ≡ old.room
   pub timer : max q.timer now ≡ max old.timer now + COST * length lines
   pub in_time : (k : ℕ) → k < length lines → max old.timer now + COST * k < now + AHEAD
 
 pub Drained-none : (old : Sending) (now : ℕ) → Drained old now [] old
 Drained-none old now =
-    let none : 0 - length old.mode ≡ 0 = omega arith in
-    let neither : 0 - (length old.mode + length old.server) ≡ 0 = omega arith in
+    let none : 0 - length old.prompt ≡ 0 = omega arith in
+    let neither : 0 - (length old.prompt + length old.mode) ≡ 0 = omega arith in
+    let nor : 0 - (length old.prompt + (length old.mode + length old.server)) ≡ 0 = omega arith in
     record {
       lines_are = refl;
-      mode = refl;
-      server = sym (drop_zero _ old.server none);
-      help = sym (drop_zero _ old.help neither);
+      prompt = refl;
+      mode = sym (drop_zero _ old.mode none);
+      server = sym (drop_zero _ old.server neither);
+      help = sym (drop_zero _ old.help nor);
       room = refl;
       timer = omega arith;
       in_time = λ k h. absurd (omega arith);
@@ -62,9 +70,13 @@ Drained-none old now =
 -- what waits then is the rest
 waiting-Drained : (old : Sending) (now : ℕ) (lines : List (List ℕ)) (q : Sending) → Drained old now lines q → waiting q ≡ drop (length lines) (waiting old)
 waiting-Drained old now lines q d =
-    ap (λ mode. mode ++ (q.server ++ q.help)) d.mode
-    ∙ ap (λ server. drop (length lines) old.mode ++ (server ++ q.help)) d.server
-    ∙ ap (λ help. drop (length lines) old.mode ++ (drop (length lines - length old.mode) old.server ++ help)) d.help
+    let prompt = drop (length lines) old.prompt in
+    let mode = drop (length lines - length old.prompt) old.mode in
+    let server = drop (length lines - (length old.prompt + length old.mode)) old.server in
+    ap (λ xs. xs ++ (q.mode ++ (q.server ++ q.help))) d.prompt
+    ∙ ap (λ xs. prompt ++ (xs ++ (q.server ++ q.help))) d.mode
+    ∙ ap (λ xs. prompt ++ (mode ++ (xs ++ q.help))) d.server
+    ∙ ap (λ xs. prompt ++ (mode ++ (server ++ xs))) d.help
     ∙ waiting-gone (length lines) old 0
 
 length-Drained : (old : Sending) (now : ℕ) (lines : List (List ℕ)) (q : Sending) → Drained old now lines q → length lines ≤ length (waiting old)
@@ -123,23 +135,32 @@ more_gone old now lines line q d soon is_first =
     let n : ℕ = length lines in
     let front : first_of (drop (length lines) (waiting old)) ≡ Some line = ap first_of (sym (waiting-Drained old now lines q d)) ∙ is_first in
     let len : length (lines ++ line ∷ []) ≡ suc (length lines) = length-append lines (line ∷ []) ∙ omega arith in
-    let mode_len : length q.mode ≡ length old.mode - length lines = ap length d.mode ∙ length-drop (length lines) old.mode in
-    let server_len : length q.server ≡ length old.server - (length lines - length old.mode) =
-    ap length d.server ∙ length-drop (length lines - length old.mode) old.server in
+    let prompt_len : length q.prompt ≡ length old.prompt - length lines = ap length d.prompt ∙ length-drop (length lines) old.prompt in
+    let mode_len : length q.mode ≡ length old.mode - (length lines - length old.prompt) =
+    ap length d.mode ∙ length-drop (length lines - length old.prompt) old.mode in
+    let server_len : length q.server ≡ length old.server - (length lines - (length old.prompt + length old.mode)) =
+    ap length d.server ∙ length-drop (length lines - (length old.prompt + length old.mode)) old.server in
     let one : length lines + 1 ≡ length (lines ++ line ∷ []) = omega arith in
-    let in_server : (length lines - length old.mode) + (1 - length q.mode) ≡ length (lines ++ line ∷ []) - length old.mode = omega arith in
-    let higher : ℕ = length old.mode + length old.server in
-    let in_help : (length lines - higher) + (1 - (length q.mode + length q.server)) ≡ length (lines ++ line ∷ []) - higher = omega arith in
+    let in_mode : (length lines - length old.prompt) + (1 - length q.prompt) ≡ length (lines ++ line ∷ []) - length old.prompt = omega arith in
+    let higher : ℕ = length old.prompt + length old.mode in
+    let in_server : (length lines - higher) + (1 - (length q.prompt + length q.mode)) ≡ length (lines ++ line ∷ []) - higher = omega arith in
+    let highest : ℕ = length old.prompt + (length old.mode + length old.server) in
+    let in_help : (length lines - highest) + (1 - (length q.prompt + (length q.mode + length q.server)))
+    ≡ length (lines ++ line ∷ []) - highest = omega arith in
     record {
       lines_are = ap (λ xs. xs ++ line ∷ []) d.lines_are ∙ sym (front_next (length lines) (waiting old) line front) ∙ ap (λ k. take k (waiting old)) (sym len);
-      mode = ap (λ xs. drop 1 xs) d.mode ∙ drop-drop 1 (length lines) old.mode ∙ ap (λ k. drop k old.mode) one;
+      prompt = ap (λ xs. drop 1 xs) d.prompt ∙ drop-drop 1 (length lines) old.prompt ∙ ap (λ k. drop k old.prompt) one;
+      mode =
+          ap (λ xs. drop (1 - length q.prompt) xs) d.mode
+          ∙ drop-drop (1 - length q.prompt) (length lines - length old.prompt) old.mode
+          ∙ ap (λ k. drop k old.mode) in_mode;
       server =
-          ap (λ xs. drop (1 - length q.mode) xs) d.server
-          ∙ drop-drop (1 - length q.mode) (length lines - length old.mode) old.server
+          ap (λ xs. drop (1 - (length q.prompt + length q.mode)) xs) d.server
+          ∙ drop-drop (1 - (length q.prompt + length q.mode)) (length lines - higher) old.server
           ∙ ap (λ k. drop k old.server) in_server;
       help =
-          ap (λ xs. drop (1 - (length q.mode + length q.server)) xs) d.help
-          ∙ drop-drop (1 - (length q.mode + length q.server)) (length lines - higher) old.help
+          ap (λ xs. drop (1 - (length q.prompt + (length q.mode + length q.server))) xs) d.help
+          ∙ drop-drop (1 - (length q.prompt + (length q.mode + length q.server))) (length lines - highest) old.help
           ∙ ap (λ k. drop k old.help) in_help;
       room = d.room;
       timer = let before : max q.timer now ≡ max old.timer now + COST * length lines = d.timer in omega arith;
@@ -185,10 +206,11 @@ length-waiting-after_line q now line e =
 
 -- ---- the end of a moment
 
-same_sending : (a b : Sending) → a.mode ≡ b.mode → a.server ≡ b.server → a.help ≡ b.help → a.timer ≡ b.timer → a.room ≡ b.room
-    → a ≡ b
-same_sending a b mode server help timer room =
-    ap (λ m. let s : Sending = record a { mode = m } in s) mode
+same_sending : (a b : Sending) → a.prompt ≡ b.prompt → a.mode ≡ b.mode → a.server ≡ b.server → a.help ≡ b.help
+    → a.timer ≡ b.timer → a.room ≡ b.room → a ≡ b
+same_sending a b prompt mode server help timer room =
+    ap (λ m. let s : Sending = record a { prompt = m } in s) prompt
+    ∙ ap (λ m. let s : Sending = record a { prompt = b.prompt; mode = m } in s) mode
     ∙ ap (λ m. let s : Sending = record b { server = m; help = a.help; timer = a.timer; room = a.room } in s) server
     ∙ ap (λ m. let s : Sending = record b { help = m; timer = a.timer; room = a.room } in s) help
     ∙ ap (λ m. let s : Sending = record b { timer = m; room = a.room } in s) timer
@@ -244,7 +266,7 @@ Drained-after old now lines q d e =
     let last : Sending = record q { timer = max q.timer now } in
     after_line-None q now e
     ∙ same_sending (record q { timer = max q.timer now })
-    (gone (length lines) old (max old.timer now + COST * length lines)) d.mode d.server d.help d.timer d.room
+    (gone (length lines) old (max old.timer now + COST * length lines)) d.prompt d.mode d.server d.help d.timer d.room
     ∙ ap (λ k. gone k old (max old.timer now + COST * k)) (Drained-count old now lines q d e)
 
 -- what went and what stays are what waited
@@ -288,3 +310,30 @@ sent_over-pace q (now ∷ moments) last upto =
     (after q now).timer upto.0 (length-sent q now)
     (timer-after q now ∙ ap (λ k. max q.timer now + COST * k) (sym (length-sent q now))) (sent_over-pace (after q now) moments last upto.1) in
     subst (λ k. q.timer + COST * k ≤ max q.timer (last + (AHEAD + COST - 1))) (sym both) step
+
+-- ---- answers to PING
+
+-- the first line that waits is the first of them
+pub next_line-prompt : (q : Sending) (now : ℕ) (line : List ℕ) (later : List (List ℕ)) → q.prompt ≡ line ∷ later
+    → max q.timer now < now + AHEAD → next_line q now ≡ Some line
+unfolding next_line
+next_line-prompt q now line later is soon =
+    ap (λ b. cond b (first_of (waiting q)) None) (lt-ltb _ _ soon)
+    ∙ ap (λ (xs : List (List ℕ)). first_of (xs ++ (q.mode ++ (q.server ++ q.help)))) is
+
+-- two lists that begin one list agree as far as both go
+both_begin : {X : Type 0} (xs xs_left ys ys_left : List X) → xs ++ xs_left ≡ ys ++ ys_left
+    → take (length ys) xs ≡ take (length xs) ys
+both_begin [] xs_left [] ys_left same = refl
+both_begin [] xs_left (y ∷ ys) ys_left same = refl
+both_begin (x ∷ xs) xs_left [] ys_left same = refl
+both_begin (x ∷ xs) xs_left (y ∷ ys) ys_left same =
+    let first : x ≡ y = cc in
+    let rest : xs ++ xs_left ≡ ys ++ ys_left = cc in
+    ap (λ z. z ∷ take (length ys) xs) first ∙ ap (λ zs. y ∷ zs) (both_begin xs xs_left ys ys_left rest)
+
+pub sent_over-prompt : (q : Sending) (moments : List ℕ)
+    → take (length q.prompt) (sent_over q moments) ≡ take (length (sent_over q moments)) q.prompt
+sent_over-prompt q moments =
+    both_begin (sent_over q moments) (waiting (after_over q moments)) q.prompt (q.mode ++ (q.server ++ q.help))
+    (sent_over-order q moments)

@@ -25,11 +25,17 @@ is_break byte = byte == 0 || byte == 10 || byte == 13
 abbrev pub is_bad_line : List ℕ → Bool
 is_bad_line line = length line == 0 || nat_lt MAX_BYTES (length line) || list_any is_break line
 
+-- why a line can't be put after so many others
+abbrev pub refusal_after : ℕ → List ℕ → Option QueueFault
+refusal_after count line = if is_bad_line line then Some BadLine else (if nat_le MAX_LINES count then Some QueueFull else None)
+
 -- why a line can't be put into a queue
 unfoldable pub refusal : Sending → Queue → List ℕ → Option QueueFault
-refusal q queue line =
-    if is_bad_line line then Some BadLine
-    else (if nat_le MAX_LINES (length (lines_in q (One queue))) then Some QueueFull else None)
+refusal q queue line = refusal_after (length (lines_in q (One queue))) line
+
+-- why an answer to PING can't be put after those that wait
+unfoldable pub prompt_refusal : Sending → List ℕ → Option QueueFault
+prompt_refusal q line = refusal_after (length q.prompt) line
 
 -- the line is last in its queue
 abbrev pub with_line : Sending → Queue → List ℕ → Sending
@@ -52,3 +58,15 @@ Puts old queue line (Err NoMemory) new = (refusal old queue line ≡ None) × (n
 abbrev pub PutsReserved : {T : Type 0} → Sending → Queue → List ℕ → Result T QueueFault → Sending → Type 0
 PutsReserved old queue line (Ok _) new = (refusal old queue line ≡ None) × (new ≡ put_last old queue line)
 PutsReserved old queue line (Err fault) new = (refusal old queue line ≡ Some fault) × (new ≡ old)
+
+-- ---- an answer to PING
+
+-- the line is the last answer to PING: it waits for those before it, and for no line of a queue
+abbrev pub put_prompt : Sending → List ℕ → Sending
+put_prompt q line = record q { prompt = q.prompt ++ line ∷ [] }
+
+-- the same as `Puts`, for an answer to PING
+abbrev pub PutsPrompt : {T : Type 0} → Sending → List ℕ → Result T (Failure QueueFault) → Sending → Type 0
+PutsPrompt old line (Ok _) new = (prompt_refusal old line ≡ None) × (new ≡ put_prompt old line)
+PutsPrompt old line (Err (Refused fault)) new = (prompt_refusal old line ≡ Some fault) × (new ≡ old)
+PutsPrompt old line (Err NoMemory) new = (prompt_refusal old line ≡ None) × (new ≡ old)

@@ -18,8 +18,10 @@ pub record Room : Type 0 where
 abbrev pub no_room : Room
 no_room = record { mode = 0; server = 0; help = 0 }
 
--- the lines of the three queues, each from the one that goes first, the send timer, and the room for more lines
+-- the answers to PING and the lines of the three queues, each from the one that goes first, the send timer, and the room
+-- for more lines in the queues
 pub record Sending : Type 0 where
+  pub prompt : List (List ℕ)
   pub mode : List (List ℕ)
   pub server : List (List ℕ)
   pub help : List (List ℕ)
@@ -28,7 +30,7 @@ pub record Sending : Type 0 where
 
 -- nothing waits, the timer is not ahead of any moment, and there is no room
 abbrev pub idle : Sending
-idle = record { mode = []; server = []; help = []; timer = 0; room = no_room }
+idle = record { prompt = []; mode = []; server = []; help = []; timer = 0; room = no_room }
 
 -- the room in one queue
 abbrev pub room_in : Sending → Queue → ℕ
@@ -42,40 +44,47 @@ with_room q Mode count = record q { room = record q.room { mode = count } }
 with_room q Server count = record q { room = record q.room { server = count } }
 with_room q Help count = record q { room = record q.room { help = count } }
 
--- the lines in the order in which they go: a lower queue waits for the higher ones
+-- the lines in the order in which they go: answers to PING wait for no queue, and a lower queue waits for the higher
+-- ones
 abbrev pub waiting : Sending → List (List ℕ)
-waiting q = q.mode ++ (q.server ++ q.help)
+waiting q = q.prompt ++ (q.mode ++ (q.server ++ q.help))
 
--- the lines of one queue, or of all
+-- the lines of one queue, or all lines
 abbrev pub lines_in : Sending → QueueSet → List (List ℕ)
 lines_in q (One Mode) = q.mode
 lines_in q (One Server) = q.server
 lines_in q (One Help) = q.help
 lines_in q All = waiting q
 
--- without the lines of one queue, or of all; the timer stays
+-- without the lines of one queue, or without all lines; the timer stays
 abbrev pub without : Sending → QueueSet → Sending
 without q (One Mode) = record q { mode = [] }
 without q (One Server) = record q { server = [] }
 without q (One Help) = record q { help = [] }
-without q All = record q { mode = []; server = []; help = [] }
+without q All = record q { prompt = []; mode = []; server = []; help = [] }
 
--- how many lines each queue holds
+-- how many answers to PING wait, and how many lines each queue holds
 abbrev pub counts_of : Sending → Counts
-counts_of q = record { mode = length q.mode; server = length q.server; help = length q.help }
+counts_of q = record { prompt = length q.prompt; mode = length q.mode; server = length q.server; help = length q.help }
 
--- with only the first lines of each queue, as many as `counts` says; the timer stays
+-- with only the first answers to PING and the first lines of each queue, as many as `counts` says; the timer stays
 abbrev pub with_first : Sending → Counts → Sending
 with_first q counts =
-    record q { mode = take counts.mode q.mode; server = take counts.server q.server; help = take counts.help q.help }
+    record q {
+      prompt = take counts.prompt q.prompt;
+      mode = take counts.mode q.mode;
+      server = take counts.server q.server;
+      help = take counts.help q.help;
+    }
 
 -- what stays when the first `n` lines have gone and the timer is set to `timer`
 abbrev pub gone : ℕ → Sending → ℕ → Sending
 gone n q timer =
     record {
-      mode = drop n q.mode;
-      server = drop (n - length q.mode) q.server;
-      help = drop (n - (length q.mode + length q.server)) q.help;
+      prompt = drop n q.prompt;
+      mode = drop (n - length q.prompt) q.mode;
+      server = drop (n - (length q.prompt + length q.mode)) q.server;
+      help = drop (n - (length q.prompt + (length q.mode + length q.server))) q.help;
       timer = timer;
       room = q.room;
     }

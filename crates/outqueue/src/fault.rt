@@ -11,7 +11,7 @@ pub enum QueueFault {
     /// The line is empty, longer than 510 bytes, or holds a NUL, a CR or an LF (RFC 2812 section 2.3).
     #[error("give a line of 1 to 510 bytes without NUL, CR and LF")]
     BadLine,
-    /// The queue holds 500 lines.
+    /// The queue holds 500 lines, or 500 answers to PING wait.
     #[error("wait until lines have been sent, or clear the queue")]
     QueueFull,
 }

@@ -5,13 +5,16 @@
 //! than ten seconds ahead. [`Queues`] keeps the same timer and returns a line only when the server would read it: five
 //! at once, then one every two seconds.
 //!
-//! There are three queues of at most 500 lines. A lower one is served only while the higher ones are empty.
+//! There are three queues of at most 500 lines. A lower one is served only while the higher ones are empty. Answers to
+//! PING wait apart, at most 500 too, and go before the lines of all queues: a server drops a client that answers late.
 //!
 //! ```text
 //! let mut queues = Queues::new(alloc);
 //! queues.put(Queue::Help, Text::from_slice(alloc, b"PRIVMSG #egg :hi")?)?;
-//! queues.put(Queue::Mode, Text::from_slice(alloc, b"PONG irc.test")?)?;
+//! queues.put(Queue::Mode, Text::from_slice(alloc, b"MODE #egg +o ada")?)?;
+//! queues.put_prompt(Text::from_slice(alloc, b"PONG irc.test")?)?;
 //! queues.take(100)    // PONG irc.test
+//! queues.take(100)    // MODE #egg +o ada
 //! queues.take(100)    // PRIVMSG #egg :hi
 //! ```
 #![tactic(auto)]

@@ -16,6 +16,6 @@ pub enum Queue {
 pub enum QueueSet {
     /// This queue alone.
     One(Queue),
-    /// All three.
+    /// All three, and the answers to PING, which wait before them.
     All,
 }

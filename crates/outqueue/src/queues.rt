@@ -1,9 +1,9 @@
-// The three queues and the send timer.
+// The answers to PING, the three queues and the send timer.
 ghost use Rattle.std.specs.Prelude.{◌≡◌, ◌≢◌, ◌+◌, ◌*◌, ◌<◌, ◌≤◌, length, [], ◌++◌, IsOk, IfNone, IfOk, OnOk, OnErr, Err};
 ghost use Rattle.outqueue.specs.Lanes.{first_of};
 ghost use Rattle.outqueue.specs.Sending.{Sending, idle, lines_in, without, counts_of, with_first, waiting, gone, next_line, after_line, sent, after, IsGreatest};
 ghost use Rattle.outqueue.specs.Sending.{room_in, with_room};
-ghost use Rattle.outqueue.specs.Refusals.{refusal, Puts, PutsReserved};
+ghost use Rattle.outqueue.specs.Refusals.{refusal, prompt_refusal, refusal_after, Puts, PutsPrompt, PutsReserved};
 
 use crate::fault::{PutError, QueueFault};
 use crate::lane::Lane;
@@ -14,9 +14,11 @@ use bytetext::{Failure, MOMENTS_END, NoMemory, Text, Texts, TryCopy, refuse};
 use std::alloc::Global;
 use std::marker::Model;
 
-/// How many lines each queue holds.
+/// How many answers to PING wait, and how many lines each queue holds.
 #[derive(Clone, Copy, Debug)]
 pub struct Counts {
+    /// The answers to PING.
+    pub prompt: usize,
     /// The mode queue.
     pub mode: usize,
     /// The server queue.
@@ -27,16 +29,21 @@ pub struct Counts {
 
 /// Lines that wait to be sent, and the send timer.
 ///
-/// Contracts see the three lists of lines, each from the one that goes first, the timer in seconds since 1970-01-01
-/// UTC, and how many more lines each queue has room for.
+/// Answers to PING go before all other lines: [`put_prompt`](Queues::put_prompt) puts them into a list of their own, which
+/// no [`Queue`] names.
+///
+/// Contracts see this list and those of the three queues, each from the line that goes first, the timer in seconds since
+/// 1970-01-01 UTC, and how many more lines each queue has room for.
 ///
 /// ```text
 /// let mut queues = Queues::new(alloc);
 /// queues.put(Queue::Help, hello)?;
-/// queues.put(Queue::Mode, pong)?;
-/// queues.take(100)                                // Some(pong): the mode queue is served first
+/// queues.put(Queue::Mode, op)?;
+/// queues.put_prompt(pong)?;
+/// queues.take(100)                                // Some(pong): an answer to PING goes first
+/// queues.take(100)                                // Some(op): then the mode queue is served
 /// queues.drain(alloc, 100)?                       // hello
-/// queues.clear(Which::All)                        // 0
+/// queues.clear(QueueSet::All)                     // 0
 /// ```
 ///
 /// A caller that must not fail half-way reserves room first:
@@ -47,6 +54,7 @@ pub struct Counts {
 /// queues.put_reserved(Queue::Server, part)        // allocates nothing
 /// ```
 pub struct Queues {
+    prompt: Lane,
     mode: Lane,
     server: Lane,
     help: Lane,
@@ -57,6 +65,7 @@ pub struct Queues {
 impl Drop for Queues {
     fn drop(self) {
         let Queues {
+            prompt: _,
             mode: _,
             server: _,
             help: _,
@@ -71,6 +80,7 @@ impl Model for Queues {
     ghost Value = { Sending };
 
     ghost view = { λ q. record {
+      prompt = q.prompt.lines;
       mode = q.mode.lines;
       server = q.server.lines;
       help = q.help.lines;
@@ -85,6 +95,7 @@ impl Queues {
         ensures { result ≡ idle }
     {
         Queues {
+            prompt: Lane::new(alloc),
             mode: Lane::new(alloc),
             server: Lane::new(alloc),
             help: Lane::new(alloc),
@@ -155,19 +166,37 @@ impl Queues {
         ensures refusal { result ≡ refusal self.now queue line.now }
         ensures room { IfNone result (length (lines_in self.now (QueueSet.One queue)) < MAX_LINES) }
     {
-        if is_bad_line(line.as_bytes()) {
-            return Some(QueueFault::BadLine);
-        }
-        if self.len(QueueSet::One(queue)) >= MAX_LINES {
-            return Some(QueueFault::QueueFull);
-        }
-        None
+        refusal_after(self.len(QueueSet::One(queue)), line)
     }
 
-    /// Returns how many lines wait in the queues that `which` names.
+    /// Puts `line`, without its CR LF, after the answers to PING that wait. No line of a queue goes before it.
+    ///
+    /// # Errors
+    /// In this order: `BadLine` as [`put`](Queues::put) does; `QueueFull` if 500 answers to PING wait; `NoMemory` if it
+    /// can't allocate room for the line. On any error nothing changes. Only `NoMemory` comes after an attempt to
+    /// allocate.
+    pub fn put_prompt(&mut self, line: Text) -> Result<(), PutError>
+        ensures { PutsPrompt self.old line result self.new }
+    {
+        refuse(self.prompt_refusal_of(&line))?;
+        self.prompt.put(line)?;
+        Ok(())
+    }
+
+    // Returns why `line` can't be put after the answers to PING, if it can't.
+    #[tactic(auto, unfolding(crate::specs::Refusals::prompt_refusal))]
+    fn prompt_refusal_of(&self, line: &Text) -> Option<QueueFault>
+        ensures refusal { result ≡ prompt_refusal self.now line.now }
+        ensures room { IfNone result (length self.now.prompt < MAX_LINES) }
+    {
+        refusal_after(self.prompt.len(), line)
+    }
+
+    /// Returns how many lines wait in the queue that `which` names, or how many wait in all, the answers to PING
+    /// included.
     pub fn len(&self, which: QueueSet) -> usize
         ensures lines { result ≡ length (lines_in self.now which) }
-        ensures small { result ≤ 3 * MAX_LINES }
+        ensures small { result ≤ 4 * MAX_LINES }
         ensures each { (queue : Queue) → length (lines_in self.now (QueueSet.One queue)) ≤ MAX_LINES }
     {
         let (mode, server, help) = (self.mode.len(), self.server.len(), self.help.len());
@@ -175,22 +204,24 @@ impl Queues {
             QueueSet::One(Queue::Mode) => mode,
             QueueSet::One(Queue::Server) => server,
             QueueSet::One(Queue::Help) => help,
-            QueueSet::All => mode + server + help,
+            QueueSet::All => self.prompt.len() + (mode + server + help),
         }
     }
 
-    /// Returns how many lines each queue holds, for [`keep`](Queues::keep).
+    /// Returns how many answers to PING wait and how many lines each queue holds, for [`keep`](Queues::keep).
     pub fn counts(&self) -> Counts
         ensures { result ≡ counts_of self.now }
     {
         Counts {
+            prompt: self.prompt.len(),
             mode: self.mode.len(),
             server: self.server.len(),
             help: self.help.len(),
         }
     }
 
-    /// Drops the last lines of each queue, so that at most as many stay as `counts` says. The timer and the room stay.
+    /// Drops the last answers to PING and the last lines of each queue, so that at most as many stay as `counts` says. The
+    /// timer and the room stay.
     /// Allocates nothing.
     ///
     /// If `counts` is an earlier answer of [`counts`](Queues::counts), this drops exactly the lines that were put
@@ -198,12 +229,14 @@ impl Queues {
     pub fn keep(&mut self, counts: Counts)
         ensures { self.new ≡ with_first self.old counts }
     {
+        self.prompt.keep(counts.prompt);
         self.mode.keep(counts.mode);
         self.server.keep(counts.server);
         self.help.keep(counts.help);
     }
 
-    /// Drops the lines of the queues that `which` names, and returns how many they were. The timer and the room stay.
+    /// Drops the lines of the queue that `which` names, or all lines, the answers to PING included. Returns how many they
+    /// were. The timer and the room stay.
     pub fn clear(&mut self, which: QueueSet) -> usize
         ensures count { result ≡ length (lines_in self.old which) }
         ensures rest { self.new ≡ without self.old which }
@@ -214,6 +247,7 @@ impl Queues {
             QueueSet::One(Queue::Server) => self.server.clear(),
             QueueSet::One(Queue::Help) => self.help.clear(),
             QueueSet::All => {
+                self.prompt.clear();
                 self.mode.clear();
                 self.server.clear();
                 self.help.clear();
@@ -226,7 +260,8 @@ impl Queues {
     /// this takes doesn't grow with the number of lines, and it allocates nothing.
     ///
     /// If the timer is earlier than `now`, it is set to `now`. While it is less than ten seconds ahead of `now`, the
-    /// first line of the first queue that has one goes, and the timer grows by two seconds (RFC 1459 section 8.10).
+    /// first answer to PING goes, or, if there is none, the first line of the first queue that has one. The timer then
+    /// grows by two seconds (RFC 1459 section 8.10).
     #[tactic(auto, unfolding(crate::specs::Sending::next_line, crate::specs::Sending::after_line))]
     pub fn take(&mut self, now: u64) -> Option<Text>
         requires { now < MOMENTS_END }
@@ -242,11 +277,14 @@ impl Queues {
         Some(line)
     }
 
-    // Removes and returns the first line of the first queue that has one.
+    // Removes and returns the first answer to PING, or the first line of the first queue that has one.
     fn first(&mut self) -> Option<Text>
         ensures line { result ≡ first_of (waiting self.old) }
         ensures rest { self.new ≡ gone 1 self.old self.old.timer }
     {
+        if self.prompt.len() > 0 {
+            return self.prompt.pop();
+        }
         if self.mode.len() > 0 {
             return self.mode.pop();
         }
@@ -296,10 +334,25 @@ impl Queues {
 impl TryCopy for Queues {
     fn copy(&self, alloc: Global) -> Result<Queues, NoMemory> {
         Ok(Queues {
+            prompt: self.prompt.copy(alloc)?,
             mode: self.mode.copy(alloc)?,
             server: self.server.copy(alloc)?,
             help: self.help.copy(alloc)?,
             timer: self.timer,
         })
     }
+}
+
+// Returns why `line` can't be put after `count` others, if it can't.
+fn refusal_after(count: usize, line: &Text) -> Option<QueueFault>
+    ensures refusal { result ≡ refusal_after count line.now }
+    ensures room { IfNone result (count < MAX_LINES) }
+{
+    if is_bad_line(line.as_bytes()) {
+        return Some(QueueFault::BadLine);
+    }
+    if count >= MAX_LINES {
+        return Some(QueueFault::QueueFull);
+    }
+    None
 }

@@ -13,7 +13,7 @@ use Rattle.std.proofs.lemmas.Slice.Eq.{bytes_eq-Decides}
 use Rattle.peers.specs.declared.handshake_fault.HandshakeFault.TheVariants.{Told, OtherNet, WrongCode, NoSuchLeaf}
 use Rattle.peers.specs.declared.handshake_progress.Progress.{Progress}
 use Rattle.peers.specs.declared.handshake_progress.LeafRights.{LeafRights}
-use Rattle.peers.specs.declared.handshake_progress.LeafRights.TheVariants.{Asks as may_ask, Reads}
+use Rattle.peers.specs.declared.handshake_progress.LeafRights.TheVariants.{Asks as may_ask, Reads, Persons}
 use Rattle.peers.specs.declared.handshake_reading.HubSaid.TheVariants.{Welcome, No}
 use Rattle.peers.specs.declared.handshake_refusal.HandshakeRefusal.{HandshakeRefusal}
 use Rattle.peers.specs.declared.handshake_refusal.HandshakeRefusal.TheVariants.{Net, Count, Other, Ahead, Records, Older}
@@ -73,10 +73,12 @@ net-length (Some net) is = omega (arith, digits-length 16 net is)
 rights-in : (may : LeafRights) → list_all is_inside (rights_word may) ≡ true
 rights-in may_ask = refl
 rights-in Reads = refl
+rights-in Persons = refl
 
-rights-length : (may : LeafRights) → length (rights_word may) ≤ 5
+rights-length : (may : LeafRights) → length (rights_word may) ≤ 7
 rights-length may_ask = omega arith
 rights-length Reads = omega arith
+rights-length Persons = omega arith
 
 refusal-in : (refusal : HandshakeRefusal) → list_all is_inside (refusal_word refusal) ≡ true
 refusal-in Net = refl

@@ -10,7 +10,7 @@ use Rattle.std.proofs.lemmas.Fmt.{decimal_nonempty}
 use Rattle.std.proofs.lemmas.Slice.Eq.{bytes_eq-Decides}
 use Rattle.peers.specs.declared.handshake_progress.Progress.{Progress}
 use Rattle.peers.specs.declared.handshake_progress.LeafRights.{LeafRights}
-use Rattle.peers.specs.declared.handshake_progress.LeafRights.TheVariants.{Asks, Reads}
+use Rattle.peers.specs.declared.handshake_progress.LeafRights.TheVariants.{Asks, Reads, Persons}
 use Rattle.peers.specs.declared.handshake_reading.Ask.{Ask}
 use Rattle.peers.specs.declared.handshake_reading.HubSaid.{HubSaid}
 use Rattle.peers.specs.declared.handshake_reading.HubSaid.TheVariants.{Welcome, No}
@@ -42,6 +42,7 @@ net-letters (Some net) is = made-letters 16 net is
 rights-letters : (may : LeafRights) → list_all is_letter (rights_word may) ≡ true
 rights-letters Asks = refl
 rights-letters Reads = refl
+rights-letters Persons = refl
 
 refusal-letters : (refusal : HandshakeRefusal) → list_all is_letter (refusal_word refusal) ≡ true
 refusal-letters Net = refl
@@ -71,6 +72,7 @@ net_in-word (Some net) is =
 rights_in-word : (may : LeafRights) → rights_in (rights_word may) ≡ Some may
 rights_in-word Asks = refl
 rights_in-word Reads = refl
+rights_in-word Persons = refl
 
 refusal_in-word : (refusal : HandshakeRefusal) → refusal_in (refusal_word refusal) ≡ Some refusal
 refusal_in-word Net = refl

@@ -13,7 +13,7 @@ use Rattle.peers.specs.declared.handshake_refusal.HandshakeRefusal.TheVariants.{
 use Rattle.peers.specs.declared.seating.TheConstants.{MAX_WAITING}
 use Rattle.peers.specs.declared.seat.Seat.{Seat}
 use Rattle.peers.specs.Beats.{IsLast}
-use Rattle.peers.specs.Picking.{picked}
+use Rattle.peers.specs.Picking.{picked, said_by}
 use Rattle.peers.specs.Sealed.{OpensFrames, waiting}
 use Rattle.peers.specs.Speakers.{is_own}
 
@@ -25,28 +25,38 @@ ReadsOn frames told old new =
     (stream : List ℕ) (before : List Packet) → Tells stream before old → Tells (stream ++ frames) (before ++ told) new
 
 -- none is handed on if one of them is not the leaf's own
-abbrev pub handed_if : Bool → LeafRights → List Packet → List Packet
-handed_if true may told = picked may told
-handed_if false may told = []
+abbrev pub handed_if : Bool → LeafRights → Option ℕ → List Packet → List Packet
+handed_if true may said told = picked may said told
+handed_if false may said told = []
 
-abbrev pub handed : ℕ → LeafRights → List Packet → List Packet
-handed leaf may told = handed_if (list_all (is_own leaf) told) may told
+abbrev pub handed : ℕ → LeafRights → Option ℕ → List Packet → List Packet
+handed leaf may said told = handed_if (list_all (is_own leaf) told) may said told
+
+-- the layout that a leaf's last hello said; none of these packets is heeded if one of them is not the leaf's own
+abbrev pub noted_if : Bool → Option ℕ → List Packet → Option ℕ
+noted_if true said told = said_by said told
+noted_if false said told = said
+
+abbrev pub noted : ℕ → Option ℕ → List Packet → Option ℕ
+noted leaf said told = noted_if (list_all (is_own leaf) told) said told
 
 -- frames were read from a leaf, and these packets of them are handed on
 pub record ReadsFrames (frames : List ℕ) (old : Seat) (packets : List Packet) (new : Seat) : Type 0 where
   pub told : List Packet
   pub reads : ReadsOn frames told old.reader new.reader
-  pub handed_are : packets ≡ handed old.leaf old.may told
+  pub handed_are : packets ≡ handed old.leaf old.may old.layout told
+  pub layout : new.layout ≡ noted old.leaf old.layout told
   pub wire : new.wire ≡ record old.wire { gone = new.wire.gone }
 
 -- The packets that are handed on are those of the frames that whole records carried, of which each had the right tag at
--- its place.
+-- its place. The leaf's last hello among them says its layout from then on.
 pub record HandsOn (old : Seat) (packets : List Packet) (new : Seat) : Type 0 where
   pub frames : List ℕ
   pub told : List Packet
   pub opens : OpensFrames frames old.wire new.wire
   pub reads : ReadsOn frames told old.reader new.reader
-  pub handed_are : packets ≡ handed old.leaf old.may told
+  pub handed_are : packets ≡ handed old.leaf old.may old.layout told
+  pub layout : new.layout ≡ noted old.leaf old.layout told
 
 -- ---- beats
 

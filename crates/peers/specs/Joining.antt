@@ -74,14 +74,15 @@ abbrev pub IsInBook : Leaves → Option Guest → Type 0
 IsInBook book None = Unit {0}
 IsInBook book (Some guest) = IsOfBook book guest.stage
 
--- The seat is that of the leaf that has shown its code on this connection. What was heard after its line are its first
--- records. The keys of the records are those of this handshake.
+-- The seat is that of the leaf that has shown its code on this connection, and has said no hello on it yet. What was heard
+-- after its line are its first records. The keys of the records are those of this handshake.
 pub record TakesSeat (guest : Guest) (welcome : Welcome) (seat : Seat) : Type 0 where
   pub asked : Asked
   pub shows_key : ∥ ShowsKey guest.side guest.connection.heard.items asked.used asked.ask ∥₁
   pub leaf : seat.leaf ≡ asked.ask.words.leaf
   pub made : seat.made ≡ asked.ask.words.made
   pub may : seat.may ≡ welcome.may
+  pub layout : seat.layout ≡ None
   pub rest : seat.wire.connection.heard.items ≡ drop asked.used guest.connection.heard.items
   pub opens : Opens (hub_keys guest.side asked.ask welcome.own welcome.may).to_hub [] [] seat.wire.opener
   pub seals : seat.wire.sealer ≡ record { key = (hub_keys guest.side asked.ask welcome.own welcome.may).to_leaf; count = 0 }

@@ -5,7 +5,7 @@ use Rattle.hex.specs.Hex.{encode_lower}
 use Rattle.sealing.specs.Hmac.{hmac_of}
 use Rattle.peers.specs.declared.handshake_progress.Progress.{Progress}
 use Rattle.peers.specs.declared.handshake_progress.LeafRights.{LeafRights}
-use Rattle.peers.specs.declared.handshake_progress.LeafRights.TheVariants.{Asks, Reads}
+use Rattle.peers.specs.declared.handshake_progress.LeafRights.TheVariants.{Asks, Reads, Persons}
 use Rattle.peers.specs.declared.handshake_refusal.HandshakeRefusal.{HandshakeRefusal}
 use Rattle.peers.specs.declared.handshake_refusal.HandshakeRefusal.TheVariants.{Net, Count, Other, Ahead, Records, Older}
 use Rattle.peers.specs.declared.handshake_sides.LeafWords.{LeafWords}
@@ -28,6 +28,7 @@ progress_words progress = decimal progress.version ++ codes " " ++ progress.sum 
 abbrev pub rights_word : LeafRights → List ℕ
 rights_word Asks = codes "asks"
 rights_word Reads = codes "reads"
+rights_word Persons = codes "persons"
 
 abbrev pub refusal_word : HandshakeRefusal → List ℕ
 refusal_word Net = codes "net"

@@ -6,7 +6,7 @@ use Rattle.std.specs.Str.{bytes_eq}
 use Rattle.peers.specs.declared.TheConstants.{MAX_LINE}
 use Rattle.peers.specs.declared.handshake_progress.Progress.{Progress}
 use Rattle.peers.specs.declared.handshake_progress.LeafRights.{LeafRights}
-use Rattle.peers.specs.declared.handshake_progress.LeafRights.TheVariants.{Asks, Reads}
+use Rattle.peers.specs.declared.handshake_progress.LeafRights.TheVariants.{Asks, Reads, Persons}
 use Rattle.peers.specs.declared.handshake_reading.Ask.{Ask}
 use Rattle.peers.specs.declared.handshake_reading.HubSaid.{HubSaid}
 use Rattle.peers.specs.declared.handshake_reading.HubSaid.TheVariants.{Welcome, No}
@@ -46,6 +46,7 @@ abbrev pub rights_in : List ℕ → Option LeafRights
 rights_in word =
     if bytes_eq word (codes "asks") then Some Asks
     else if bytes_eq word (codes "reads") then Some Reads
+    else if bytes_eq word (codes "persons") then Some Persons
     else None
 
 abbrev pub refusal_in : List ℕ → Option HandshakeRefusal

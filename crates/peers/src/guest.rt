@@ -241,6 +241,7 @@ impl Guest {
             leaf: asked.ask.words.leaf,
             made: asked.ask.words.made,
             may: welcome.may,
+            layout: None,
             version: asked.ask.words.progress.version,
             held: HeldParts::nothing(),
             beat: None,

@@ -19,4 +19,6 @@ pub enum LeafRights {
     Asks,
     /// It only reads: the hub grants none of its requests.
     Reads,
+    /// It may ask for changes that persons ask for: the hub grants none of its requests in nobody's name.
+    Persons,
 }

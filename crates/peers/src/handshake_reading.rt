@@ -187,6 +187,8 @@ fn rights_in(word: &[u8]) -> Option<LeafRights>
         Some(LeafRights::Asks)
     } else if word == b"reads".as_slice() {
         Some(LeafRights::Reads)
+    } else if word == b"persons".as_slice() {
+        Some(LeafRights::Persons)
     } else {
         None
     }

@@ -202,11 +202,12 @@ fn net_word(net: &Option<DrawnNumber>) -> &[u8]
 // The word for what a leaf may do.
 fn rights_word(may: LeafRights) -> &'static [u8]
     ensures word { result.now ≡ rights_word may }
-    ensures short { length result.now ≤ 5 }
+    ensures short { length result.now ≤ 7 }
 {
     match may {
         LeafRights::Asks => b"asks",
         LeafRights::Reads => b"reads",
+        LeafRights::Persons => b"persons",
     }
 }
 

@@ -3,7 +3,7 @@ ghost use Rattle.std.specs.Prelude.{◌≡◌, ◌<◌, ◌↔◌, None, Some, I
 ghost use Rattle.bytetext.specs.declared.moment.TheConstants.{MOMENTS_END};
 ghost use Rattle.sharelink.specs.Shapes.{HasGoodRecords};
 ghost use Rattle.sharewire.specs.Frames.{CanBeWritten};
-ghost use Rattle.peers.specs.Asking.{is_new, may_leaf_ask};
+ghost use Rattle.peers.specs.Asking.{is_new, may_leaf_ask, may_leaf_ask_nameless};
 ghost use Rattle.peers.specs.Drawn.{Draws, nonces_at};
 ghost use Rattle.peers.specs.Linked.{IsHeard, IsLinked, IsName, LooksUp};
 ghost use Rattle.peers.specs.Tells.{TellsHub};
@@ -330,8 +330,18 @@ impl HubConnection {
         ensures { result ≡ may_leaf_ask self.now }
     {
         match self.may {
-            LeafRights::Asks => !self.is_new(),
+            LeafRights::Asks | LeafRights::Persons => !self.is_new(),
             LeafRights::Reads => false,
+        }
+    }
+
+    /// Whether the leaf may ask for changes in nobody's name too: as its hub said last, and not if it is new.
+    pub fn may_ask_nameless(&self) -> bool
+        ensures { result ≡ may_leaf_ask_nameless self.now }
+    {
+        match self.may {
+            LeafRights::Asks => !self.is_new(),
+            LeafRights::Reads | LeafRights::Persons => false,
         }
     }
 

@@ -22,7 +22,7 @@ use crate::own::Own;
 use crate::picking::is_request;
 use crate::places::empty_places;
 use crate::seat::Seat;
-use crate::stations::HubStation;
+use crate::stations::{HubStation, LeafLimit};
 use crate::turn_time::TurnTime;
 use bytetext::NoMemory;
 use net::{DoorFault, Registry};
@@ -208,7 +208,7 @@ impl LeafPlaces {
     fn new(alloc: Global, places: usize, station: &HubStation) -> Result<LeafPlaces, NoMemory> {
         Ok(LeafPlaces {
             seats: empty_places(alloc, places)?,
-            rights: rights_of(alloc, places, station.readers.as_slice())?,
+            rights: rights_of(alloc, places, station.limits.as_slice())?,
             inbox: Inbox::new(alloc, places)?,
             doubts: first_doubts(alloc, places, station.doubt)?,
         })
@@ -220,7 +220,7 @@ impl LeafPlaces {
             key,
             net: number,
             leaves: count,
-            readers: _,
+            limits: _,
             book,
             doubt: _,
         } = station;
@@ -317,12 +317,16 @@ fn beat_of(own: &Option<Own>) -> Option<Beat> {
 }
 
 // What each leaf may do, by its number.
-fn rights_of(alloc: Global, places: usize, readers: &[u16]) -> Result<Vec<LeafRights>, NoMemory> {
+fn rights_of(
+    alloc: Global,
+    places: usize,
+    limits: &[LeafLimit],
+) -> Result<Vec<LeafRights>, NoMemory> {
     let mut rights = Vec::new(alloc);
     rights.resize(places, LeafRights::Asks)?;
-    for leaf in readers {
-        if let Some(right) = rights.get_mut(usize::from(*leaf)) {
-            *right = LeafRights::Reads;
+    for limit in limits {
+        if let Some(right) = rights.get_mut(usize::from(limit.leaf)) {
+            *right = limit.may;
         }
     }
     Ok(rights)

@@ -51,6 +51,9 @@
 //! Of the hellos that one piece brings, a hub hands on the last alone, since each is answered by all that the leaf
 //! lacks. It does not send a part of a snapshot that the leaf says it holds.
 //!
+//! A hub hands on no request that the leaf may not make ([`LeafRights`]). Nor does it hand on a request before the leaf
+//! has said a hello of the layout of the hub's journal on the same connection, or after one of another layout.
+//!
 //! A leaf that is ahead of the hub, or has other records at the same version, shows that the hub may be an older copy of
 //! itself. The hub is then in doubt ([`Links::doubt`]): until an operator decides, it takes no request.
 //!
@@ -77,7 +80,7 @@
 //! | MADE | the number of the leaf's folder, 16 digits, drawn when the folder is created |
 //! | VERSION, SUM | the version of the side's records, and their sum as 16 digits |
 //! | LAST | of a leaf its last request, of the hub the last request of this leaf that it replied to, 0 if none |
-//! | MAY | `asks` or `reads`: what the leaf may do |
+//! | MAY | `asks`, `reads` or `persons`: what the leaf may do ([`LeafRights`]) |
 //! | NONCE | 16 random bytes, as 32 digits |
 //! | WORD | why the hub refuses the leaf ([`HandshakeRefusal`]): `net`, `count`, `other`, `ahead`, `records` or `older` |
 //! | CODE | the HMAC with SHA-256 (RFC 2104, FIPS 180-4) under the leaf's key, as 64 digits |
@@ -220,7 +223,7 @@ pub use crate::queue::{MAX_OF_STREAM, MAX_PACKETS};
 pub use crate::seating::MAX_WAITING;
 pub use crate::secret::{Secret, SecretFault, key_of, leaf_file_line, secret_in, tunnel_key_line};
 pub use crate::speaker::is_said_by;
-pub use crate::stations::{HubStation, LeafStation};
+pub use crate::stations::{HubStation, LeafLimit, LeafStation};
 pub use crate::status::put_status;
 pub use crate::status_json::put_status_json;
 

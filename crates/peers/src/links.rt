@@ -3,7 +3,7 @@ ghost use Rattle.std.specs.Prelude.{◌≡◌, ◌≢◌, ◌<◌, IfOk, IfErr, 
 ghost use Rattle.std.specs.List.{AllByRecursion};
 ghost use Rattle.bytetext.specs.declared.moment.TheConstants.{MOMENTS_END};
 ghost use Rattle.sharewire.specs.Frames.{CanBeWritten};
-ghost use Rattle.peers.specs.Asking.{is_new_leaf, may_ask};
+ghost use Rattle.peers.specs.Asking.{is_new_leaf, may_ask, may_ask_nameless};
 ghost use Rattle.peers.specs.Doubts.{RenewsLeaf, TrustsThis, is_in_doubt};
 ghost use Rattle.peers.specs.Drawn.{Draws, nonces_in};
 ghost use Rattle.peers.specs.Entering.{lines_of};
@@ -370,6 +370,17 @@ impl Links {
         match self {
             Links::Alone | Links::Hub(_) => true,
             Links::Leaf(leaf) => leaf.may_ask(),
+        }
+    }
+
+    /// Whether this bot may ask for changes in nobody's name too: not at a leaf that asks for persons alone, as its hub said
+    /// last, nor at one that may ask for no changes at all.
+    pub fn may_ask_nameless(&self) -> bool
+        ensures { result ≡ may_ask_nameless self.now }
+    {
+        match self {
+            Links::Alone | Links::Hub(_) => true,
+            Links::Leaf(leaf) => leaf.may_ask_nameless(),
         }
     }
 

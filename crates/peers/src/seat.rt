@@ -1,11 +1,11 @@
 // A linked leaf of the hub.
-ghost use Rattle.std.specs.Prelude.{◌≡◌, ◌≤◌, true, [], IfOk, OnOk, OnErr, not, ◌&&◌, ◌||◌, is_some};
+ghost use Rattle.std.specs.Prelude.{◌≡◌, ◌≤◌, true, false, [], IfOk, OnOk, OnErr, not, ◌&&◌, ◌||◌, is_some};
 ghost use Rattle.std.specs.List.{AllByRecursion, count_by, list_all};
 ghost use Rattle.sharelink.specs.Shapes.{HasGoodRecords};
 ghost use Rattle.sharewire.specs.Frames.{CanBeWritten};
-ghost use Rattle.peers.specs.declared.handshake_progress.LeafRights.TheVariants.{Reads};
+ghost use Rattle.peers.specs.declared.handshake_progress.LeafRights.TheVariants.{Persons, Reads};
 ghost use Rattle.peers.specs.Hearing.{HandsOn, HeedsBeats, ReadsFrames};
-ghost use Rattle.peers.specs.Picking.{is_hello, is_request};
+ghost use Rattle.peers.specs.Picking.{is_hello, is_nameless, is_ours, is_request, picked, said_by};
 ghost use Rattle.peers.specs.Speakers.{is_own};
 ghost use Rattle.peers.specs.Tells.{TellsLeaf, is_held};
 
@@ -31,6 +31,8 @@ pub(crate) struct Seat {
     // The number of its folder.
     pub(crate) made: DrawnNumber,
     pub(crate) may: LeafRights,
+    // The layout that its last hello on this connection said, if it has said one.
+    pub(crate) layout: Option<u8>,
     // The version that it said last.
     pub(crate) version: u32,
     // The parts of a snapshot that it holds, as its last beat says.
@@ -54,6 +56,7 @@ impl Drop for Seat {
             leaf: _,
             made: _,
             may: _,
+            layout: _,
             version: _,
             held: _,
             beat: _,
@@ -72,9 +75,14 @@ impl Seat {
         ensures good { IfOk result (λ packets. AllByRecursion HasGoodRecords packets.items) }
         // A leaf speaks for itself alone.
         ensures own { IfOk result (λ packets. list_all (is_own self.old.leaf) packets.items ≡ true) }
-        // Of the hellos only the last, and no request of a leaf that may only read.
+        // Of the hellos only the last, no request of a leaf that may only read, and none in nobody's name of a leaf that
+        // asks for persons alone.
         ensures hello { IfOk result (λ packets. count_by is_hello packets.items ≤ 1) }
         ensures reads { IfOk result (λ packets. self.old.may ≡ Reads → count_by is_request packets.items ≡ 0) }
+        ensures persons { IfOk result (λ packets. self.old.may ≡ Persons → count_by is_nameless packets.items ≡ 0) }
+        // No request of a leaf that has said no hello of this hub's layout.
+        ensures layout { IfOk result (λ packets. is_ours self.old.layout ≡ false → count_by is_hello packets.items ≡ 0
+            → count_by is_request packets.items ≡ 0) }
         // Only what was checked.
         ensures checked { IfOk result (λ packets. HandsOn self.old packets.items self.new) }
     {
@@ -94,6 +102,7 @@ impl Seat {
         ensures reader { self.new.reader ≡ self.old.reader }
         ensures leaf { self.new.leaf ≡ self.old.leaf }
         ensures may { self.new.may ≡ self.old.may }
+        ensures layout { self.new.layout ≡ self.old.layout }
     {
         match last_of(contents) {
             Beats::Nothing => {}
@@ -111,7 +120,6 @@ impl Seat {
         ensures good { IfOk result (λ packets. AllByRecursion HasGoodRecords packets.items) }
         ensures reads { IfOk result (λ packets. ReadsFrames frames.now self.old packets.items self.new) }
     {
-        let may = self.may;
         let feed = self.reader.feed(alloc, frames)?;
         self.wire.end_at(feed.fault);
         if !are_said_by(feed.packets.as_slice(), self.leaf) {
@@ -119,7 +127,16 @@ impl Seat {
             return Ok(Vec::new(alloc));
         }
         self.note_version(feed.packets.as_slice());
-        picked(alloc, feed.packets.into_vec(), may)
+        self.pick(alloc, feed.packets.into_vec())
+    }
+
+    // Returns which of these packets are handed on, and notes the layout in the last hello among them.
+    fn pick(&mut self, alloc: Global, packets: Vec<Packet>) -> Result<Vec<Packet>, NoMemory>
+        ensures picked { IfOk result (λ kept. kept.items ≡ picked self.old.may self.old.layout packets.items) }
+        ensures said { OnOk result (self.new.layout ≡ said_by self.old.layout packets.items) }
+        ensures same { self.new ≡ record self.old { layout = self.new.layout } }
+    {
+        picked(alloc, packets, self.may, &mut self.layout)
     }
 
     // Notes the version in the last hello among these packets.

@@ -4,7 +4,7 @@ ghost use Rattle.std.specs.Prelude.{◌≡◌};
 use crate::book::Book;
 use crate::doubt::Doubted;
 use crate::drawn_number::DrawnNumber;
-use crate::handshake_progress::Progress;
+use crate::handshake_progress::{LeafRights, Progress};
 use crate::leaf_side::LeafSide;
 use crate::nonce::Nonce;
 use sealing::Key;
@@ -18,12 +18,21 @@ pub struct HubStation {
     pub net: DrawnNumber,
     /// The number of leaves of the net.
     pub leaves: u16,
-    /// The leaves that may only read.
-    pub readers: Vec<u16>,
+    /// The leaves that may not ask for every change. Each other leaf may.
+    pub limits: Vec<LeafLimit>,
     /// Which folder is which leaf.
     pub book: Book,
     /// The leaf that has shown before that the hub may be an older copy of itself, if nobody has decided since.
     pub doubt: Option<Doubted>,
+}
+
+/// What a leaf may do.
+#[derive(Clone, Copy, Debug, PartialEq, Eq)]
+pub struct LeafLimit {
+    /// The leaf's number, from 1.
+    pub leaf: u16,
+    /// What it may do.
+    pub may: LeafRights,
 }
 
 /// What a leaf is in its net.

@@ -2,7 +2,8 @@
 use Rattle.std.proofs.Common.{◌≡◌, inl, inr, ◌≤◌, ◌<◌, ◌==◌, nat_lt, ◌&&◌, ℕ, zero, suc, Bool, true, false, if◌then◌else◌, List, [], ◌∷◌, length, length-set, slice_get, slice_set, None, Some, refl, ap, sym, ◌∙◌, arith, eq-eqb}
 use Rattle.std.proofs.lemmas.Bool.{cases_lt, lt-ltb}
 use Rattle.userfile.specs.declared.change.Change.{Change as UserChange}
-use Rattle.userfile.specs.declared.change.Change.TheVariants.{DelUser}
+use Rattle.userfile.specs.Changes.{by_nobody}
+use Rattle.userfile.specs.declared.edit.Edit.TheVariants.{DelUser}
 use Rattle.protocol.specs.Numbers.{item_at, set_at}
 use Rattle.protocol.specs.Packets.{Packet, Sent, AcceptedChange}
 use Rattle.protocol.specs.Packets.Packet.{Hello, Change, Request, Accepted, Refused, BotText, Part}
@@ -25,7 +26,7 @@ use Rattle.processes.specs.Deeds.{is_unanswered}
 -- the first `count` of these changes, with others after them if there are fewer
 abbrev front : ℕ → List UserChange → List UserChange
 front zero asked = []
-front (suc count) [] = DelUser [] ∷ front count []
+front (suc count) [] = by_nobody (DelUser []) ∷ front count []
 front (suc count) (change ∷ asked) = change ∷ front count asked
 
 front-length : (count : ℕ) (asked : List UserChange) → length (front count asked) ≡ count

@@ -1,6 +1,7 @@
 // The laws of the deeds of bots in processes of their own.
 ghost use Rattle.std.specs.Prelude.{◌≡◌, ◌⊎◌, ◌<◌, ◌≤◌, ◌+◌, ◌++◌, ℕ, suc, true, List, ◌∷◌, length, slice_get, Some, Ok};
 ghost use Rattle.protocol.specs.History.{History, start, records_of};
+ghost use Rattle.protocol.specs.Rights.{EachIsAllowed, OnlyOwnersChangeRanks, NobodyClimbs, NobodyBecomesOwner};
 ghost use Rattle.disks.specs.State.{may_leave, moment, left_since};
 ghost use Rattle.botjournal.specs.Ledger.{Device};
 ghost use Rattle.protocol.specs.Ends.{End};
@@ -35,6 +36,14 @@ pub fn laws_of_processes<P: Promise, D: Disk>()
     // A bot at version v shows the records that the first v changes make that the hub has accepted.
     ensures at_version { (w : Net) (h : History) → Stands w h → (bot version : ℕ) → shown_version w bot ≡ Some version
         → shown_records w bot ≡ Some (records_of h.hub.kept.accepted version) }
+    // Each change that the hub has accepted and a person asked for was that person's right, by the records just before it.
+    // A change for which somebody asked who was no owner just before it left the owners and masters as they were.
+    ensures allowed { (w : Net) (h : History) → Stands w h → EachIsAllowed h.hub.kept.accepted }
+    ensures ranks { (w : Net) (h : History) → Stands w h → OnlyOwnersChangeRanks h.hub.kept.accepted }
+    // Nobody climbs: from any version to any later one the owners and masters are the same, with their hostmasks and flags,
+    // if only persons asked whom no owner's hostmask matched at the first. Nor is one of them an owner then.
+    ensures nobody_climbs { (w : Net) (h : History) → Stands w h → NobodyClimbs h.hub.kept.accepted }
+    ensures nobody_becomes_owner { (w : Net) (h : History) → Stands w h → NobodyBecomesOwner h.hub.kept.accepted }
     // At any two moments, bots at one version hold the same records.
     ensures same_records { (count : ℕ) (w : Net) (first more : List Deed)
         → IsFirst count w → Run P.promised w (first ++ more) → (one other version : ℕ)

@@ -1,4 +1,5 @@
 mod Leaves
+pub mod Faults
 mod Heirs
 pub mod Nets
 pub mod Rankings

@@ -1,5 +1,5 @@
 -- The one with the highest version of those that were looked at.
-use Rattle.std.proofs.Common.{◌≡◌, ◌<◌, ◌≤◌, ◌+◌, ℕ, ◌⊎◌, inl, inr, List, Some, slice_get, refl, subst, arith}
+use Rattle.std.proofs.Common.{◌≡◌, ◌<◌, ◌≤◌, ◌+◌, ℕ, ◌⊎◌, inl, inr, List, [], ◌∷◌, None, Some, slice_get, length, refl, subst, arith}
 use Rattle.std.proofs.lemmas.Bool.{cases_order}
 use Rattle.promotion.specs.declared.reading.LeafStanding.{LeafStanding}
 use Rattle.promotion.specs.Leaves.{IsHighestOf}
@@ -11,7 +11,12 @@ pub record IsBest (standings : List LeafStanding) (count place version : ℕ) : 
 
 pub begins : (standings : List LeafStanding) (one : LeafStanding) → slice_get standings 0 ≡ Some one → IsBest standings 0 0 one.version
 begins standings one at = record {
-  top = record { one = one; at = at; each = λ i other below is. absurd (omega (arith, below)) };
+  top = record {
+    one = one;
+    at = at;
+    each = λ i other below is. absurd (omega (arith, below));
+    before = λ i other below is. absurd (omega (arith, below));
+  };
   has = refl;
 }
 
@@ -39,6 +44,7 @@ module _ (standings : List LeafStanding) (count place version : ℕ) (next : Lea
       at = at;
       each = each-of standings count next.version next at (omega arith)
           (λ i other before is. omega (arith, best.top.each i other before is, best.has, above));
+      before = λ i other before is. omega (arith, best.top.each i other before is, best.has, above);
     };
     has = refl;
   }
@@ -49,6 +55,7 @@ module _ (standings : List LeafStanding) (count place version : ℕ) (next : Lea
       one = best.top.one;
       at = best.top.at;
       each = each-of standings count best.top.one.version next at (omega (arith, below, best.has)) best.top.each;
+      before = best.top.before;
     };
     has = best.has;
   }
@@ -61,3 +68,7 @@ module _ (standings : List LeafStanding) (count place version : ℕ) (next : Lea
   pub put_no_higher : (place' version' : ℕ) → next.version ≤ version → version' ≡ version → place' ≡ place
       → IsBest standings (count + 1) place' version'
   put_no_higher place' version' below is at = rw (is, at) (no_higher below)
+
+pub no_first : (standings : List LeafStanding) → slice_get standings 0 ≡ None → length standings ≡ 0
+no_first [] is = refl
+no_first (one ∷ more) is = absurd (cc)

@@ -6,6 +6,8 @@ use Rattle.botjournal.specs.Contents.{Contents, meaning}
 use Rattle.protocol.specs.Snapshots.{records_from}
 use Rattle.protocol.specs.LeafRules.{LeafState}
 use Rattle.protocol.specs.Journals.{leaf_meaning, stand_together}
+use Rattle.peers.specs.Digits.{digits_in}
+use Rattle.botfolder.specs.declared.number_file.TheConstants.{NUMBER_DIGITS}
 use Rattle.promotion.specs.declared.reading.LeafStanding.{LeafStanding}
 
 -- a leaf's state as a base alone, and the bytes of its journal's two disks
@@ -61,17 +63,30 @@ pub record IsAlone (x y : List ℕ) (base : Base) : Type 0 where
 
 -- ---- what is told of it
 
+-- where a leaf of this net stands, by its base
+abbrev pub standing_of : Base → List ℕ → LeafStanding
+standing_of base net = record { number = base.bot; net = net; version = base.version }
+
+-- The journal of some stopped leaf says that it stands there, and its net has a number.
+pub record IsStanding (standing : LeafStanding) : Type 0 where
+  pub leaf : LeafFound
+  pub journal : IsLeafOf leaf.first leaf.second leaf.base
+  pub is : standing ≡ standing_of leaf.base standing.net
+  pub net : digits_in NUMBER_DIGITS standing.net ≡ Some standing.net
+
 -- the line of the file `parent`: the number of the net before, and the version of the leaf that was promoted
 abbrev pub parent_line : List ℕ → ℕ → List ℕ
 parent_line net version = net ++ (codes " " ++ (decimal version ++ codes "\n"))
 
--- the one at this place has the highest version of the first of them, `count` in number
+-- The one at this place has the highest version of the first of them, `count` in number. Each one before it has a lower
+-- version.
 pub record IsHighestOf (standings : List LeafStanding) (count place : ℕ) : Type 0 where
   pub one : LeafStanding
   pub at : slice_get standings place ≡ Some one
   pub each : (i : ℕ) (other : LeafStanding) → i < count → slice_get standings i ≡ Some other → other.version ≤ one.version
+  pub before : (i : ℕ) (other : LeafStanding) → i < place → slice_get standings i ≡ Some other → other.version < one.version
 
--- no other has a higher version than the one at this place
+-- no other has a higher version than the one at this place, and none before it has the same
 abbrev pub IsHighest : List LeafStanding → ℕ → Type 0
 IsHighest standings place = IsHighestOf standings (length standings) place
 
@@ -80,10 +95,11 @@ abbrev pub AreOfOneNet : List LeafStanding → Type 0
 AreOfOneNet standings = (i j : ℕ) (one other : LeafStanding) → slice_get standings i ≡ Some one → slice_get standings j ≡ Some other
     → one.net ≡ other.net
 
--- the one at this place has another number of a net than the first
+-- the one at this place has another number of a net than the first, and each one before it has the first's
 pub record IsOfOtherNet (standings : List LeafStanding) (place : ℕ) : Type 0 where
   pub first : LeafStanding
   pub at_first : slice_get standings 0 ≡ Some first
   pub one : LeafStanding
   pub at : slice_get standings place ≡ Some one
   pub other : one.net ≢ first.net
+  pub before : (i : ℕ) (same : LeafStanding) → i < place → slice_get standings i ≡ Some same → same.net ≡ first.net

@@ -1,4 +1,7 @@
 // Why a leaf can't be promoted or start over.
+ghost use Rattle.std.specs.Prelude.{◌≡◌};
+ghost use Rattle.promotion.specs.Faults.{IsUnread, of_folder, of_heir};
+
 use botfolder::{FolderError, FolderFault};
 use bytejournal::JournalFault;
 use bytetext::Failure;
@@ -48,7 +51,9 @@ pub enum PromotionFault {
 pub type PromotionError = Failure<PromotionFault>;
 
 // The leaf's folder can't be used, or memory runs out.
-pub(crate) fn folder_error(error: FolderError) -> PromotionError {
+pub(crate) fn folder_error(error: FolderError) -> PromotionError
+    ensures { result ≡ of_folder error }
+{
     match error {
         Failure::Refused(fault) => Failure::Refused(PromotionFault::Folder(fault)),
         Failure::NoMemory => Failure::NoMemory,
@@ -56,7 +61,9 @@ pub(crate) fn folder_error(error: FolderError) -> PromotionError {
 }
 
 // The heir's folder can't be made, or memory runs out.
-pub(crate) fn heir_error(error: FolderError) -> PromotionError {
+pub(crate) fn heir_error(error: FolderError) -> PromotionError
+    ensures { result ≡ of_heir error }
+{
     match error {
         Failure::Refused(fault) => Failure::Refused(PromotionFault::Heir(fault)),
         Failure::NoMemory => Failure::NoMemory,
@@ -64,7 +71,9 @@ pub(crate) fn heir_error(error: FolderError) -> PromotionError {
 }
 
 // The copies of the leaf's disks hold no journal that can be read, or memory runs out.
-pub(crate) fn journal_error(error: Failure<JournalFault>) -> PromotionError {
+pub(crate) fn journal_error(error: Failure<JournalFault>) -> PromotionError
+    ensures { IsUnread result }
+{
     match error {
         Failure::Refused(JournalFault::GenerationsSpent) => {
             Failure::Refused(PromotionFault::GenerationsSpent)
@@ -77,7 +86,9 @@ pub(crate) fn journal_error(error: Failure<JournalFault>) -> PromotionError {
 }
 
 // The state alone can't be written into the copies of the leaf's disks.
-pub(crate) fn link_error(error: LinkError) -> PromotionError {
+pub(crate) fn link_error(error: LinkError) -> PromotionError
+    ensures { IsUnread result }
+{
     match error {
         Failure::Refused(LinkFault::NumbersSpent) => {
             Failure::Refused(PromotionFault::GenerationsSpent)

@@ -1,7 +1,10 @@
 // The journal of an heir's hub.
-ghost use Rattle.std.specs.Prelude.{◌≡◌, IfOk};
+ghost use Rattle.std.specs.Prelude.{◌≡◌, IfErr, IfOk};
 ghost use Rattle.disks.specs.State.{IsSettled};
 ghost use Rattle.botjournal.specs.Bases.{IsGoodBase};
+ghost use Rattle.botjournal.specs.Contents.{new_contents};
+ghost use Rattle.botjournal.specs.Ledger.{Leaves, settled};
+ghost use Rattle.promotion.specs.Faults.{CannotMake};
 ghost use Rattle.promotion.specs.Promotions.{Promotes, heir_base};
 
 use crate::fault::{PromotionError, PromotionFault};
@@ -29,6 +32,10 @@ pub fn make_heir<D: Disk>(
     // A process that opens the leaf shows a version and records, and whatever a crash leaves on the disks means the hub
     // of an heir at that version with those records, whatever the number of its leaves.
     ensures promotes { IfOk result (λ disks. Promotes leaf.now (D.state disks.first) (D.state disks.second)) }
+    // It is a new journal: of the heir's base alone, in the first generation.
+    ensures journal { IfOk result (λ disks. Leaves (D.state disks.first) (D.state disks.second)
+        (settled (new_contents (heir_base leaf.now.base)))) }
+    ensures fault { IfErr result CannotMake }
 {
     leaf.know();
     let base = hub_base(alloc, leaf)?;
@@ -55,7 +62,9 @@ fn hub_base(alloc: Global, leaf: &Leaf) -> Result<Base, NoMemory>
 }
 
 // Why the journal can't be created.
-fn create_error(error: Failure<JournalFault>) -> PromotionError {
+fn create_error(error: Failure<JournalFault>) -> PromotionError
+    ensures { CannotMake result }
+{
     match error {
         Failure::NoMemory => Failure::NoMemory,
         Failure::Refused(

@@ -1,20 +1,23 @@
 // What the journal of a stopped leaf holds.
-ghost use Rattle.std.specs.Prelude.{◌≡◌, ◌<◌, ◌≤◌, IfOk, length};
+ghost use Rattle.std.specs.Prelude.{◌≡◌, ◌<◌, ◌≤◌, IfErr, IfOk, length};
 ghost use Rattle.botfolder.specs.Folders.{AreCopies};
 ghost use Rattle.botjournal.specs.Bases.{IsGoodBase};
 ghost use Rattle.botjournal.specs.Contents.{meaning};
 ghost use Rattle.protocol.specs.Snapshots.{users_in, bans_in};
 ghost use Rattle.sharelink.specs.Kept.{IsCurrent};
 ghost use Rattle.sharelink.specs.declared.TheConstants.{MAX_LEAVES};
-ghost use Rattle.promotion.specs.Leaves.{IsLeafOf, MeanAlike, IsAlone};
+ghost use Rattle.promotion.specs.Leaves.{IsLeafOf, MeanAlike, IsAlone, standing_of};
+ghost use Rattle.promotion.specs.Faults.{CannotRead, IsUnread};
 
 use crate::fault::{PromotionError, PromotionFault, journal_error, link_error};
 use crate::numbers::user_count;
+use crate::reading::LeafStanding;
 use botfolder::Stopped;
 use botjournal::{Base, BotJournal, LAYOUT, Request};
 use bytejournal::Disks;
 use bytetext::Failure;
 use disks::{Disk as _, MemDisk};
+use peers::DrawnNumber;
 use sharelink::{BotLink, MAX_LEAVES};
 use std::alloc::Global;
 use std::marker::Model;
@@ -65,6 +68,8 @@ impl Leaf {
         requires copies { AreCopies copies }
         ensures first { IfOk result (λ leaf. leaf.first ≡ copies.first.content) }
         ensures second { IfOk result (λ leaf. leaf.second ≡ copies.second.content) }
+        // `IsHub` comes only of a hub's journal, and `OlderLayout` only of a leaf's in another layout.
+        ensures fault { IfErr result (CannotRead copies.first.content copies.second.content) }
     {
         let first = Snapshot::of(&copies.first);
         let second = Snapshot::of(&copies.second);
@@ -99,6 +104,17 @@ impl Leaf {
         self.base.version
     }
 
+    /// Returns where it stands, as a leaf of `net`.
+    pub fn standing(&self, net: DrawnNumber) -> LeafStanding
+        ensures { result ≡ standing_of self.now.base net }
+    {
+        LeafStanding {
+            number: self.number(),
+            net,
+            version: self.version(),
+        }
+    }
+
     /// Returns its records, users first.
     pub fn records(&self) -> &[Record]
         ensures { result.now ≡ self.now.base.records }
@@ -122,11 +138,12 @@ impl Leaf {
 }
 
 // Returns the state of the leaf whose journal the copies hold, as a base alone.
-#[tactic(auto, using(crate::proofs::Leaves::leaf_of_alone))]
+#[tactic(auto, using(crate::proofs::Leaves::leaf_of_alone, crate::proofs::Faults::cannot_read))]
 fn base_of(alloc: Global, copies: Stopped) -> Result<Base, PromotionError>
     requires copies { AreCopies copies }
     ensures leaf { IfOk result (λ base. IsLeafOf copies.first.content copies.second.content base) }
     ensures good { IfOk result IsGoodBase }
+    ensures fault { IfErr result (CannotRead copies.first.content copies.second.content) }
 {
     let Named { number, copies } = name(alloc, copies)?;
     let alone = write_alone(alloc, number, copies)?;
@@ -149,6 +166,7 @@ fn name(alloc: Global, copies: Stopped) -> Result<Named, PromotionError>
     ensures few { IfOk result (λ found. found.number ≤ MAX_LEAVES) }
     ensures leaf { IfOk result (λ found. 0 < found.number) }
     ensures current { IfOk result (λ _. IsCurrent (meaning copies.first.content copies.second.content)) }
+    ensures fault { IfErr result (CannotRead copies.first.content copies.second.content) }
 {
     let opened = match BotJournal::open(alloc, copies.first, copies.second) {
         Ok(opened) => opened,
@@ -180,6 +198,7 @@ fn write_alone(alloc: Global, number: u16, copies: Stopped) -> Result<Stopped, P
     ensures copies { IfOk result AreCopies }
     ensures alike { IfOk result (λ alone. MeanAlike number copies.first.content copies.second.content
         alone.first.content alone.second.content) }
+    ensures fault { IfErr result IsUnread }
 {
     let Stopped { first, second } = copies;
     let mut link = match BotLink::open(alloc, first, second, number, MAX_LEAVES) {
@@ -202,6 +221,7 @@ fn read_alone(alloc: Global, copies: Stopped) -> Result<Base, PromotionError>
     requires copies { AreCopies copies }
     ensures alone { IfOk result (λ base. IsAlone copies.first.content copies.second.content base) }
     ensures good { IfOk result IsGoodBase }
+    ensures fault { IfErr result IsUnread }
 {
     match BotJournal::open(alloc, copies.first, copies.second) {
         Ok(opened) if opened.entries.is_empty() => Ok(opened.base),

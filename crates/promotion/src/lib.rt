@@ -18,7 +18,8 @@
 //! The contracts are about the bytes of disks. [`Leaf::read`] takes those of a leaf's journal, and [`make_heir`] writes
 //! those of the heir's hub. Its clause says of them what the laws of [`heirs`] rest on: a process that opens the leaf's
 //! bytes shows this version and these records, and whatever a crash leaves of the hub's bytes means the hub of an heir at
-//! folder holds: that the folder of an heir is found whole or not at all is what [`botfolder`] does, and is tried.
+//! that version with these records. [`promote`] says so of the disks that it made. No contract says what a folder holds:
+//! that the folder of an heir is found whole or not at all is what [`botfolder`] does, and is tried.
 #![tactic(auto)]
 
 mod fault;

@@ -1,6 +1,8 @@
 // Numbers of records and of nets.
-ghost use Rattle.std.specs.Prelude.{◌≡◌, ◌≢◌, ◌++◌, IfOk, length};
+ghost use Rattle.std.specs.Prelude.{◌≡◌, ◌≢◌, ◌++◌, IfErr, IfOk, length};
 ghost use Rattle.protocol.specs.Snapshots.{users_in};
+ghost use Rattle.bytetext.specs.declared.failure.Failure.TheVariants.{Refused};
+ghost use Rattle.promotion.specs.declared.fault.PromotionFault.TheVariants.{System};
 ghost use Rattle.promotion.specs.Leaves.{parent_line};
 
 use crate::fault::{PromotionError, PromotionFault};
@@ -31,6 +33,7 @@ pub(crate) fn draw_other<R: RandomSource>(
     before: &DrawnNumber,
 ) -> Result<DrawnNumber, PromotionError>
     ensures other { IfOk result (λ net. net ≢ before.now) }
+    ensures fault { IfErr result (λ e. e ≡ Refused System) }
 {
     match DrawnNumber::draw(rt) {
         Ok(net) if !net.is_same(before) => Ok(net),

@@ -1,6 +1,16 @@
 // The folder of a stopped leaf, of which that of an heir's hub is made.
-ghost use Rattle.std.specs.Prelude.{◌≢◌, IfOk};
+ghost use Rattle.std.specs.Prelude.{◌≡◌, ◌≢◌, ◌<◌, Err, IfErr, IfOk, Some, length};
+ghost use Rattle.bytetext.specs.declared.failure.Failure.TheVariants.{Refused};
+ghost use Rattle.disks.specs.Memory.{state_of};
+ghost use Rattle.botfolder.specs.declared.fault.FolderFault.TheVariants.{LongName};
+ghost use Rattle.botfolder.specs.declared.number_file.TheConstants.{NUMBER_DIGITS};
+ghost use Rattle.botfolder.specs.declared.paths.TheConstants.{MAX_PATH};
 ghost use Rattle.botfolder.specs.Folders.{AreReady};
+ghost use Rattle.peers.specs.Digits.{digits_in};
+ghost use Rattle.promotion.specs.declared.fault.PromotionFault.TheVariants.{Folder};
+ghost use Rattle.promotion.specs.Faults.{IsOfPromotion};
+ghost use Rattle.promotion.specs.Leaves.{parent_line};
+ghost use Rattle.promotion.specs.Promotions.{Promotes};
 
 use crate::fault::{PromotionError, PromotionFault, heir_error};
 use crate::heir::make_heir;
@@ -8,13 +18,15 @@ use crate::leaf::Leaf;
 use crate::numbers::{draw_other, parent_line};
 use crate::reading::{leaf_in, net_of, taken};
 use botfolder::{Begun, BotFolder, FolderError, FolderFault};
+use bytejournal::Disks;
 use bytetext::Failure;
-use disks::Pair;
+use disks::{FileDisk, Pair};
 use peers::DrawnNumber;
 use std::fs;
 use std::fs::File;
 use std::random::RandomSource;
 use std::rt::Files;
+use std::snapshot::Snapshot;
 use std::time::Clock;
 
 /// A leaf that was promoted.
@@ -26,6 +38,8 @@ pub struct Promoted {
     pub parent: DrawnNumber,
     /// The number of the heir's net.
     pub net: DrawnNumber,
+    /// The disks of the heir's journal as they were made, for contracts alone.
+    pub disks: Snapshot<Disks<FileDisk>>,
 }
 
 /// Makes the folder `heir` of an heir's hub, of the stopped leaf of `folder`. That folder is only read, and locked
@@ -44,24 +58,36 @@ pub fn promote<R: AllocGlobal + Files<File = File> + RandomSource + Clock>(
 ) -> Result<Promoted, PromotionError>
     // The heir's net has a number of its own.
     ensures other_net { IfOk result (λ promoted. promoted.net ≢ promoted.parent) }
+    // The journal that was made is that of an heir's hub, of the leaf that is returned.
+    ensures promotes { IfOk result (λ promoted. Promotes promoted.leaf (state_of promoted.disks.value.first.mirror)
+        (state_of promoted.disks.value.second.mirror)) }
+    ensures parent { IfOk result (λ promoted. digits_in NUMBER_DIGITS promoted.parent ≡ Some promoted.parent) }
+    ensures long_name { MAX_PATH < length folder.now → result ≡ Err (Refused (Folder LongName)) }
+    ensures fault { IfErr result IsOfPromotion }
 {
     let folder = taken(rt, folder)?;
     let leaf = leaf_in(rt, &folder)?;
     let parent = net_of(rt, &folder)?;
     let net = draw_other(rt, &parent)?;
     let line = parent_line(rt.alloc(), &parent, leaf.version())?;
-    match BotFolder::take_heir(rt, heir) {
-        Ok(made) => {
-            fill(rt, &made, &leaf, &net, line.as_slice())?;
-            name(rt, made, heir)?;
-        }
+    let made = match BotFolder::take_heir(rt, heir) {
+        Ok(made) => made,
         Err(error) => return Err(not_taken(rt, heir, error)),
-    }
-    Ok(Promoted { leaf, parent, net })
+    };
+    let disks = fill(rt, &made, &leaf, &parent, &net, line.as_slice())?;
+    name(rt, made, heir)?;
+    Ok(Promoted {
+        leaf,
+        parent,
+        net,
+        disks,
+    })
 }
 
 // Why the folder in which the heir is made can't be taken.
-fn not_taken<R: Files>(rt: &R, heir: &str, error: FolderError) -> PromotionError {
+fn not_taken<R: Files>(rt: &R, heir: &str, error: FolderError) -> PromotionError
+    ensures { IsOfPromotion result }
+{
     match error {
         Failure::Refused(FolderFault::Exists) if fs::symlink_metadata(rt, heir).is_err() => {
             Failure::Refused(PromotionFault::Beside)
@@ -75,20 +101,27 @@ fn fill<R: AllocGlobal + Files<File = File> + Clock>(
     rt: &R,
     made: &BotFolder,
     leaf: &Leaf,
+    parent: &DrawnNumber,
     net: &DrawnNumber,
-    parent: &[u8],
-) -> Result<(), PromotionError> {
+    line: &[u8],
+) -> Result<Snapshot<Disks<FileDisk>>, PromotionError>
+    requires other { net.now ≢ parent.now }
+    requires line { line.now ≡ parent_line parent.now leaf.now.base.version }
+    ensures promotes { IfOk result (λ disks. Promotes leaf.now (state_of disks.value.first.mirror)
+        (state_of disks.value.second.mirror)) }
+    ensures fault { IfErr result IsOfPromotion }
+{
     let Pair { first, second } = empty_disks(rt, made)?;
-    if let Err(error) = made.keep_parent(rt, parent) {
+    if let Err(error) = made.keep_parent(rt, line) {
         return Err(heir_error(error));
     }
     if let Err(error) = made.keep_net(rt, net.as_bytes()) {
         return Err(heir_error(error));
     }
     // They are locked while their folder gets its name.
-    let _disks = make_heir(rt.alloc(), leaf, first, second)?;
+    let disks = make_heir(rt.alloc(), leaf, first, second)?;
     match made.finish(rt) {
-        Ok(()) => Ok(()),
+        Ok(()) => Ok(Snapshot::of(&disks)),
         Err(error) => Err(heir_error(error)),
     }
 }
@@ -98,7 +131,8 @@ fn empty_disks<R: AllocGlobal + Files<File = File> + Clock>(
     rt: &R,
     made: &BotFolder,
 ) -> Result<Pair, PromotionError>
-    ensures { IfOk result AreReady }
+    ensures ready { IfOk result AreReady }
+    ensures fault { IfErr result IsOfPromotion }
 {
     match made.begin(rt) {
         Ok(Begun::Empty(disks)) => Ok(disks),
@@ -108,7 +142,9 @@ fn empty_disks<R: AllocGlobal + Files<File = File> + Clock>(
 }
 
 // Gives the heir's folder its name.
-fn name<R: Files<File = File>>(rt: &R, made: BotFolder, heir: &str) -> Result<(), PromotionError> {
+fn name<R: Files<File = File>>(rt: &R, made: BotFolder, heir: &str) -> Result<(), PromotionError>
+    ensures fault { IfErr result IsOfPromotion }
+{
     match made.name_heir(rt, heir) {
         Ok(()) => Ok(()),
         Err(error) => Err(heir_error(error)),

@@ -1,11 +1,12 @@
 // Which of several leaves has the highest version, and whether they are of one net.
-ghost use Rattle.std.specs.Prelude.{◌≡◌, IfSome, None};
+ghost use Rattle.std.specs.Prelude.{◌≡◌, IfSome, None, length};
 ghost use Rattle.promotion.specs.Leaves.{AreOfOneNet, IsHighest, IsOfOtherNet};
 
 use crate::reading::LeafStanding;
 
 /// Returns the place of the first of `standings` that has the highest version, or `None` if there are none.
 pub fn highest(standings: &[LeafStanding]) -> Option<usize>
+    ensures none { result ≡ None → length standings.now ≡ 0 }
     ensures highest { IfSome result (IsHighest standings.now) }
 {
     let mut version = standings.first()?.version;

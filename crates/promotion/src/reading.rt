@@ -1,4 +1,14 @@
 // The stopped leaf of a folder.
+ghost use Rattle.std.specs.Prelude.{◌≡◌, ◌<◌, ◌↔◌, Err, IfErr, IfOk, Some, length};
+ghost use Rattle.bytetext.specs.declared.failure.Failure.TheVariants.{Refused};
+ghost use Rattle.botfolder.specs.declared.fault.FolderFault.TheVariants.{LongName};
+ghost use Rattle.botfolder.specs.declared.number_file.TheConstants.{NUMBER_DIGITS};
+ghost use Rattle.botfolder.specs.declared.paths.TheConstants.{MAX_PATH};
+ghost use Rattle.peers.specs.Digits.{digits_in};
+ghost use Rattle.promotion.specs.declared.fault.PromotionFault.TheVariants.{Folder};
+ghost use Rattle.promotion.specs.Faults.{IsOfLeaf};
+ghost use Rattle.promotion.specs.Leaves.{IsStanding};
+
 use crate::fault::{PromotionError, PromotionFault, folder_error};
 use crate::leaf::Leaf;
 use botfolder::{BotFolder, read_stopped};
@@ -27,21 +37,27 @@ pub struct LeafStanding {
 pub fn standing_of<R: AllocGlobal + Files<File = File> + Clock>(
     rt: &R,
     folder: &str,
-) -> Result<LeafStanding, PromotionError> {
+) -> Result<LeafStanding, PromotionError>
+    // The journal of a leaf says so, which `Leaf::standing` reads: of a number above 0, at the version of its records.
+    ensures standing { IfOk result IsStanding }
+    ensures long_name { MAX_PATH < length folder.now → result ≡ Err (Refused (Folder LongName)) }
+    ensures fault { IfErr result IsOfLeaf }
+{
     let folder = taken(rt, folder)?;
     let leaf = leaf_in(rt, &folder)?;
-    Ok(LeafStanding {
-        number: leaf.number(),
-        net: net_of(rt, &folder)?,
-        version: leaf.version(),
-    })
+    let net = net_of(rt, &folder)?;
+    leaf.know();
+    Ok(leaf.standing(net))
 }
 
 // Takes the folder of a bot that does not run.
 pub(crate) fn taken<R: AllocGlobal + Files<File = File> + Clock>(
     rt: &R,
     folder: &str,
-) -> Result<BotFolder, PromotionError> {
+) -> Result<BotFolder, PromotionError>
+    ensures long_name { (MAX_PATH < length folder.now) ↔ (result ≡ Err (Refused (Folder LongName))) }
+    ensures fault { IfErr result IsOfLeaf }
+{
     match BotFolder::take_stopped(rt, folder) {
         Ok(folder) => Ok(folder),
         Err(error) => Err(folder_error(error)),
@@ -52,7 +68,9 @@ pub(crate) fn taken<R: AllocGlobal + Files<File = File> + Clock>(
 pub(crate) fn leaf_in<R: AllocGlobal + Files<File = File>>(
     rt: &R,
     folder: &BotFolder,
-) -> Result<Leaf, PromotionError> {
+) -> Result<Leaf, PromotionError>
+    ensures fault { IfErr result IsOfLeaf }
+{
     match read_stopped(rt, folder.path()) {
         Ok(copies) => Leaf::read(rt.alloc(), copies),
         Err(error) => Err(folder_error(error)),
@@ -63,7 +81,10 @@ pub(crate) fn leaf_in<R: AllocGlobal + Files<File = File>>(
 pub(crate) fn net_of<R: AllocGlobal + Files<File = File>>(
     rt: &R,
     folder: &BotFolder,
-) -> Result<DrawnNumber, PromotionError> {
+) -> Result<DrawnNumber, PromotionError>
+    ensures net { IfOk result (λ net. digits_in NUMBER_DIGITS net ≡ Some net) }
+    ensures fault { IfErr result IsOfLeaf }
+{
     match folder.net(rt) {
         Ok(Some(digits)) => match DrawnNumber::read(&digits) {
             Some(net) => Ok(net),

@@ -1,4 +1,13 @@
 // A stopped leaf that begins again, as a new leaf of another net.
+ghost use Rattle.std.specs.Prelude.{◌≡◌, ◌<◌, Err, IfErr, IfOk, Some, length};
+ghost use Rattle.bytetext.specs.declared.failure.Failure.TheVariants.{Refused};
+ghost use Rattle.botfolder.specs.declared.fault.FolderFault.TheVariants.{LongName};
+ghost use Rattle.botfolder.specs.declared.number_file.TheConstants.{NUMBER_DIGITS};
+ghost use Rattle.botfolder.specs.declared.paths.TheConstants.{MAX_PATH};
+ghost use Rattle.peers.specs.Digits.{digits_in};
+ghost use Rattle.promotion.specs.declared.fault.PromotionFault.TheVariants.{Folder};
+ghost use Rattle.promotion.specs.Faults.{IsOfLeaf};
+
 use crate::fault::{PromotionError, PromotionFault, folder_error};
 use crate::leaf::Leaf;
 use crate::reading::{leaf_in, net_of, taken};
@@ -38,7 +47,11 @@ impl Leaving {
     pub fn take<R: AllocGlobal + Files<File = File> + Clock>(
         rt: &R,
         folder: &str,
-    ) -> Result<Leaving, PromotionError> {
+    ) -> Result<Leaving, PromotionError>
+        ensures net { IfOk result (λ leaving. digits_in NUMBER_DIGITS leaving.net ≡ Some leaving.net) }
+        ensures long_name { MAX_PATH < length folder.now → result ≡ Err (Refused (Folder LongName)) }
+        ensures fault { IfErr result IsOfLeaf }
+    {
         let folder = taken(rt, folder)?;
         let leaf = match leaf_in(rt, &folder) {
             Ok(leaf) => Some(leaf),
@@ -58,7 +71,9 @@ impl Leaving {
     pub fn start_over<R: AllocGlobal + Files<File = File>>(
         &self,
         rt: &R,
-    ) -> Result<(), PromotionError> {
+    ) -> Result<(), PromotionError>
+        ensures fault { IfErr result IsOfLeaf }
+    {
         let Ok(net) = str::from_utf8(self.net.as_bytes()) else {
             return Err(Failure::Refused(PromotionFault::BadNet));
         };

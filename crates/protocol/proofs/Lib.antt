@@ -19,3 +19,4 @@ pub mod NetLists
 pub mod Telling
 pub mod NetGoes
 pub mod Moments
+pub mod Rights

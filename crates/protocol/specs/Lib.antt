@@ -14,3 +14,4 @@ pub mod Claims
 pub mod Journals
 pub mod Ends
 pub mod Nets
+pub mod Rights

@@ -14,6 +14,9 @@
 //! - [`laws_of_ends`] says the same of a net whose ends stand in one list, the hub's first. A caller that holds all
 //!   bots of a net in one list needs the statements about one kind of end, not about a hub and a list of leaves beside
 //!   it.
+//! - [`laws_of_rights`] says that each accepted change for which a person asked was that person's right, by the records
+//!   just before it. It says that nobody climbs: as long as only persons ask whom no owner's hostmask matches, the owners
+//!   and masters stay as they are.
 //!
 //! A caller states that its calls are the steps of a net, and takes what follows from a law:
 //!
@@ -35,6 +38,7 @@
 //!   moment.
 //! - `Standing`: how what the bots hold follows from history.
 //! - `Claims`: what the link promises of each moment, each step and each run.
+//! - `Rights`: whose right each accepted change was, and what owners and masters may rely on.
 //! - `Journals`: what a journal means as a link's state, and what a link writes into it.
 //! - `Ends`: an end is the hub's or a leaf's, what it shows, and its calls as rows of one kind.
 //! - `Nets`: when ends and packets are a moment of history, what each moment shows, and what a call leaves.
@@ -42,6 +46,8 @@
 
 mod laws;
 mod net_laws;
+mod rights_laws;
 
 pub use crate::laws::{laws_of_link_journals, laws_of_the_link};
 pub use crate::net_laws::laws_of_ends;
+pub use crate::rights_laws::laws_of_rights;

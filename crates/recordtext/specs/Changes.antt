@@ -1,104 +1,43 @@
--- The changes that words spell, by their names.
-use Rattle.std.specs.Prelude.{ℕ, ◌==◌, ◌||◌, Bool, List, [], ◌∷◌, Option, None, Some, option_map, if◌then◌else◌, codes}
+-- The changes that words spell: an edit, and perhaps who asks for it.
+use Rattle.std.specs.Prelude.{ℕ, List, [], ◌∷◌, Option, None, Some, option_map, if◌then◌else◌, codes}
 use Rattle.std.specs.Str.{bytes_eq}
-use Rattle.flagexpr.specs.declared.fault.FlagFault.{FlagFault}
-use Rattle.flagexpr.specs.Letters.{set_of}
-use Rattle.flagexpr.specs.Faults.{flags_fault}
+use Rattle.rfccase.specs.declared.casemappings.Casemapping.{Casemapping}
+use Rattle.rfccase.specs.declared.casemappings.Casemapping.TheVariants.{Ascii, StrictRfc1459, Rfc1459}
+use Rattle.userfile.specs.declared.edit.Edit.{Edit}
 use Rattle.userfile.specs.declared.change.Change.{Change}
-use Rattle.userfile.specs.declared.change.Change.TheVariants.{AddUser, DelUser, AddHost, DelHost, SetGlobal, SetChan, SetBot, AddBan, DelBan, SetInfo, SetSticky}
-use Rattle.recordtext.specs.declared.asking.TwoWords.{TwoWords}
-use Rattle.recordtext.specs.declared.asking.TwoWords.TheVariants.{AddHost as add_host, DelHost as del_host, DelBan as del_ban, Global as set_global, Bot as set_bot}
-use Rattle.recordtext.specs.Words.{is_empty, rest_of, number_below, words_of}
+use Rattle.userfile.specs.Changes.{by_nobody, by_person}
+use Rattle.recordtext.specs.Words.{is_empty, words_of}
+use Rattle.recordtext.specs.Edits.{edit_named, edit_by_words}
 
--- flags are letters, or - for no flags
-abbrev pub unless_fault : Option FlagFault → ℕ → Option ℕ
-unless_fault None flags = Some flags
-unless_fault (Some fault) flags = None
+-- an edit in the name of a person
+abbrev pub in_name : List ℕ → Casemapping → Edit → Change
+in_name person casemapping edit = by_person (record { person = person; casemapping = casemapping }) edit
 
-abbrev pub flags_of : List ℕ → Option ℕ
-flags_of word = unless_fault (flags_fault word) (set_of word)
-
--- the channel of a ban: * means all of them
-abbrev pub channel_of : List ℕ → List ℕ
-channel_of word = if bytes_eq word (codes "*") then [] else word
-
--- an expiry
-abbrev pub expiry_of : List ℕ → Option ℕ
-expiry_of word = number_below 18446744073709551616 word
-
--- whether a ban is sticky: 1 if it is, 0 if it is not
-abbrev pub mark_of : List ℕ → Option Bool
-mark_of word = option_map (λ n. n == 1) (number_below 2 word)
-
--- a comment is the rest of the line; it may be left out, but not be empty
-abbrev pub comment_of : List (List ℕ) → Option (List ℕ)
-comment_of [] = Some []
-comment_of (word ∷ words) = rest_of (word ∷ words)
-
--- NAME H
-abbrev pub by_one_word : List ℕ → List ℕ → Option Change
-by_one_word name h =
-    if is_empty h then None
-    else if bytes_eq name (codes "adduser") then Some (AddUser h)
-    else if bytes_eq name (codes "deluser") then Some (DelUser h)
+-- a casemapping, by the name that a server announces it by
+abbrev pub mapping_of : List ℕ → Option Casemapping
+mapping_of word =
+    if bytes_eq word (codes "ascii") then Some Ascii
+    else if bytes_eq word (codes "strict-rfc1459") then Some StrictRfc1459
+    else if bytes_eq word (codes "rfc1459") then Some Rfc1459
     else None
 
--- addhost H M, delhost H M, delban C M, global H F, bot H F
-abbrev pub pair_of : List ℕ → Option TwoWords
-pair_of name =
-    if bytes_eq name (codes "addhost") then Some add_host
-    else if bytes_eq name (codes "delhost") then Some del_host
-    else if bytes_eq name (codes "delban") then Some del_ban
-    else if bytes_eq name (codes "global") then Some set_global
-    else if bytes_eq name (codes "bot") then Some set_bot
-    else None
+-- the edit after a person and perhaps a casemapping: without one, the person is compared by rfc1459
+abbrev pub asked_in : List ℕ → Option Casemapping → List ℕ → List (List ℕ) → Option Change
+asked_in person (Some casemapping) word words = option_map (in_name person casemapping) (edit_by_words words)
+asked_in person None word words = option_map (in_name person Rfc1459) (edit_named word words)
 
-abbrev pub pair_change : Option TwoWords → List ℕ → List ℕ → Option Change
-pair_change (Some add_host) a b = Some (AddHost a b)
-pair_change (Some del_host) a b = Some (DelHost a b)
-pair_change (Some del_ban) a b = Some (DelBan (channel_of a) b)
-pair_change (Some set_global) a b = option_map (SetGlobal a) (flags_of b)
-pair_change (Some set_bot) a b = option_map (SetBot a) (flags_of b)
-pair_change None a b = None
+abbrev pub asked_as : List ℕ → List (List ℕ) → Option Change
+asked_as person (word ∷ words) = asked_in person (mapping_of word) word words
+asked_as person [] = None
 
-abbrev pub by_two_words : List ℕ → List ℕ → List ℕ → Option Change
-by_two_words name a b = if is_empty a || is_empty b then None else pair_change (pair_of name) a b
-
--- chan H C F, sticky C M N
-abbrev pub by_three_words : List ℕ → List ℕ → List ℕ → List ℕ → Option Change
-by_three_words name a b c =
-    if is_empty a || is_empty b || is_empty c then None
-    else if bytes_eq name (codes "chan") then option_map (SetChan a b) (flags_of c)
-    else if bytes_eq name (codes "sticky") then option_map (SetSticky (channel_of a) b) (mark_of c)
-    else None
-
--- addban C M H E, and the comment
-abbrev pub ban_of : List ℕ → List ℕ → List ℕ → Option ℕ → Option (List ℕ) → Option Change
-ban_of c m h (Some expires) (Some comment) = Some (AddBan (channel_of c) m h expires comment)
-ban_of c m h (Some expires) None = None
-ban_of c m h None comment = None
-
-abbrev pub by_more_words : List ℕ → List ℕ → List ℕ → List ℕ → List ℕ → List (List ℕ) → Option Change
-by_more_words name c m h e words =
-    if is_empty c || is_empty m || is_empty h then None
-    else if bytes_eq name (codes "addban") then ban_of c m h (expiry_of e) (comment_of words)
-    else None
-
--- every change but info, by its number of words
-abbrev pub change_by_count : List ℕ → List (List ℕ) → Option Change
-change_by_count name (a ∷ []) = by_one_word name a
-change_by_count name (a ∷ b ∷ []) = by_two_words name a b
-change_by_count name (a ∷ b ∷ c ∷ []) = by_three_words name a b c
-change_by_count name (a ∷ b ∷ c ∷ d ∷ words) = by_more_words name a b c d words
-change_by_count name [] = None
-
--- info H, and the text; without a text the info is emptied
-abbrev pub info_by_words : List (List ℕ) → Option Change
-info_by_words (h ∷ words) = if is_empty h then None else option_map (SetInfo h) (comment_of words)
-info_by_words [] = None
+-- as NICK!USER@HOST EDIT, or as NICK!USER@HOST CASEMAPPING EDIT
+abbrev pub asked_by : List (List ℕ) → Option Change
+asked_by (person ∷ words) = if is_empty person then None else asked_as person words
+asked_by [] = None
 
 abbrev pub change_named : List ℕ → List (List ℕ) → Option Change
-change_named name words = if bytes_eq name (codes "info") then info_by_words words else change_by_count name words
+change_named name words =
+    if bytes_eq name (codes "as") then asked_by words else option_map by_nobody (edit_named name words)
 
 -- the change that words spell, the first of which is the name
 abbrev pub change_by_words : List (List ℕ) → Option Change

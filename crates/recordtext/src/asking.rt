@@ -1,60 +1,38 @@
-// The changes that words spell.
-ghost use Rattle.std.specs.Prelude.{◌≡◌, ◌≢◌, ◌∷◌, map, option_map, None, IfOk, IfErr};
-ghost use Rattle.userfile.specs.declared.change.Change.TheVariants.{SetChan, SetInfo, SetSticky};
-ghost use Rattle.recordtext.specs.Changes.{by_more_words, by_one_word, by_three_words, by_two_words, info_by_words, pair_of};
-ghost use Rattle.recordtext.specs.Changes.{change_named, change_of, channel_of, comment_of, flags_of, mark_of};
+// The changes that words spell: an edit, and perhaps who asks for it.
+ghost use Rattle.std.specs.Prelude.{◌≡◌, ◌≢◌, map, option_map, None, IfOk, IfErr};
+ghost use Rattle.recordtext.specs.Words.{words_of};
+ghost use Rattle.recordtext.specs.Edits.{edit_named};
+ghost use Rattle.recordtext.specs.Changes.{asked_as, asked_by, change_named, change_of, in_name, mapping_of};
+ghost use Rattle.userfile.specs.Changes.{by_nobody};
 
-use crate::numeral::number;
+use crate::editing::{edit_named, edit_of};
 use crate::pieces::first_word;
-use crate::rest::rest_of;
 use bytetext::{NoMemory, Text};
-use flagexpr::Flags;
+use rfccase::Casemapping;
 use std::alloc::Global;
-use userfile::Change;
-
-/// The changes that have two words after their name.
-#[derive(Clone, Copy)]
-pub enum TwoWords {
-    AddHost,
-    DelHost,
-    DelBan,
-    Global,
-    Bot,
-}
+use userfile::{Asker, Change, Edit};
 
 /// Returns the change that `words` spells, with one space between each two words, or `None` if they spell no change.
 ///
 /// # Errors
 /// `NoMemory` if memory cannot be allocated; never if the words spell no change.
+#[tactic(auto, using(crate::proofs::Asks::some_by_nobody))]
 pub fn change_of(alloc: Global, words: &[u8]) -> Result<Option<Change>, NoMemory>
     ensures change { IfOk result (λ change. change ≡ change_of words.now) }
     ensures memory { IfErr result (λ _. change_of words.now ≢ None) }
 {
     let (name, rest) = first_word(words);
-    let Some(rest) = rest else {
-        return change_named(alloc, name, &[]);
-    };
-    let (a, rest) = first_word(rest);
-    let Some(rest) = rest else {
-        return change_named(alloc, name, &[a]);
-    };
-    let (b, rest) = first_word(rest);
-    let Some(rest) = rest else {
-        return change_named(alloc, name, &[a, b]);
-    };
-    let (c, rest) = first_word(rest);
-    let Some(rest) = rest else {
-        return change_named(alloc, name, &[a, b, c]);
-    };
-    let (d, rest) = first_word(rest);
-    let Some(rest) = rest else {
-        return change_named(alloc, name, &[a, b, c, d]);
-    };
-    // Only a text can follow four words, and it takes the rest of the line.
-    change_named(alloc, name, &[a, b, c, d, rest])
+    if name != b"as".as_slice() {
+        return Ok(in_no_name(edit_of(alloc, words)?));
+    }
+    match rest {
+        Some(rest) => asked_in(alloc, rest),
+        None => Ok(None),
+    }
 }
 
-/// Returns the change that is called `name` and has these `words`, or `None` if they spell no change.
+/// Returns the change that is called `name` and has these `words`, or `None` if they spell no change. The change of the
+/// name `as` has who asks and the edit in its words.
 ///
 /// # Errors
 /// `NoMemory` if memory cannot be allocated; never if the words spell no change.
@@ -62,264 +40,117 @@ pub fn change_named(alloc: Global, name: &[u8], words: &[&[u8]]) -> Result<Optio
     ensures change { IfOk result (λ change. change ≡ change_named name.now (map (λ word. word.now) words.now)) }
     ensures memory { IfErr result (λ _. change_named name.now (map (λ word. word.now) words.now) ≢ None) }
 {
-    if name == b"info".as_slice() {
-        return match words {
-            [] => Ok(None),
-            [h, text @ ..] => set_info(alloc, h, text),
-        };
-    }
-    match words {
-        [] => Ok(None),
-        [h] => by_one_word(alloc, name, h),
-        [a, b] => by_two_words(alloc, name, a, b),
-        [a, b, c] => by_three_words(alloc, name, a, b, c),
-        [a, b, c, d, comment @ ..] => by_more_words(alloc, name, a, b, c, d, comment),
+    if name == b"as".as_slice() {
+        asked_by(alloc, words)
+    } else {
+        asked_by_nobody(alloc, name, words)
     }
 }
 
-// info H, and the text.
-fn set_info(alloc: Global, h: &[u8], words: &[&[u8]]) -> Result<Option<Change>, NoMemory>
-    ensures change { IfOk result (λ change. change ≡ info_by_words (h.now ∷ map (λ word. word.now) words.now)) }
-    ensures memory { IfErr result (λ _. info_by_words (h.now ∷ map (λ word. word.now) words.now) ≢ None) }
+// NAME, and the words of the edit, which is asked for in nobody's name.
+#[tactic(auto, using(crate::proofs::Asks::some_by_nobody))]
+fn asked_by_nobody(alloc: Global, name: &[u8], words: &[&[u8]]) -> Result<Option<Change>, NoMemory>
+    ensures change { IfOk result (λ change. change
+        ≡ option_map by_nobody (edit_named name.now (map (λ word. word.now) words.now))) }
+    ensures memory { IfErr result (λ _. option_map by_nobody (edit_named name.now (map (λ word. word.now) words.now))
+        ≢ None) }
 {
-    if h.is_empty() {
-        return Ok(None);
-    }
-    let Some(info) = comment_of(alloc, words)? else {
+    Ok(in_no_name(edit_named(alloc, name, words)?))
+}
+
+// An edit in nobody's name.
+fn in_no_name(edit: Option<Edit>) -> Option<Change>
+    ensures { result ≡ option_map by_nobody edit }
+{
+    Some(Change::by_nobody(edit?))
+}
+
+// PERSON, perhaps CASEMAPPING, and the edit, as words.
+fn asked_by(alloc: Global, words: &[&[u8]]) -> Result<Option<Change>, NoMemory>
+    ensures change { IfOk result (λ change. change ≡ asked_by (map (λ word. word.now) words.now)) }
+    ensures memory { IfErr result (λ _. asked_by (map (λ word. word.now) words.now) ≢ None) }
+{
+    let [person, word, words @ ..] = words else {
         return Ok(None);
     };
-    let handle = Text::from_slice(alloc, h)?;
-    Ok(Some(Change::SetInfo { handle, info }))
-}
-
-// NAME H
-fn by_one_word(alloc: Global, name: &[u8], h: &[u8]) -> Result<Option<Change>, NoMemory>
-    ensures change { IfOk result (λ change. change ≡ by_one_word name.now h.now) }
-    ensures memory { IfErr result (λ _. by_one_word name.now h.now ≢ None) }
-{
-    if h.is_empty() {
+    if person.is_empty() {
         return Ok(None);
     }
-    if name == b"adduser".as_slice() {
-        let handle = Text::from_slice(alloc, h)?;
-        Ok(Some(Change::AddUser { handle }))
-    } else if name == b"deluser".as_slice() {
-        let handle = Text::from_slice(alloc, h)?;
-        Ok(Some(Change::DelUser { handle }))
-    } else {
-        Ok(None)
-    }
+    let Some(casemapping) = mapping_of(word) else {
+        let edit = edit_named(alloc, word, words)?;
+        return in_name(alloc, person, Casemapping::Rfc1459, edit);
+    };
+    let [name, words @ ..] = words else {
+        return Ok(None);
+    };
+    let edit = edit_named(alloc, name, words)?;
+    in_name(alloc, person, casemapping, edit)
 }
 
-// addhost H M, delhost H M, delban C M, global H F, bot H F
-fn by_two_words(alloc: Global, name: &[u8], a: &[u8], b: &[u8]) -> Result<Option<Change>, NoMemory>
-    ensures change { IfOk result (λ change. change ≡ by_two_words name.now a.now b.now) }
-    ensures memory { IfErr result (λ _. by_two_words name.now a.now b.now ≢ None) }
+// PERSON, perhaps CASEMAPPING, and the edit, as the rest of a line.
+fn asked_in(alloc: Global, words: &[u8]) -> Result<Option<Change>, NoMemory>
+    ensures change { IfOk result (λ change. change ≡ asked_by (words_of words.now)) }
+    ensures memory { IfErr result (λ _. asked_by (words_of words.now) ≢ None) }
 {
-    if a.is_empty() || b.is_empty() {
+    let (person, rest) = first_word(words);
+    if person.is_empty() {
         return Ok(None);
     }
-    match pair_of(name) {
-        Some(TwoWords::AddHost) => add_host(alloc, a, b),
-        Some(TwoWords::DelHost) => del_host(alloc, a, b),
-        Some(TwoWords::DelBan) => del_ban(alloc, a, b),
-        Some(TwoWords::Global) => set_global(alloc, a, flags_of(b)),
-        Some(TwoWords::Bot) => set_bot(alloc, a, flags_of(b)),
+    match rest {
+        Some(rest) => asked_as(alloc, person, rest),
         None => Ok(None),
     }
 }
 
-// The change of two words that has this name.
-fn pair_of(name: &[u8]) -> Option<TwoWords>
-    ensures { result ≡ pair_of name.now }
+// Perhaps CASEMAPPING, and the edit.
+fn asked_as(alloc: Global, person: &[u8], words: &[u8]) -> Result<Option<Change>, NoMemory>
+    ensures change { IfOk result (λ change. change ≡ asked_as person.now (words_of words.now)) }
+    ensures memory { IfErr result (λ _. asked_as person.now (words_of words.now) ≢ None) }
 {
-    if name == b"addhost".as_slice() {
-        Some(TwoWords::AddHost)
-    } else if name == b"delhost".as_slice() {
-        Some(TwoWords::DelHost)
-    } else if name == b"delban".as_slice() {
-        Some(TwoWords::DelBan)
-    } else if name == b"global".as_slice() {
-        Some(TwoWords::Global)
-    } else if name == b"bot".as_slice() {
-        Some(TwoWords::Bot)
+    let (word, rest) = first_word(words);
+    let Some(casemapping) = mapping_of(word) else {
+        let edit = edit_of(alloc, words)?;
+        return in_name(alloc, person, Casemapping::Rfc1459, edit);
+    };
+    let Some(rest) = rest else {
+        return Ok(None);
+    };
+    let edit = edit_of(alloc, rest)?;
+    in_name(alloc, person, casemapping, edit)
+}
+
+// An edit in the name of a person.
+fn in_name(
+    alloc: Global,
+    person: &[u8],
+    casemapping: Casemapping,
+    edit: Option<Edit>,
+) -> Result<Option<Change>, NoMemory>
+    ensures change { IfOk result (λ change. change ≡ option_map (in_name person.now casemapping) edit) }
+    ensures memory { IfErr result (λ _. edit ≢ None) }
+{
+    let Some(edit) = edit else {
+        return Ok(None);
+    };
+    let person = Text::from_slice(alloc, person)?;
+    let asker = Asker {
+        person,
+        casemapping,
+    };
+    Ok(Some(Change::by_person(asker, edit)))
+}
+
+/// Returns the casemapping that a server announces by this name: `ascii`, `strict-rfc1459` or `rfc1459`.
+pub fn mapping_of(word: &[u8]) -> Option<Casemapping>
+    ensures { result ≡ mapping_of word.now }
+{
+    if word == b"ascii".as_slice() {
+        Some(Casemapping::Ascii)
+    } else if word == b"strict-rfc1459".as_slice() {
+        Some(Casemapping::StrictRfc1459)
+    } else if word == b"rfc1459".as_slice() {
+        Some(Casemapping::Rfc1459)
     } else {
         None
-    }
-}
-
-fn add_host(alloc: Global, h: &[u8], m: &[u8]) -> Result<Option<Change>, NoMemory>
-    ensures { IfOk result (λ change. change ≡ Some (Change.AddHost h.now m.now)) }
-{
-    let handle = Text::from_slice(alloc, h)?;
-    let mask = Text::from_slice(alloc, m)?;
-    Ok(Some(Change::AddHost { handle, mask }))
-}
-
-fn del_host(alloc: Global, h: &[u8], m: &[u8]) -> Result<Option<Change>, NoMemory>
-    ensures { IfOk result (λ change. change ≡ Some (Change.DelHost h.now m.now)) }
-{
-    let handle = Text::from_slice(alloc, h)?;
-    let mask = Text::from_slice(alloc, m)?;
-    Ok(Some(Change::DelHost { handle, mask }))
-}
-
-fn del_ban(alloc: Global, c: &[u8], m: &[u8]) -> Result<Option<Change>, NoMemory>
-    ensures { IfOk result (λ change. change ≡ Some (Change.DelBan (channel_of c.now) m.now)) }
-{
-    let channel = Text::from_slice(alloc, channel_of(c))?;
-    let mask = Text::from_slice(alloc, m)?;
-    Ok(Some(Change::DelBan { channel, mask }))
-}
-
-fn set_global(alloc: Global, h: &[u8], flags: Option<Flags>) -> Result<Option<Change>, NoMemory>
-    ensures change { IfOk result (λ change. change ≡ option_map (λ f. Change.SetGlobal h.now f) flags) }
-    ensures memory { IfErr result (λ _. flags ≢ None) }
-{
-    let Some(flags) = flags else {
-        return Ok(None);
-    };
-    let handle = Text::from_slice(alloc, h)?;
-    Ok(Some(Change::SetGlobal { handle, flags }))
-}
-
-fn set_bot(alloc: Global, h: &[u8], flags: Option<Flags>) -> Result<Option<Change>, NoMemory>
-    ensures change { IfOk result (λ change. change ≡ option_map (λ f. Change.SetBot h.now f) flags) }
-    ensures memory { IfErr result (λ _. flags ≢ None) }
-{
-    let Some(flags) = flags else {
-        return Ok(None);
-    };
-    let handle = Text::from_slice(alloc, h)?;
-    Ok(Some(Change::SetBot { handle, flags }))
-}
-
-// chan H C F, sticky C M N
-fn by_three_words(
-    alloc: Global,
-    name: &[u8],
-    a: &[u8],
-    b: &[u8],
-    c: &[u8],
-) -> Result<Option<Change>, NoMemory>
-    ensures change { IfOk result (λ change. change ≡ by_three_words name.now a.now b.now c.now) }
-    ensures memory { IfErr result (λ _. by_three_words name.now a.now b.now c.now ≢ None) }
-{
-    if a.is_empty() || b.is_empty() || c.is_empty() {
-        return Ok(None);
-    }
-    if name == b"chan".as_slice() {
-        set_chan(alloc, a, b, flags_of(c))
-    } else if name == b"sticky".as_slice() {
-        set_sticky(alloc, a, b, mark_of(c))
-    } else {
-        Ok(None)
-    }
-}
-
-fn set_chan(
-    alloc: Global,
-    h: &[u8],
-    c: &[u8],
-    flags: Option<Flags>,
-) -> Result<Option<Change>, NoMemory>
-    ensures change { IfOk result (λ change. change ≡ option_map (SetChan h.now c.now) flags) }
-    ensures memory { IfErr result (λ _. flags ≢ None) }
-{
-    let Some(flags) = flags else {
-        return Ok(None);
-    };
-    let handle = Text::from_slice(alloc, h)?;
-    let channel = Text::from_slice(alloc, c)?;
-    Ok(Some(Change::SetChan {
-        handle,
-        channel,
-        flags,
-    }))
-}
-
-fn set_sticky(
-    alloc: Global,
-    c: &[u8],
-    m: &[u8],
-    mark: Option<bool>,
-) -> Result<Option<Change>, NoMemory>
-    ensures change { IfOk result (λ change. change ≡ option_map (SetSticky (channel_of c.now) m.now) mark) }
-    ensures memory { IfErr result (λ _. mark ≢ None) }
-{
-    let Some(on) = mark else {
-        return Ok(None);
-    };
-    let channel = Text::from_slice(alloc, channel_of(c))?;
-    let mask = Text::from_slice(alloc, m)?;
-    Ok(Some(Change::SetSticky { channel, mask, on }))
-}
-
-// addban C M H E, and the comment.
-fn by_more_words(
-    alloc: Global,
-    name: &[u8],
-    c: &[u8],
-    m: &[u8],
-    h: &[u8],
-    e: &[u8],
-    words: &[&[u8]],
-) -> Result<Option<Change>, NoMemory>
-    ensures change { IfOk result (λ change. change ≡ by_more_words name.now c.now m.now h.now e.now
-        (map (λ word. word.now) words.now)) }
-    ensures memory { IfErr result (λ _. by_more_words name.now c.now m.now h.now e.now
-        (map (λ word. word.now) words.now) ≢ None) }
-{
-    if c.is_empty() || m.is_empty() || h.is_empty() || name != b"addban".as_slice() {
-        return Ok(None);
-    }
-    let Some(expires) = number(e) else {
-        return Ok(None);
-    };
-    let Some(comment) = comment_of(alloc, words)? else {
-        return Ok(None);
-    };
-    Ok(Some(Change::AddBan {
-        channel: Text::from_slice(alloc, channel_of(c))?,
-        mask: Text::from_slice(alloc, m)?,
-        creator: Text::from_slice(alloc, h)?,
-        expires,
-        comment,
-    }))
-}
-
-// Letters, or - for no flags.
-fn flags_of(word: &[u8]) -> Option<Flags>
-    ensures { result ≡ flags_of word.now }
-{
-    match Flags::parse(word) {
-        Ok(flags) => Some(flags),
-        Err(_) => None,
-    }
-}
-
-// The channel of a ban: `*` means all of them.
-fn channel_of(word: &[u8]) -> &[u8]
-    ensures { result.now ≡ channel_of word.now }
-{
-    if word == b"*".as_slice() { b"" } else { word }
-}
-
-// Whether a ban is sticky: 1 if it is, 0 if it is not.
-fn mark_of(word: &[u8]) -> Option<bool>
-    ensures { result ≡ mark_of word.now }
-{
-    let number = number(word)?;
-    if number < 2 { Some(number == 1) } else { None }
-}
-
-// A comment is the rest of the line. It may be left out, but not be empty.
-fn comment_of(alloc: Global, words: &[&[u8]]) -> Result<Option<Text>, NoMemory>
-    ensures comment { IfOk result (λ comment. comment ≡ comment_of (map (λ word. word.now) words.now)) }
-    ensures memory { IfErr result (λ _. comment_of (map (λ word. word.now) words.now) ≢ None) }
-{
-    match words {
-        [] => Ok(Some(Text::empty(alloc))),
-        [first, rest @ ..] => rest_of(alloc, first, rest),
     }
 }

@@ -4,6 +4,8 @@ use Rattle.userfile.specs.Records.{Records}
 use Rattle.procs.specs.Promises.{Promised}
 use Rattle.protocol.specs.Packets.{AcceptedChange}
 use Rattle.protocol.specs.History.{History, start, records_of}
+use Rattle.protocol.specs.Rights.{KeepsRights}
+use Rattle.protocol.proofs.Rights.{rights}
 use Rattle.botcore.specs.Links.{link_version, link_records}
 use Rattle.processes.specs.Deeds.{Net, Deed, Happens, Run, IsFirst, after_deed, net_after, shown_version, shown_records}
 use Rattle.processes.specs.Standing.{Stands, Leads}
@@ -100,7 +102,7 @@ module _ (promised : Promised) (folders : ℕ → Folder) (leaves : ℕ) (first 
       }
 
   pub world_accepted : (world : List Happening) → IsFirst leaves first → IsWorld promised folders leaves first world
-      → (changes : List AcceptedChange) × AreAccepted folders world changes
+      → (changes : List AcceptedChange) × AreAccepted folders world changes × KeepsRights changes
   world_accepted world is_first is =
       let all = so_far world is_first is in
-      (all.moment.hub.kept.accepted, all.accepted)
+      (all.moment.hub.kept.accepted, all.accepted, rights all.moment all.stands.moment.sound)

@@ -3,7 +3,8 @@
 use Rattle.std.proofs.Common.{◌≡◌, ◌==◌, inl, inr, ℕ, zero, suc, Bool, true, false, List, [], ◌∷◌, slice_get, None, Some, Ok, refl, subst, arith}
 use Rattle.userfile.specs.Shapes.{is_handle}
 use Rattle.userfile.specs.declared.change.Change.{Change as UserChange}
-use Rattle.userfile.specs.declared.change.Change.TheVariants.{AddUser}
+use Rattle.userfile.specs.Changes.{by_nobody}
+use Rattle.userfile.specs.declared.edit.Edit.TheVariants.{AddUser}
 use Rattle.usercodec.specs.Changes.{IsGoodChange}
 use Rattle.sharewire.specs.declared.packet.Packet.{Packet}
 use Rattle.sharewire.specs.declared.packet.Packet.TheVariants.{Change}
@@ -44,7 +45,7 @@ use Rattle.runlaws.proofs.Journaling.{closed_gate, Keep, new_device, bytes_with,
 -- ---- the change
 
 abbrev change : UserChange
-change = AddUser (97 ∷ [])
+change = by_nobody (AddUser (97 ∷ []))
 
 good_change : IsGoodChange change
 unfolding is_handle

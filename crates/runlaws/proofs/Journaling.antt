@@ -3,6 +3,7 @@ use Rattle.std.proofs.Common.{◌≡◌, ◌≢◌, ◌∙◌, ◌⊎◌, inl, i
 use Rattle.std.proofs.lemmas.List.{take_at}
 use Rattle.std.proofs.lemmas.Nat.{from_be_bytes-to_be_bytes_4}
 use Rattle.std.proofs.Math.Seq.{get_or-append_seam}
+use Rattle.std.specs.Prelude.{option_map}
 use Rattle.std.specs.Int.{w32, to_be_bytes}
 use Rattle.disks.specs.Events.{Event, Images, LeftSince, Torn}
 use Rattle.disks.specs.State.{State, may_leave, left_since}
@@ -15,13 +16,15 @@ use Rattle.bytejournal.proofs.Images.{Means, entry_bytes as entry_text, at_gate,
 use Rattle.botjournal.specs.declared.TheConstants.{LAYOUT}
 use Rattle.botjournal.specs.declared.base.Base.{Base}
 use Rattle.botjournal.specs.declared.entry.Entry.{Entry}
-use Rattle.botjournal.specs.Bases.{base_bytes, base_in, IsGoodBase}
-use Rattle.botjournal.specs.Entries.{entry_bytes, entry_in, IsGoodEntry}
-use Rattle.botjournal.specs.Contents.{Contents, added, new_contents, before_others, entries_in, with_base, spelled, where_spelled, checked, typed, meaning}
+use Rattle.botjournal.specs.declared.sums.Seal.{Seal}
+use Rattle.botjournal.specs.Bases.{base_bytes, IsGoodBase}
+use Rattle.botjournal.specs.Entries.{entry_bytes, IsGoodEntry}
+use Rattle.botjournal.specs.Sums.{start as start_of_sums, sealed, after}
+use Rattle.botjournal.specs.Contents.{Contents, added, new_contents, spelled, where_spelled, checked, typed, meaning}
 use Rattle.botjournal.specs.Ledger.{Device}
-use Rattle.botjournal.proofs.BaseLaws.{base_again}
-use Rattle.botjournal.proofs.EntryLaws.{entry_again}
 use Rattle.botjournal.proofs.LengthLaws.{base_is_short, entry_is_short}
+use Rattle.botjournal.proofs.SumLaws.{step_sealed, through_one}
+use Rattle.botjournal.proofs.JournalLaws.{spelled_alone, typed_added}
 
 -- the other disk, on which nothing was written but a closed gate
 abbrev pub closed_gate : List ℕ
@@ -64,9 +67,19 @@ inside_of front = omega (arith, length-append front (0 ∷ []))
 take_long : (n : ℕ) (file : List ℕ) → n < length file → length (take (n + 1) file) ≡ n + 1
 take_long n file inside = omega (arith, length-take (n + 1) file, inside)
 
+-- its base and its first entry, each with its sum
+abbrev pub base_text : Base → List ℕ
+base_text base = sealed (start_of_sums LAYOUT 1) (base_bytes base)
+
+abbrev pub seal_of : Base → Seal
+seal_of base = after (start_of_sums LAYOUT 1) (base_bytes base)
+
+abbrev pub entry_sealed : Base → Entry → List ℕ
+entry_sealed base entry = sealed (seal_of base) (entry_bytes entry)
+
 -- its bytes before its first gate
 abbrev pub front_of : Base → List ℕ
-front_of base = start LAYOUT (to_be_bytes w32 1) (to_be_bytes w32 (length (base_bytes base))) (base_bytes base)
+front_of base = start LAYOUT (to_be_bytes w32 1) (to_be_bytes w32 (length (base_text base))) (base_text base)
 
 abbrev pub new_bytes : Base → List ℕ
 new_bytes base = front_of base ++ 0 ∷ []
@@ -78,13 +91,13 @@ abbrev pub gate_of : Base → ℕ
 gate_of base = length (front_of base)
 
 abbrev pub new_texts : Base → Texts
-new_texts base = record { layout = LAYOUT; generation = 1; base = base_bytes base; entries = [] }
+new_texts base = record { layout = LAYOUT; generation = 1; base = base_text base; entries = [] }
 
 module _ (base : Base) (good : IsGoodBase base) where
   new_front : IsFront (take (gate_of base) (new_bytes base)) (new_texts base)
   new_front = subst (λ (l : List ℕ). IsFront l (new_texts base)) (sym (take_at (front_of base) (0 ∷ []) (gate_of base) refl))
-      (front_start LAYOUT (to_be_bytes w32 1) (to_be_bytes w32 (length (base_bytes base))) (base_bytes base) refl refl
-      (from_be_bytes-to_be_bytes_4 (length (base_bytes base)) (base_is_short base good)))
+      (front_start LAYOUT (to_be_bytes w32 1) (to_be_bytes w32 (length (base_text base))) (base_text base) refl refl
+      (from_be_bytes-to_be_bytes_4 (length (base_text base)) (base_is_short base good (start_of_sums LAYOUT 1))))
 
   new_inside : gate_of base < length (new_bytes base)
   new_inside = inside_of (front_of base)
@@ -93,7 +106,7 @@ module _ (base : Base) (good : IsGoodBase base) where
   new_shut = λ is_one. no_gate (sym (get_or-append_seam (front_of base) 0 [] 0) ∙ is_one)
 
   new_spells : spelled (new_texts base) ≡ Some (new_contents base)
-  new_spells = ap (λ (o : Option Base). with_base LAYOUT 1 o (Some [])) (base_again base good)
+  new_spells = spelled_alone 1 base good
 
   pub new_keeps : Keep (new_bytes base) closed_gate (new_contents base)
   new_keeps = keep (new_texts base) (new_contents base) (new_bytes base) new_spells
@@ -102,16 +115,16 @@ module _ (base : Base) (good : IsGoodBase base) where
 -- ---- its first entry
 
 -- what is written after the gate
-abbrev pub text_of : Entry → List ℕ
-text_of entry = entry_text (entry_bytes entry) ++ 0 ∷ []
+abbrev pub text_of : Base → Entry → List ℕ
+text_of base entry = entry_text (entry_sealed base entry) ++ 0 ∷ []
 
 -- the bytes once this is written, and once the gate is opened
 abbrev pub text_there : Base → Entry → List ℕ
 text_there base entry = take (gate_of base + 1) (new_bytes base)
-    ++ (text_of entry ++ drop (gate_of base + 1 + length (text_of entry)) (new_bytes base))
+    ++ (text_of base entry ++ drop (gate_of base + 1 + length (text_of base entry)) (new_bytes base))
 
 abbrev pub bytes_with : Base → Entry → List ℕ
-bytes_with base entry = with_gate (new_bytes base) (gate_of base) (text_of entry) 1
+bytes_with base entry = with_gate (new_bytes base) (gate_of base) (text_of base entry) 1
 
 abbrev pub written : (at len : ℕ) → List ℕ → Event
 written at len before = record { is_write = true; is_opening = false; at = at; len = len; seen = before }
@@ -121,7 +134,7 @@ synced before = record { is_write = false; is_opening = false; at = 0; len = 0; 
 
 -- the text is written and synced, and then the open gate is
 abbrev pub text_write : Base → Entry → Event
-text_write base entry = written (gate_of base + 1) (length (text_of entry)) (new_bytes base)
+text_write base entry = written (gate_of base + 1) (length (text_of base entry)) (new_bytes base)
 
 abbrev pub gate_write : Base → Entry → Event
 gate_write base entry = written (gate_of base) 1 (text_there base entry)
@@ -140,35 +153,30 @@ opened_device base entry = record { first = disk_of [] (bytes_with base entry); 
 abbrev pub contents_with : Base → Entry → Contents
 contents_with base entry = added entry (new_contents base)
 
--- a layout that spells a base and an entry spells both
-spell_both : (layout : _) (base : Base) (entry : Entry) → base_in layout (base_bytes base) ≡ Some base
-    → entry_in layout (entry_bytes entry) ≡ Some entry
-    → with_base LAYOUT 1 (base_in layout (base_bytes base)) (entries_in layout (entry_bytes entry ∷ []))
-    ≡ Some (contents_with base entry)
-spell_both layout base entry b e =
-    ap (λ (o : Option Base). with_base LAYOUT 1 o (before_others (entry_in layout (entry_bytes entry)) (Some []))) b
-    ∙ ap (λ (o : Option Entry). with_base LAYOUT 1 (Some base) (before_others o (Some []))) e
-
 module _ (base : Base) (good : IsGoodBase base) (entry : Entry) (fine : IsGoodEntry entry) where
   -- ---- the bytes with the entry
 
-  entry_spells : spelled (added_text (entry_bytes entry) (new_texts base)) ≡ Some (contents_with base entry)
-  entry_spells = spell_both _ base entry (base_again base good) (entry_again _ entry fine)
+  entry_spells : spelled (added_text (entry_sealed base entry) (new_texts base)) ≡ Some (contents_with base entry)
+  entry_spells =
+      typed_added (seal_of base) entry fine (Some (new_texts base)) refl
+      (λ current. through_one (start_of_sums LAYOUT 1) (base_text base) (seal_of base)
+      (step_sealed (start_of_sums LAYOUT 1) (base_bytes base)))
+      ∙ ap (option_map (added entry)) (new_spells base good)
 
-  keeps_with : (image : List ℕ) → Means image (Open (added_text (entry_bytes entry) (new_texts base)))
+  keeps_with : (image : List ℕ) → Means image (Open (added_text (entry_sealed base entry) (new_texts base)))
       → Keep image closed_gate (contents_with base entry)
   keeps_with image means =
-      keep (added_text (entry_bytes entry) (new_texts base)) (contents_with base entry) image entry_spells means
+      keep (added_text (entry_sealed base entry) (new_texts base)) (contents_with base entry) image entry_spells means
 
   pub with_keeps : Keep (bytes_with base entry) closed_gate (contents_with base entry)
   with_keeps = keeps_with (bytes_with base entry)
       (after_append (new_bytes base) (gate_of base) (new_texts base) (new_front base good) (new_inside base good) (new_shut base good)
-      (entry_bytes entry) (entry_is_short entry fine))
+      (entry_sealed base entry) (entry_is_short entry fine (seal_of base)))
 
   -- ---- at each moment of the append
 
   abbrev IsHalf : List ℕ → Type 0
-  IsHalf image = IsHalfWritten (new_bytes base) (gate_of base) (text_of entry) image
+  IsHalf image = IsHalfWritten (new_bytes base) (gate_of base) (text_of base entry) image
 
   -- the gate and what is before it are as they were
   old_gate : (image : List ℕ) → image ≡ new_bytes base → IsHalf image
@@ -179,18 +187,18 @@ module _ (base : Base) (good : IsGoodBase base) (entry : Entry) (fine : IsGoodEn
       let long = take_long (gate_of base) (new_bytes base) (new_inside base good) in
       inl (ap (λ (l : List ℕ). take (gate_of base + 1) l) is
       ∙ take_at (take (gate_of base + 1) (new_bytes base))
-      (text_of entry ++ drop (gate_of base + 1 + length (text_of entry)) (new_bytes base)) (gate_of base + 1) long)
+      (text_of base entry ++ drop (gate_of base + 1 + length (text_of base entry)) (new_bytes base)) (gate_of base + 1) long)
 
   whole_is : (image : List ℕ) → image ≡ bytes_with base entry → IsHalf image
   whole_is image is = inr (1, is)
 
-  torn_text : (image before : List ℕ) → before ≡ new_bytes base → Torn (gate_of base + 1) (length (text_of entry)) before image
+  torn_text : (image before : List ℕ) → before ≡ new_bytes base → Torn (gate_of base + 1) (length (text_of base entry)) before image
       → IsHalf image
   torn_text image before is torn = inl (torn.before ∙ ap (λ (l : List ℕ). take (gate_of base + 1) l) is)
 
   gate_torn : (image before : List ℕ) → before ≡ text_there base entry → Torn (gate_of base) 1 before image → IsHalf image
   gate_torn image before is torn =
-      torn_gate (new_bytes base) (text_of entry) (text_there base entry) (gate_of base) (new_inside base good) refl image
+      torn_gate (new_bytes base) (text_of base entry) (text_there base entry) (gate_of base) (new_inside base good) refl image
       (subst (λ (l : List ℕ). Torn (gate_of base) 1 l image) is torn)
 
   -- what a crash may leave, by the moment, from the last one back
@@ -239,7 +247,7 @@ module _ (base : Base) (good : IsGoodBase base) (entry : Entry) (fine : IsGoodEn
       → Keep x y (new_contents base) ⊎ Keep x y (contents_with base entry)
   appending x y left other =
       elim (while_appending (new_bytes base) (gate_of base) (new_texts base) (new_front base good) (new_inside base good)
-      (new_shut base good) (entry_bytes entry) (entry_is_short entry fine) x (at_any_moment x left)) [
+      (new_shut base good) (entry_sealed base entry) (entry_is_short entry fine (seal_of base)) x (at_any_moment x left)) [
         | inl means ↦ inl (subst (λ (z : List ℕ). Keep x z (new_contents base)) (sym other)
             (keep (new_texts base) (new_contents base) x (new_spells base good) means))
         | inr means ↦ inr (subst (λ (z : List ℕ). Keep x z (contents_with base entry)) (sym other) (keeps_with x means))

@@ -1,6 +1,7 @@
 // The laws of worlds: processes of bots, the network and the files.
 ghost use Rattle.std.specs.Prelude.{◌≡◌, ◌≤◌, ◌++◌, ℕ, List, slice_get, Some};
 ghost use Rattle.protocol.specs.Packets.{AcceptedChange};
+ghost use Rattle.protocol.specs.Rights.{KeepsRights};
 ghost use Rattle.botcore.specs.declared.config.Config.{Config};
 ghost use Rattle.botcore.specs.Bots.{Bot};
 ghost use Rattle.botcore.specs.Links.{link_version, link_records};
@@ -29,10 +30,11 @@ pub fn laws_of_worlds<P: Promise>()
         → IsFirst count first → IsWorld P.promised folders count first world → AreDeeds P.promised folders first world }
     // The changes that the hub has accepted are a list that grows as the reports of the hub's steps say. The end of a
     // process, or a bot that begins, adds at most the change that the hub was journaling. At each moment a bot at version v
-    // holds the records that the first v of these changes make.
+    // holds the records that the first v of these changes make. The list keeps the rights of persons: each change for which a
+    // person asked was that person's right, by the records just before it, and nobody climbs.
     ensures accepted { (folders : ℕ → Folder) (count : ℕ) (first : Net) (world : List Happening)
         → IsFirst count first → IsWorld P.promised folders count first world
-        → (changes : List AcceptedChange) × AreAccepted folders world changes }
+        → (changes : List AcceptedChange) × AreAccepted folders world changes × KeepsRights changes }
     // At any two moments, bots that processes have at one version hold the same records.
     ensures same_records { (folders : ℕ → Folder) (count : ℕ) (first : Net) (more world : List Happening)
         → IsFirst count first → IsWorld P.promised folders count first (more ++ world) → (one other : ℕ) (a b : Bot)

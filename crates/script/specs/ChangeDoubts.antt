@@ -1,9 +1,13 @@
 -- What is wrong with the words of a change.
-use Rattle.std.specs.Prelude.{ℕ, ◌&&◌, ◌==◌, List, [], ◌∷◌, length, Option, None, Some, is_some, if◌then◌else◌}
+use Rattle.std.specs.Prelude.{ℕ, ◌&&◌, ◌==◌, List, [], ◌∷◌, length, Option, None, Some, is_some, option_map, if◌then◌else◌, codes}
+use Rattle.std.specs.Str.{bytes_eq}
 use Rattle.flagexpr.specs.Faults.{flags_fault}
 use Rattle.recordtext.specs.Words.{is_empty, number_below}
+use Rattle.recordtext.specs.Changes.{mapping_of}
 use Rattle.script.specs.declared.reason.Reason.{Reason}
 use Rattle.script.specs.declared.reason.Reason.TheVariants.{SpaceAfter, TwoSpaces, Change, ChangeForm, Flags, ChannelFlags, Expiry, Mark}
+use Rattle.script.specs.declared.reason.Reason.TheVariants.{AskerForm}
+use Rattle.script.specs.Askers.{in_name}
 use Rattle.script.specs.declared.change_word.ChangeWord.{ChangeWord}
 use Rattle.script.specs.declared.change_word.ChangeWord.TheVariants.{AddUser, DelUser, AddHost, DelHost, DelBan, Global, Bot, Chan, AddBan, Info, Sticky}
 use Rattle.script.specs.Vocabulary.{change_word_named}
@@ -140,6 +144,26 @@ abbrev pub change_found : Option ChangeWord → List ℕ → List (List ℕ) →
 change_found (Some word) name words = change_doubt word words
 change_found None name words = Some (misread (gap_before words) Change name)
 
--- NAME, and the words of the change
+-- NAME, and the words of the edit
+abbrev pub edit_doubt : List ℕ → List (List ℕ) → Option Reason
+edit_doubt name words = change_found (change_word_named name) name words
+
+-- the edit after who asks and a casemapping
+abbrev pub mapped_doubt : List (List ℕ) → Option Reason
+mapped_doubt [] = Some AskerForm
+mapped_doubt (name ∷ words) = option_map in_name (edit_doubt name words)
+
+-- the same, where the casemapping may be left out
+abbrev pub asked_doubt : List (List ℕ) → Option Reason
+asked_doubt [] = Some AskerForm
+asked_doubt (word ∷ words) =
+    if is_some (mapping_of word) then mapped_doubt words else option_map in_name (edit_doubt word words)
+
+-- NICK!USER@HOST, perhaps CASEMAPPING, and the edit
+abbrev pub asker_doubt : List (List ℕ) → Option Reason
+asker_doubt [] = Some AskerForm
+asker_doubt (person ∷ words) = first_of (gap_doubt (gap_before words) person) (asked_doubt words)
+
+-- an edit, or who asks for one
 abbrev pub ask_doubt : List ℕ → List (List ℕ) → Option Reason
-ask_doubt name words = change_found (change_word_named name) name words
+ask_doubt name words = if bytes_eq name (codes "as") then asker_doubt words else edit_doubt name words

@@ -1,7 +1,9 @@
 pub use Rattle.recordtext.specs.Words
+pub use Rattle.recordtext.specs.Edits
 pub use Rattle.recordtext.specs.Changes
 pub mod Vocabulary
 pub mod Spacing
+pub mod Askers
 pub mod ChangeDoubts
 pub mod Doubts
 pub mod LineReasons

@@ -10,6 +10,7 @@ use Rattle.script.specs.Doubts.{doubt_of}
 abbrev pub is_form : Reason → Bool
 is_form (reason.Form verb) = true
 is_form (reason.ChangeForm word) = true
+is_form reason.AskerForm = true
 is_form reason.TooLong = false
 is_form reason.NoCommand = false
 is_form reason.CarriageReturn = false
@@ -29,6 +30,10 @@ is_form reason.Flags = false
 is_form reason.ChannelFlags = false
 is_form reason.Expiry = false
 is_form reason.Mark = false
+is_form reason.NamedChange = false
+is_form reason.NamedFlags = false
+is_form reason.NamedExpiry = false
+is_form reason.NamedMark = false
 is_form reason.Kind = false
 is_form reason.LeavesFirst = false
 is_form reason.LeavesAgain = false

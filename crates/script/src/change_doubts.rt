@@ -1,17 +1,71 @@
 // Which word of a change is wrong, or that there are too few or too many.
-ghost use Rattle.std.specs.Prelude.{◌≡◌, map};
-ghost use Rattle.script.specs.ChangeDoubts.{ask_doubt, ban_doubt, change_doubt, comment_doubt, counted_doubt, expiry_doubt, first_of};
-ghost use Rattle.script.specs.ChangeDoubts.{flags_doubt, four_doubt, gap_doubt, gaps_doubt, info_doubt, mark_doubt, one_doubt, text_doubt, three_doubt, two_doubt};
+ghost use Rattle.std.specs.Prelude.{◌≡◌, map, option_map};
+ghost use Rattle.script.specs.Askers.{in_name};
+ghost use Rattle.script.specs.ChangeDoubts.{ask_doubt, asked_doubt, asker_doubt, ban_doubt, change_doubt, comment_doubt, counted_doubt, expiry_doubt, first_of};
+ghost use Rattle.script.specs.ChangeDoubts.{flags_doubt, edit_doubt, four_doubt, gap_doubt, gaps_doubt, info_doubt, mapped_doubt, mark_doubt, one_doubt, text_doubt};
+ghost use Rattle.script.specs.ChangeDoubts.{three_doubt, two_doubt};
 
 use crate::change_word::ChangeWord;
 use crate::reason::Reason;
 use crate::spacing::{gap_before, misread};
 use flagexpr::Flags;
-use recordtext::number;
+use recordtext::{mapping_of, number};
 
-/// Returns what is wrong with the change that is called `name` and has these `words`, or `None` if it is right.
+/// Returns what is wrong with the change that is called `name` and has these `words`, or `None` if it is right. The change
+/// of the name `as` has who asks and the edit in its words.
 pub fn ask_doubt(name: &[u8], words: &[&[u8]]) -> Option<Reason>
     ensures { result ≡ ask_doubt name.now (map (λ word. word.now) words.now) }
+{
+    if name == b"as".as_slice() {
+        asker_doubt(words)
+    } else {
+        edit_doubt(name, words)
+    }
+}
+
+// NICK!USER@HOST, perhaps CASEMAPPING, and the edit.
+fn asker_doubt(words: &[&[u8]]) -> Option<Reason>
+    ensures { result ≡ asker_doubt (map (λ word. word.now) words.now) }
+{
+    match words {
+        [] => Some(Reason::AskerForm),
+        [person, words @ ..] => first_of(gap_doubt(gap_before(words), person), asked_doubt(words)),
+    }
+}
+
+// Perhaps CASEMAPPING, and the edit.
+fn asked_doubt(words: &[&[u8]]) -> Option<Reason>
+    ensures { result ≡ asked_doubt (map (λ word. word.now) words.now) }
+{
+    match words {
+        [] => Some(Reason::AskerForm),
+        [word, words @ ..] => match mapping_of(word) {
+            Some(_) => mapped_doubt(words),
+            None => in_name(edit_doubt(word, words)),
+        },
+    }
+}
+
+// The edit after who asks and a casemapping.
+fn mapped_doubt(words: &[&[u8]]) -> Option<Reason>
+    ensures { result ≡ mapped_doubt (map (λ word. word.now) words.now) }
+{
+    match words {
+        [] => Some(Reason::AskerForm),
+        [name, words @ ..] => in_name(edit_doubt(name, words)),
+    }
+}
+
+// What is wrong with an edit that a person asks for: its words stand further on in the line.
+fn in_name(reason: Option<Reason>) -> Option<Reason>
+    ensures { result ≡ option_map in_name reason }
+{
+    Some(reason?.in_name())
+}
+
+// NAME, and the words of the edit.
+fn edit_doubt(name: &[u8], words: &[&[u8]]) -> Option<Reason>
+    ensures { result ≡ edit_doubt name.now (map (λ word. word.now) words.now) }
 {
     match ChangeWord::named(name) {
         Some(word) => change_doubt(word, words),

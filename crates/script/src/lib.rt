@@ -13,11 +13,12 @@
 //! - A TYPE is the word of a kind of binds ([`BindKind`](procs::BindKind)): `raw`, `msg`, `msgm`, `notc`, `pub`,
 //!   `pubm`, `join`, `part`, `sign`, `kick`, `nick`, `mode`, `topc`, `bot`, `time` or `cron`.
 //! - A MASK takes the rest of the line.
-//! - A CHANGE is one that `recordtext` reads, such as `adduser H`.
+//! - A CHANGE is one that `recordtext` reads, such as `adduser H` in nobody's name, or `as NICK!USER@HOST adduser H` in a
+//!   person's.
 //!
 //! Reading a script doesn't check everything. The bot checks, when the command is done, whether N is a moment that its
-//! clock can show, whether a bind exists, and whether flags and masks of binds have a good shape. Handles, masks,
-//! channels and comments are checked when the change is requested.
+//! clock can show, whether a bind exists, and whether flags and masks of binds have a good shape. Persons, handles,
+//! masks, channels and comments are checked when the change is requested.
 //!
 //! ```text
 //! let script = Script::read(alloc, b"leaves 1\nask 0 adduser alice\npump 0\n")?;

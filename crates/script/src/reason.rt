@@ -1,4 +1,7 @@
 // Why a script cannot be read, as a sentence.
+ghost use Rattle.std.specs.Prelude.{◌≡◌};
+ghost use Rattle.script.specs.Askers.{in_name};
+
 use crate::change_word::ChangeWord;
 use crate::verb::Verb;
 use std::fmt;
@@ -41,6 +44,8 @@ pub enum Reason {
     Change,
     /// The line has too few or too many words for this change.
     ChangeForm(ChangeWord),
+    /// The line has too few words for an ask in a person's name.
+    AskerForm,
     /// The fifth word is not flags: those of a user everywhere, or as a bot.
     Flags,
     /// The sixth word is not flags: those of a user on a channel.
@@ -49,6 +54,14 @@ pub enum Reason {
     Expiry,
     /// The sixth word is neither 0 nor 1.
     Mark,
+    /// What follows who asks is neither a casemapping nor the name of a change.
+    NamedChange,
+    /// The last word of a change in a person's name is not flags.
+    NamedFlags,
+    /// The expiry of a ban in a person's name is not a number of seconds.
+    NamedExpiry,
+    /// The last word of a change in a person's name is neither 0 nor 1.
+    NamedMark,
     /// The third word is not a type of binds.
     Kind,
     /// The number of leaves does not come first.
@@ -60,6 +73,43 @@ pub enum Reason {
 }
 
 impl Reason {
+    /// Returns the reason for a change that a person asks for, whose words stand further on in the line.
+    pub(crate) fn in_name(self) -> Reason
+        ensures { result ≡ in_name self }
+    {
+        match self {
+            Reason::Change => Reason::NamedChange,
+            Reason::Flags | Reason::ChannelFlags => Reason::NamedFlags,
+            Reason::Expiry => Reason::NamedExpiry,
+            Reason::Mark => Reason::NamedMark,
+            Reason::TooLong
+            | Reason::NoCommand
+            | Reason::CarriageReturn
+            | Reason::ByteOrderMark
+            | Reason::SpaceBefore
+            | Reason::SpaceAfter
+            | Reason::TwoSpaces
+            | Reason::Tab
+            | Reason::Unknown
+            | Reason::Form(_)
+            | Reason::Leaves
+            | Reason::Zone
+            | Reason::Bot
+            | Reason::Packet
+            | Reason::Seconds
+            | Reason::ChangeForm(_)
+            | Reason::AskerForm
+            | Reason::NamedChange
+            | Reason::NamedFlags
+            | Reason::NamedExpiry
+            | Reason::NamedMark
+            | Reason::Kind
+            | Reason::LeavesFirst
+            | Reason::LeavesAgain
+            | Reason::ZoneLate => self,
+        }
+    }
+
     /// Returns what is wrong, and what to write instead.
     pub fn sentence(self) -> &'static str {
         match self {
@@ -90,6 +140,8 @@ impl Reason {
             Reason::Change =>
                 "word 3 is no change: say adduser, deluser, addhost, delhost, global, bot, chan, addban, delban, info or sticky",
             Reason::ChangeForm(word) => change_form_of(word),
+            Reason::AskerForm =>
+                "say ask B as NICK!USER@HOST CHANGE, as in ask 0 as alice!al@host.example info alice I keep the eggs",
             Reason::Flags => "word 5 is no flags: say letters alone, as in mo, or - for none",
             Reason::ChannelFlags =>
                 "word 6 is no flags: say letters alone, as in mo, or - for none",
@@ -97,6 +149,16 @@ impl Reason {
                 "word 7 is no number: say the seconds since 1970-01-01 UTC, or 0 for a ban that does not end",
             Reason::Mark =>
                 "word 6 is neither 0 nor 1: say 1 for a ban that is to be sticky, or 0 for one that is not",
+            Reason::NamedChange =>
+                "no change follows who asks: say adduser, deluser, addhost, delhost, global, bot, chan, addban, delban, info or \
+                 sticky, or before it ascii, strict-rfc1459 or rfc1459",
+            Reason::NamedFlags =>
+                "the last word is no flags: say letters alone, as in mo, or - for none",
+            Reason::NamedExpiry =>
+                "the word after the handle is no number: say the seconds since 1970-01-01 UTC, or 0 for a ban that does not \
+                 end",
+            Reason::NamedMark =>
+                "the last word is neither 0 nor 1: say 1 for a ban that is to be sticky, or 0 for one that is not",
             Reason::Kind =>
                 "word 3 is no type of binds: say raw, msg, msgm, notc, pub, pubm, join, part, sign, kick, nick, mode, topc, \
                  bot, time or cron",

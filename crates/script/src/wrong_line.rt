@@ -55,7 +55,7 @@ fn is_form(reason: Reason) -> bool
     ensures { result ≡ is_form reason }
 {
     match reason {
-        Reason::Form(_) | Reason::ChangeForm(_) => true,
+        Reason::Form(_) | Reason::ChangeForm(_) | Reason::AskerForm => true,
         Reason::TooLong
         | Reason::NoCommand
         | Reason::CarriageReturn
@@ -75,6 +75,10 @@ fn is_form(reason: Reason) -> bool
         | Reason::ChannelFlags
         | Reason::Expiry
         | Reason::Mark
+        | Reason::NamedChange
+        | Reason::NamedFlags
+        | Reason::NamedExpiry
+        | Reason::NamedMark
         | Reason::Kind
         | Reason::LeavesFirst
         | Reason::LeavesAgain

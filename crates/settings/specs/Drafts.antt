@@ -1,16 +1,18 @@
 -- What the lines of a file say together: which of them is refused after those before it, and what it adds.
-use Rattle.std.specs.Prelude.{ℕ, ◌==◌, Bool, true, false, is_some, List, [], ◌∷◌, ◌++◌, Option, None, Some}
+use Rattle.std.specs.Prelude.{ℕ, ◌==◌, ◌&&◌, Bool, true, false, is_some, List, [], ◌∷◌, ◌++◌, Option, None, Some}
 use Rattle.std.specs.List.{list_any}
 use Rattle.settings.specs.declared.setting_word.SettingWord.{SettingWord}
 use Rattle.settings.specs.declared.setting_word.SettingWord.TheVariants.{Account as account_word, Bot as bot_word, Data as data_word}
 use Rattle.settings.specs.declared.setting_word.SettingWord.TheVariants.{Exclusive as exclusive_word, Hub as hub_word, Listen as listen_word}
 use Rattle.settings.specs.declared.setting_word.SettingWord.TheVariants.{Nick as nick_word, Page as page_word, Secret as secret_word, Zone as zone_word}
 use Rattle.settings.specs.declared.advice.SettingAdvice.{SettingAdvice}
-use Rattle.settings.specs.declared.advice.SettingAdvice.TheVariants.{Again, LogFile as file_again, Once}
+use Rattle.settings.specs.declared.advice.SettingAdvice.TheVariants.{Again, LeafAgain, LogFile as file_again, Once}
 use Rattle.settings.specs.declared.saying.SettingSaying.{SettingSaying}
 use Rattle.settings.specs.declared.saying.SettingSaying.TheVariants.{Nothing, Wrong, Account, Bind, Bot, Channel, Data, Exclusive, Hub, Leaf, Listen}
 use Rattle.settings.specs.declared.saying.SettingSaying.TheVariants.{LogFile, LogJson, LogLines, Nick, Page, Perform, Secret, Server, Zone}
 use Rattle.settings.specs.declared.settings.LeafLine.{LeafLine}
+use Rattle.settings.specs.declared.settings.LeafRule.{LeafRule}
+use Rattle.settings.specs.declared.settings.LeafRule.TheVariants.{Reads, Persons}
 use Rattle.settings.specs.declared.draft.Draft.{Draft}
 
 -- no line is read
@@ -23,7 +25,7 @@ no_line = record {
   servers = [];
   hub = None;
   listen = None;
-  reads = [];
+  limits = [];
   secret = None;
   account = None;
   zone = None;
@@ -46,9 +48,23 @@ abbrev pub once_file : Bool → Option SettingAdvice
 once_file false = None
 once_file true = Some file_again
 
--- so is a line of a leaf that another one is of
+-- so is a line of a leaf that another one is of, whatever that one says
 abbrev pub is_said_of : ℕ → List LeafLine → Bool
 is_said_of leaf lines = list_any (λ line. line.leaf == leaf) lines
+
+abbrev pub leaf_again : Bool → Option SettingAdvice
+leaf_again false = None
+leaf_again true = Some LeafAgain
+
+abbrev pub same_rule : LeafRule → LeafRule → Bool
+same_rule Reads Reads = true
+same_rule Reads Persons = false
+same_rule Persons Reads = false
+same_rule Persons Persons = true
+
+-- one of the lines says this of the leaf
+abbrev pub is_limited : ℕ → LeafRule → List LeafLine → Bool
+is_limited leaf rule lines = list_any (λ line. line.leaf == leaf && same_rule line.rule rule) lines
 
 abbrev pub again : Bool → Option SettingAdvice
 again false = None
@@ -65,7 +81,7 @@ refusal_of draft (Channel channel) = None
 refusal_of draft (Data folder) = once data_word (is_some draft.folder)
 refusal_of draft Exclusive = once exclusive_word draft.exclusive
 refusal_of draft (Hub address) = once hub_word (is_some draft.hub)
-refusal_of draft (Leaf leaf) = again (is_said_of leaf draft.reads)
+refusal_of draft (Leaf leaf rule) = leaf_again (is_said_of leaf draft.limits)
 refusal_of draft (Listen address) = once listen_word (is_some draft.listen)
 refusal_of draft (LogFile path) = once_file (is_some draft.log_file)
 refusal_of draft LogJson = again draft.log_json
@@ -88,7 +104,8 @@ added line draft (Channel channel) = record draft { channels = draft.channels ++
 added line draft (Data folder) = record draft { folder = Some folder }
 added line draft Exclusive = record draft { exclusive = true }
 added line draft (Hub address) = record draft { hub = Some address }
-added line draft (Leaf leaf) = record draft { reads = draft.reads ++ record { line = line; leaf = leaf } ∷ [] }
+added line draft (Leaf leaf rule) =
+    record draft { limits = draft.limits ++ record { line = line; leaf = leaf; rule = rule } ∷ [] }
 added line draft (Listen address) = record draft { listen = Some address }
 added line draft (LogFile path) = record draft { log_file = Some path }
 added line draft LogJson = record draft { log_json = true }

@@ -14,6 +14,8 @@ use Rattle.settings.specs.declared.advice.SettingAdvice.TheVariants.{Form, Key, 
 use Rattle.settings.specs.declared.saying.SettingSaying.{SettingSaying}
 use Rattle.settings.specs.declared.saying.SettingSaying.TheVariants.{Nothing, Wrong, Account, Bind, Bot, Channel, Data, Exclusive, Hub, Leaf, Listen}
 use Rattle.settings.specs.declared.saying.SettingSaying.TheVariants.{LogFile, LogJson, LogLines, Nick, Page, Perform, Secret, Server, Zone}
+use Rattle.settings.specs.declared.settings.LeafRule.{LeafRule}
+use Rattle.settings.specs.declared.settings.LeafRule.TheVariants.{Reads, Persons}
 use Rattle.settings.specs.Names.{is_key, is_nick}
 use Rattle.settings.specs.Addresses.{is_address, is_loopback}
 use Rattle.settings.specs.Words.{word_of, rest_of, after_spaces, number_of, port_of}
@@ -104,14 +106,22 @@ listen_said rest =
     if is_empty (rest_of rest) || not (is_empty (rest_of (rest_of rest))) then Wrong (Form listen_word)
     else listen_found (word_of rest) (has_plus (word_of (rest_of rest))) (port_of (without_plus (word_of (rest_of rest))))
 
--- leaf N reads
-abbrev pub leaf_found : Option ℕ → SettingSaying
-leaf_found None = Wrong (Form leaf_word)
-leaf_found (Some leaf) = Leaf leaf
+-- what a leaf may do, by the word for it
+abbrev pub rule_named : List ℕ → Option LeafRule
+rule_named word =
+    if bytes_eq word (codes "reads") then Some Reads
+    else if bytes_eq word (codes "persons") then Some Persons
+    else None
+
+-- leaf N reads, and leaf N persons
+abbrev pub leaf_found : Option ℕ → Option LeafRule → SettingSaying
+leaf_found None rule = Wrong (Form leaf_word)
+leaf_found (Some leaf) None = Wrong (Form leaf_word)
+leaf_found (Some leaf) (Some rule) = Leaf leaf rule
 
 abbrev pub leaf_said : List ℕ → SettingSaying
 leaf_said rest =
-    if bytes_eq (word_of (rest_of rest)) (codes "reads") && is_empty (rest_of (rest_of rest)) then leaf_found (number_of (word_of rest))
+    if is_empty (rest_of (rest_of rest)) then leaf_found (number_of (word_of rest)) (rule_named (word_of (rest_of rest)))
     else Wrong (Form leaf_word)
 
 -- a last word that may be left out

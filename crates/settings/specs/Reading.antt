@@ -55,7 +55,7 @@ abbrev pub is_placed : Station → LeafLine → Bool
 is_placed station line = station.number == 0 && (nat_le 1 line.leaf && nat_le line.leaf station.leaves)
 
 abbrev pub misplaced : Draft → Option LeafLine
-misplaced draft = find (λ line. not (is_placed (station_of draft) line)) draft.reads
+misplaced draft = find (λ line. not (is_placed (station_of draft) line)) draft.limits
 
 abbrev pub misplacing : Station → SettingAdvice
 misplacing station = if station.number == 0 then NoLeaf else HubAlone
@@ -115,7 +115,7 @@ settings_of draft = record {
   servers = draft.servers;
   hub = draft.hub;
   listen = draft.listen;
-  reads = draft.reads;
+  limits = draft.limits;
   secret = draft.secret;
   account = draft.account;
   zone = unwrap_or draft.zone utc;

@@ -18,8 +18,10 @@ pub enum SettingAdvice {
     NoLeaf,
     /// The line is for hubs, and the bot is a leaf.
     HubAlone,
-    /// An earlier line says the same of this leaf.
+    /// An earlier line says the same.
     Again,
+    /// An earlier line is of this leaf.
+    LeafAgain,
     /// A second line names a file for the log.
     LogFile,
     /// The host to listen at is no IP address.
@@ -63,6 +65,7 @@ fn words_of(advice: SettingAdvice) -> &'static str {
         SettingAdvice::NoLeaf => "say the number of a leaf of this net, from 1 to LEAVES",
         SettingAdvice::HubAlone => "a leaf has no line leaf: take it out",
         SettingAdvice::Again => "take this line out: a line above says the same",
+        SettingAdvice::LeafAgain => "say one line leaf of each leaf: a line above is of this one",
         SettingAdvice::Address => "say an address of this machine, as in listen 0.0.0.0 7100",
         SettingAdvice::LogFile => "say log file once: a line above has it",
         SettingAdvice::PageAddress => "say an address of this machine, as in page 127.0.0.1 7180",
@@ -90,7 +93,7 @@ fn form_of(word: SettingWord) -> &'static str {
         SettingWord::Data => "say data FOLDER, as in data /var/lib/eggnet/egg1",
         SettingWord::Exclusive => "say exclusive alone",
         SettingWord::Hub => "say hub HOST PORT, as in hub hub.example.net 7100",
-        SettingWord::Leaf => "say leaf N reads, as in leaf 3 reads",
+        SettingWord::Leaf => "say leaf N reads or leaf N persons, as in leaf 3 reads",
         SettingWord::Listen => "say listen ADDRESS PORT, as in listen 0.0.0.0 7100",
         SettingWord::Log =>
             "say log lines, log json or log file PATH, as in log file /var/log/eggnet/egg1",

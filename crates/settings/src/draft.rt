@@ -1,6 +1,6 @@
 // What the lines so far say.
 ghost use Rattle.std.specs.Prelude.{◌≡◌, None};
-ghost use Rattle.settings.specs.Drafts.{again, is_said_of, no_line, once, once_file, refusal_of};
+ghost use Rattle.settings.specs.Drafts.{again, is_limited, is_said_of, leaf_again, no_line, once, once_file, refusal_of, same_rule};
 ghost use Rattle.settings.specs.Reading.{lack_of, settings_of};
 
 use crate::advice::SettingAdvice;
@@ -8,8 +8,8 @@ use crate::reading::{ALONE, utc};
 use crate::saying::SettingSaying;
 use crate::setting_word::SettingWord;
 use crate::settings::{
-    Address, BindLines, ChannelSettings, LeafLine, LeafLines, Login, PageSetting, Servers,
-    Settings, Station,
+    Address, BindLines, ChannelSettings, LeafLine, LeafLines, LeafRule, Login, PageSetting,
+    Servers, Settings, Station,
 };
 use bottimers::Zone;
 use bytetext::{Text, Texts};
@@ -32,7 +32,7 @@ pub struct Draft {
     /// Where the bot listens.
     pub listen: Option<Address>,
     /// The leaves that may only read, in order.
-    pub reads: LeafLines,
+    pub limits: LeafLines,
     /// The file of the secret that both ends of the link know.
     pub secret: Option<Text>,
     /// The account that the bot authenticates as.
@@ -66,7 +66,7 @@ impl Drop for Draft {
             servers: _,
             hub: _,
             listen: _,
-            reads: _,
+            limits: _,
             secret: _,
             account: _,
             zone: _,
@@ -94,7 +94,7 @@ impl Draft {
             servers: Servers::empty(alloc),
             hub: None,
             listen: None,
-            reads: LeafLines::empty(alloc),
+            limits: LeafLines::empty(alloc),
             secret: None,
             account: None,
             zone: None,
@@ -124,7 +124,9 @@ impl Draft {
             SettingSaying::Data(_) => once(SettingWord::Data, self.folder.is_some()),
             SettingSaying::Exclusive => once(SettingWord::Exclusive, self.exclusive),
             SettingSaying::Hub(_) => once(SettingWord::Hub, self.hub.is_some()),
-            SettingSaying::Leaf(leaf) => again(is_said_of(*leaf, self.reads.as_slice())),
+            SettingSaying::Leaf { leaf, rule: _ } => {
+                leaf_again(is_said_of(*leaf, self.limits.as_slice()))
+            }
             SettingSaying::Listen(_) => once(SettingWord::Listen, self.listen.is_some()),
             SettingSaying::LogFile(_) => once_file(self.log_file.is_some()),
             SettingSaying::LogJson => again(self.log_json),
@@ -149,7 +151,7 @@ impl Draft {
             servers,
             hub,
             listen,
-            reads,
+            limits,
             secret,
             account,
             zone,
@@ -169,7 +171,7 @@ impl Draft {
             servers,
             hub,
             listen,
-            reads,
+            limits,
             secret,
             account,
             zone: zone.unwrap_or(utc()),
@@ -217,9 +219,38 @@ fn again(is_said: bool) -> Option<SettingAdvice>
     }
 }
 
-/// Returns whether one of `lines` is of the leaf of number `leaf`.
-pub fn is_said_of(leaf: u16, lines: &[LeafLine]) -> bool
+// What to say of a line of a leaf that one above it is of.
+fn leaf_again(is_said: bool) -> Option<SettingAdvice>
+    ensures { result ≡ leaf_again is_said }
+{
+    if is_said {
+        Some(SettingAdvice::LeafAgain)
+    } else {
+        None
+    }
+}
+
+// Whether one of `lines` is of the leaf of number `leaf`.
+fn is_said_of(leaf: u16, lines: &[LeafLine]) -> bool
     ensures { result ≡ is_said_of leaf lines.now }
 {
     lines.iter().any(|line| line.leaf == leaf)
+}
+
+/// Returns whether one of `lines` says this of the leaf of number `leaf`.
+pub fn is_limited(leaf: u16, rule: LeafRule, lines: &[LeafLine]) -> bool
+    ensures { result ≡ is_limited leaf rule lines.now }
+{
+    lines
+        .iter()
+        .any(|line| line.leaf == leaf && same_rule(line.rule, rule))
+}
+
+fn same_rule(one: LeafRule, other: LeafRule) -> bool
+    ensures { result ≡ same_rule one other }
+{
+    match (one, other) {
+        (LeafRule::Reads, LeafRule::Reads) | (LeafRule::Persons, LeafRule::Persons) => true,
+        (LeafRule::Reads, LeafRule::Persons) | (LeafRule::Persons, LeafRule::Reads) => false,
+    }
 }

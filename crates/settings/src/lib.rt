@@ -13,6 +13,7 @@
 //! | `hub` host port | a leaf: once | where its hub listens |
 //! | `listen` address port | a hub with leaves: once | where it listens, such as `0.0.0.0 7100` |
 //! | `leaf` number `reads` | a hub: any, each leaf once | this leaf may only read |
+//! | `leaf` number `persons` | a hub: any, each leaf once | this leaf may ask for no change in nobody's name |
 //! | `secret FILE` | once if there are leaves | the file of the secret that both ends of the link know |
 //! | `channel` name key | any | a channel to join, in order; the key may be left out |
 //! | `bind` type flags proc MASK | any | a bind, in order |
@@ -66,7 +67,7 @@ pub use crate::numeral::value_of_digits;
 pub use crate::setting_word::SettingWord;
 pub use crate::settings::{
     Address, BindLine, BindLines, BindWords, ChannelSetting, ChannelSettings, LeafLine, LeafLines,
-    Login, PageSetting, Server, Servers, Settings, Station,
+    LeafRule, Login, PageSetting, Server, Servers, Settings, Station,
 };
 
 /// The most bytes that a file has.

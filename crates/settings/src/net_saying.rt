@@ -1,6 +1,7 @@
-// What the lines say that are about the net: which bot it is, where the hub listens, and which leaves only read.
+// What the lines say that are about the net: which bot it is, where the hub listens, and which leaves may do less.
 ghost use Rattle.std.specs.Prelude.{◌≡◌, IfOk};
-ghost use Rattle.settings.specs.Grammar.{bot_numbered, bot_of, bot_said, hub_said, leaf_said, listen_said, page_placed, page_said};
+ghost use Rattle.settings.specs.Grammar.{bot_numbered, bot_of, bot_said, hub_said, leaf_found, leaf_said, listen_said};
+ghost use Rattle.settings.specs.Grammar.{page_placed, page_said, rule_named};
 
 use crate::MAX_LEAVES;
 use crate::address::{is_address, is_loopback};
@@ -10,7 +11,7 @@ use crate::numeral::{number, port};
 use crate::plus::{has_plus, is_reached, without_plus};
 use crate::saying::{SettingSaying, pass_of};
 use crate::setting_word::SettingWord;
-use crate::settings::{Address, PageSetting, Station};
+use crate::settings::{Address, LeafRule, PageSetting, Station};
 use bytetext::{NoMemory, Text};
 use std::alloc::Global;
 
@@ -65,16 +66,37 @@ pub(crate) fn hub_said(alloc: Global, rest: &[u8]) -> Result<SettingSaying, NoMe
     Ok(SettingSaying::Hub(Address { host, port, tls }))
 }
 
-// `N reads`, of a leaf.
+// `N reads` or `N persons`, of a leaf.
 pub(crate) fn leaf_said(rest: &[u8]) -> SettingSaying
     ensures { result ≡ leaf_said rest.now }
 {
     let leaf = cut_word(rest);
-    let reads = cut_word(leaf.rest);
-    match number(leaf.word) {
-        Some(leaf) if reads.word == b"reads".as_slice() && reads.rest.is_empty() =>
-            SettingSaying::Leaf(leaf),
-        Some(_) | None => SettingSaying::Wrong(SettingAdvice::Form(SettingWord::Leaf)),
+    let rule = cut_word(leaf.rest);
+    if !rule.rest.is_empty() {
+        return SettingSaying::Wrong(SettingAdvice::Form(SettingWord::Leaf));
+    }
+    leaf_found(number(leaf.word), rule_named(rule.word))
+}
+
+fn leaf_found(leaf: Option<u16>, rule: Option<LeafRule>) -> SettingSaying
+    ensures { result ≡ leaf_found leaf rule }
+{
+    let (Some(leaf), Some(rule)) = (leaf, rule) else {
+        return SettingSaying::Wrong(SettingAdvice::Form(SettingWord::Leaf));
+    };
+    SettingSaying::Leaf { leaf, rule }
+}
+
+// What a leaf may do, by the word for it.
+fn rule_named(word: &[u8]) -> Option<LeafRule>
+    ensures { result ≡ rule_named word.now }
+{
+    if word == b"reads".as_slice() {
+        Some(LeafRule::Reads)
+    } else if word == b"persons".as_slice() {
+        Some(LeafRule::Persons)
+    } else {
+        None
     }
 }
 

@@ -75,7 +75,14 @@ fn draft_of(alloc: Global, lines: &[&[u8]]) -> Result<Draft, SettingsError>
 fn complete(draft: Draft) -> Result<Settings, SettingsError>
     ensures { Answers (said_by draft) result }
 {
-    if let Some(LeafLine { line, leaf: _ }) = misplaced(&draft) {
+    if let Some(
+        LeafLine {
+            line,
+            leaf: _,
+            rule: _,
+        },
+    ) = misplaced(&draft)
+    {
         let advice = misplacing(station_of(&draft));
         return Err(Failure::Refused(SettingsFault::Line { line, advice }));
     }
@@ -91,7 +98,7 @@ fn misplaced(draft: &Draft) -> Option<LeafLine>
 {
     let station = station_of(draft);
     draft
-        .reads
+        .limits
         .as_slice()
         .iter()
         .copied()

@@ -15,7 +15,8 @@ use crate::numeral::port;
 use crate::plus::{has_plus, is_reached, without_plus};
 use crate::setting_word::SettingWord;
 use crate::settings::{
-    Address, BindLine, BindWords, ChannelSetting, LeafLine, Login, PageSetting, Server, Station,
+    Address, BindLine, BindWords, ChannelSetting, LeafLine, LeafRule, Login, PageSetting, Server,
+    Station,
 };
 use bottimers::Zone;
 use bytetext::{NoMemory, Text};
@@ -42,8 +43,13 @@ pub enum SettingSaying {
     Exclusive,
     /// Where the hub listens.
     Hub(Address),
-    /// The leaf of this number may only read.
-    Leaf(u16),
+    /// What a leaf may do.
+    Leaf {
+        /// The leaf's number.
+        leaf: u16,
+        /// What it may do.
+        rule: LeafRule,
+    },
     /// Where the bot listens.
     Listen(Address),
     /// The file of the log.
@@ -79,7 +85,7 @@ impl Drop for SettingSaying {
             | SettingSaying::Data(_)
             | SettingSaying::Exclusive
             | SettingSaying::Hub(_)
-            | SettingSaying::Leaf(_)
+            | SettingSaying::Leaf { leaf: _, rule: _ }
             | SettingSaying::Listen(_)
             | SettingSaying::LogFile(_)
             | SettingSaying::LogJson
@@ -111,7 +117,9 @@ impl SettingSaying {
             SettingSaying::Data(folder) => draft.folder = Some(folder),
             SettingSaying::Exclusive => draft.exclusive = true,
             SettingSaying::Hub(address) => draft.hub = Some(address),
-            SettingSaying::Leaf(leaf) => draft.reads.push(LeafLine { line, leaf })?,
+            SettingSaying::Leaf { leaf, rule } => {
+                draft.limits.push(LeafLine { line, leaf, rule })?
+            }
             SettingSaying::Listen(address) => draft.listen = Some(address),
             SettingSaying::LogFile(path) => draft.log_file = Some(path),
             SettingSaying::LogJson => draft.log_json = true,

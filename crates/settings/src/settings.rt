@@ -1,5 +1,5 @@
 // What a configuration file says.
-use crate::draft::is_said_of;
+use crate::draft::is_limited;
 use bottimers::Zone;
 use bytetext::{Seq, Text, Texts};
 
@@ -21,8 +21,8 @@ pub struct Settings {
     /// Where the bot listens; a hub with leaves has it, and no leaf. The host spells an IP address
     /// ([`is_address`](crate::is_address)).
     pub listen: Option<Address>,
-    /// The leaves that may only read, each once. None but a hub has any, and each is one of its leaves.
-    pub reads: LeafLines,
+    /// The leaves that may not ask for every change, each once. None but a hub has any, and each is one of its leaves.
+    pub limits: LeafLines,
     /// The file of the secret that both ends of the link know. A bot of a net of several has it.
     pub secret: Option<Text>,
     /// The account that it authenticates as.
@@ -56,7 +56,7 @@ impl Drop for Settings {
             servers: _,
             hub: _,
             listen: _,
-            reads: _,
+            limits: _,
             secret: _,
             account: _,
             zone: _,
@@ -73,13 +73,13 @@ impl Drop for Settings {
 
 impl Settings {
     ghost use Rattle.std.specs.Prelude.{◌≡◌};
-    ghost use Rattle.settings.specs.Drafts.{is_said_of};
+    ghost use Rattle.settings.specs.Drafts.{is_limited};
 
-    /// Returns whether the leaf of number `leaf` may only read.
-    pub fn only_reads(&self, leaf: u16) -> bool
-        ensures { result ≡ is_said_of leaf self.now.reads }
+    /// Returns whether a line says `rule` of the leaf of number `leaf`.
+    pub fn is_limited(&self, leaf: u16, rule: LeafRule) -> bool
+        ensures { result ≡ is_limited leaf rule self.now.limits }
     {
-        is_said_of(leaf, self.reads.as_slice())
+        is_limited(leaf, rule, self.limits.as_slice())
     }
 }
 
@@ -92,13 +92,24 @@ pub struct Station {
     pub leaves: u16,
 }
 
-/// A leaf that may only read, and the line on which that stands.
+/// What a leaf may do that may not ask for every change.
+#[derive(Clone, Copy, Debug, PartialEq, Eq)]
+pub enum LeafRule {
+    /// It may only read.
+    Reads,
+    /// It may ask for the changes that persons ask for, and for none in nobody's name.
+    Persons,
+}
+
+/// A leaf that may not ask for every change, and the line on which that stands.
 #[derive(Clone, Copy, Debug, PartialEq, Eq)]
 pub struct LeafLine {
     /// The line's number, from 1.
     pub line: u64,
     /// The leaf's number.
     pub leaf: u16,
+    /// What the leaf may do.
+    pub rule: LeafRule,
 }
 
 /// Leaves, in the order of their lines.

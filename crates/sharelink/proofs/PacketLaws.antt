@@ -13,10 +13,12 @@ use Rattle.protocol.specs.Numbers.{Place, Below, Same, Next, Above, item_at, pla
 use Rattle.protocol.specs.Bots.{How, Works, Row, noted}
 use Rattle.protocol.specs.HubRules.{Hub, version_of, last_request, reply_to, is_no_leaf, hello_served, hello_met, repeats, request_placed, request_of, next_request, accepts, ask_served, hub_pumped_up, hub_received_up}
 use Rattle.protocol.specs.Journals.{is_next_of}
+use Rattle.protocol.specs.LeafRules.{next_applied, change_placed}
 use Rattle.sharelink.specs.declared.answer.Answer.{Answer}
 use Rattle.sharelink.specs.declared.error.LinkFault.{LinkFault}
 use Rattle.sharelink.specs.Calls.{note_of, outgoings_of}
 use Rattle.sharelink.specs.HubLinks.{HubEnd, KeptHub, Calls, hub_end, Accepts, left_by, told_before, hello_sends}
+use Rattle.sharelink.specs.LeafLinks.{LeafEnd, Calls as LeafCalls, change_placed_at}
 use Rattle.sharelink.proofs.Sending.{outgoings-length}
 use Rattle.sharelink.proofs.HubLinkLaws.{meets-answer, place-old, place-next, place-above}
 
@@ -98,6 +100,19 @@ next-refused old new leaf request change fault result found meets =
 pub next-is : (place : Option (List Reply)) (kept : List Reply) (request : ℕ) → place ≡ Some kept → request ≡ last_request kept + 1
     → is_next_of place request ≡ true
 next-is place kept request found next = rw found (eq-eqb request (last_request kept + 1) next)
+
+-- ---- changes
+
+-- the change that is numbered one above a leaf's version, and that its records take
+pub placed-change : (old new : LeafEnd) (number : ℕ) (change : Change) (result : Result Answer (Failure LinkFault))
+    → number ≡ old.bot.kept.version + 1 → refusal old.bot.kept.records change ≡ None
+    → LeafCalls old (λ how. next_applied old.leaves old.number how old.bot change None) result new
+    → LeafCalls old (change_placed_at old number change) result new
+placed-change old new number change result next taken meets =
+    subst (λ (p : Place). LeafCalls old (λ how. change_placed old.leaves old.number how old.bot change p) result new)
+    (sym (place-next number old.bot.kept.version next))
+    (subst (λ (o : Option ChangeFault). LeafCalls old (λ how. next_applied old.leaves old.number how old.bot change o) result new)
+    (sym taken) meets)
 
 -- ---- accepting
 

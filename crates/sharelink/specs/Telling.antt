@@ -1,11 +1,17 @@
--- What a bot tells another about its end: the last requests, and the parts of a snapshot that it holds.
+-- What a bot tells others about its end: the accepted changes, the last requests, and the parts of a snapshot that it holds.
 use Rattle.std.specs.Prelude.{ℕ, zero, suc, ◌+◌, ◌-◌, ◌*◌, Bool, false, List, [], ◌∷◌, slice_get, if◌then◌else◌, Option, None, Some, is_some, option_map}
 use Rattle.usercodec.specs.declared.records.Record.{Record}
 use Rattle.protocol.specs.Numbers.{item_at}
 use Rattle.protocol.specs.Snapshots.{PartSet}
+use Rattle.protocol.specs.Packets.{AcceptedChange}
 use Rattle.protocol.specs.HubRules.{last_request, kept_in}
 use Rattle.protocol.specs.Ends.{End, AtHub, AtLeaf}
 use Rattle.sharelink.specs.declared.held_snapshot.HeldSnapshot.{HeldSnapshot}
+
+-- the accepted changes that the hub's journal holds one by one; a leaf's holds none so
+abbrev pub end_tail : End → List AcceptedChange
+end_tail (AtHub hub) = hub.kept.tail
+end_tail (AtLeaf leaf) = []
 
 -- the number of a leaf's last request; the hub sends none
 abbrev pub end_last_request : End → ℕ

@@ -1,4 +1,5 @@
 // A bot's end of the link.
+use crate::accepted::AcceptedChange;
 use crate::answer::{Answer, Outgoing};
 use crate::ends::Ends;
 use crate::error::LinkError;
@@ -48,7 +49,7 @@ impl<D: Disk> BotLink<D> {
     ghost use Rattle.botjournal.specs.Ledger.{AreStill};
     ghost use Rattle.sharelink.specs.BotOpening.{Makes, MakesAfter, Opens, OpensAtEachMoment, AreCurrent, StaysBots};
     ghost use Rattle.sharelink.specs.BotLinks.{MayLeave};
-    ghost use Rattle.sharelink.specs.Telling.{end_last_request, end_last_reply, end_held};
+    ghost use Rattle.sharelink.specs.Telling.{end_tail, end_last_request, end_last_reply, end_held};
 
     /// Creates the bot `number`, from 0 to `leaves`, on the disks `first` and `second`, before the first change. What
     /// the disks held is lost.
@@ -173,6 +174,17 @@ impl<D: Disk> BotLink<D> {
         }
     }
 
+    /// Returns the accepted changes that the hub's journal holds one by one, the oldest first: the last one's number is the
+    /// version. A leaf returns none.
+    pub fn accepted(&self) -> &[AcceptedChange]
+        ensures { result.now ≡ end_tail self.now.end }
+    {
+        match &self.end {
+            Ends::Hub(hub) => hub.accepted(),
+            Ends::Leaf(_) => &[],
+        }
+    }
+
     /// Returns the number of a leaf's last request, or 0 before its first. The hub, which sends no request, returns 0.
     pub fn last_request(&self) -> u32
         ensures { result ≡ end_last_request self.now.end }
@@ -241,7 +253,9 @@ impl<D: Disk> BotLink<D> {
     /// Queues `change` for a pump: `Queued`, and nothing to send. Allocates nothing.
     ///
     /// # Errors
-    /// `Down`, then `BadChange` for a bad shape, then `AsksFull` if 64 asks wait; each leaves the bot as it was.
+    /// `Down`, then `BadChange` for a bad shape, of who asks or of the edit, then `AsksFull` if 64 asks wait; each leaves
+    /// the bot as it was. The bot doesn't judge here whether who asks has the right to the edit: the hub does, by its
+    /// records just before it accepts the change.
     pub fn ask(&mut self, alloc: Global, change: Change) -> Result<Answer, LinkError>
         ensures row { Asks self.old change result self.new }
         ensures packets { GoOut (MAX_LEAVES + 1) result }

@@ -5,11 +5,11 @@ ghost use Rattle.std.specs.List.{AllByRecursion, list_all};
 ghost use Rattle.userfile.specs.Shapes.{is_hostmask};
 ghost use Rattle.usercodec.specs.declared.records.Record.TheVariants.{User as a_user, Ban as a_ban};
 ghost use Rattle.userfile.specs.Apply.{bad_shape};
-ghost use Rattle.usercodec.specs.Changes.{IsGoodChange};
+ghost use Rattle.usercodec.specs.Changes.{HasRoom, IsGoodChange};
 ghost use Rattle.usercodec.specs.Records.{HasFields};
 
 use usercodec::Record;
-use userfile::{Ban, Change, ChannelFlags, Hostmask, User};
+use userfile::{Ban, Change, ChannelFlags, Edit, Hostmask, User};
 
 pub(crate) fn know_records(items: &[Record])
     ensures { AllByRecursion HasFields items.now }
@@ -77,20 +77,25 @@ pub fn know_change(change: &Change)
     requires { bad_shape change.now ≡ None }
     ensures { IsGoodChange change.now }
 {
-    match change {
-        Change::AddUser { .. }
-        | Change::DelUser { .. }
-        | Change::AddHost { .. }
-        | Change::DelHost { .. }
-        | Change::DelBan { .. }
-        | Change::SetInfo { .. }
-        | Change::SetSticky { .. } => {}
-        Change::SetGlobal { flags, .. }
-        | Change::SetChan { flags, .. }
-        | Change::SetBot { flags, .. } => {
-            let _ = flags.bits();
-        }
-        Change::AddBan { expires, .. } => {
+    know_edit(&change.edit);
+}
+
+fn know_edit(edit: &Edit)
+    ensures { HasRoom edit.now }
+{
+    match edit {
+        Edit::AddUser { .. }
+        | Edit::DelUser { .. }
+        | Edit::AddHost { .. }
+        | Edit::DelHost { .. }
+        | Edit::DelBan { .. }
+        | Edit::SetInfo { .. }
+        | Edit::SetSticky { .. } => {}
+        Edit::SetGlobal { flags, .. } | Edit::SetChan { flags, .. } | Edit::SetBot { flags, .. } =>
+            {
+                let _ = flags.bits();
+            }
+        Edit::AddBan { expires, .. } => {
             let _expires = *expires;
         }
     }

@@ -1,5 +1,6 @@
 // The hub's end of the link.
 use crate::MAX_ASKS;
+use crate::accepted::AcceptedChange;
 use crate::answer::{Answer, Outgoing};
 use crate::error::{LinkError, LinkFault};
 use crate::hub_accepting::accept;
@@ -133,6 +134,13 @@ impl<D: Disk> HubLink<D> {
         ensures { result.now ≡ self.now.bot.kept.records }
     {
         self.kept.state().userfile()
+    }
+
+    // See `BotLink::accepted`.
+    pub(crate) fn accepted(&self) -> &[AcceptedChange]
+        ensures { result.now ≡ self.now.bot.kept.tail }
+    {
+        self.kept.state().tail()
     }
 
     // See `BotLink::last_reply`.

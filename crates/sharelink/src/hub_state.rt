@@ -256,8 +256,11 @@ impl HubState {
     }
 
     fn may_accept(&self, origin: u16, request: u32, change: &Change) -> bool
-        ensures { result ≡ (is_none (refusal self.now.records change.now)
+        ensures may { result ≡ (is_none (refusal self.now.records change.now)
             && (nat_lt (version_of self.now) last_number && is_next self.now.replies origin request)) }
+        ensures free { result ≡ true → refusal self.now.records change.now ≡ None }
+        ensures room { result ≡ true → version_of self.now < last_number }
+        ensures next { result ≡ true → is_next self.now.replies origin request ≡ true }
     {
         self.userfile.refusal_of(change).is_none()
             && self.version() < u32::MAX

@@ -18,7 +18,9 @@ use usercodec::Record;
 use userfile::Change;
 
 impl<D: Disk> LeafLink<D> {
-    ghost use Rattle.std.specs.Prelude.{◌≡◌, ◌<◌, ◌≤◌, ◌||◌, nat_le, [], IfOk, false};
+    ghost use Rattle.std.specs.Prelude.{◌≡◌, ◌+◌, ◌<◌, ◌≤◌, ◌||◌, nat_le, [], None, IfOk, false};
+    ghost use Rattle.userfile.specs.Apply.{refusal};
+    ghost use Rattle.protocol.specs.LeafRules.{next_applied};
     ghost use Rattle.protocol.specs.Snapshots.{is_behind};
     ghost use Rattle.std.specs.List.{AllByRecursion};
     ghost use Rattle.usercodec.specs.Records.{IsGoodRecord};
@@ -84,6 +86,22 @@ impl<D: Disk> LeafLink<D> {
             self.parts = None;
             return Err(Failure::Refused(LinkFault::Diverged));
         }
+        self.apply_change(alloc, number, change)
+    }
+
+    // Applies the next change, which the leaf's records take.
+    fn apply_change(
+        &mut self,
+        alloc: Global,
+        number: u32,
+        change: &Change,
+    ) -> Result<Answer, LinkError>
+        requires up { self.old.bot.down ≡ false }
+        requires next { number ≡ self.old.bot.kept.version + 1 }
+        requires taken { refusal self.old.bot.kept.records change.now ≡ None }
+        ensures row { Calls self.old (λ how. next_applied self.old.leaves self.old.number how self.old.bot change.now None) result self.new }
+        ensures few { IfOk result (λ answer. answer.packets ≡ []) }
+    {
         let next = LeafRecord::apply(change.copy(alloc)?);
         match self.kept.journal(alloc, next) {
             Ok(()) => Ok(Answer::only(alloc, LinkNote::Applied(number))),

@@ -9,6 +9,7 @@
 //!   get.
 //! - An [`Answer`] is what a call returns: a [`LinkNote`], which says what the call did, and the packets that the
 //!   caller is to send ([`Outgoings`]).
+//! - An [`AcceptedChange`] is a change that the hub accepted, and which bot asked for it.
 //! - A [`HeldSnapshot`] says which parts of a snapshot a leaf holds.
 //! - A [`LinkFault`] says why a link rejects a call; a [`LinkError`] is that, or out of memory.
 //! - [`law_of_left_disks`]: a bot that was killed between two calls, or during a call of an open bot, is never rejected
@@ -82,6 +83,7 @@ mod state_fault;
 mod texts;
 mod walk;
 
+pub use crate::accepted::AcceptedChange;
 pub use crate::answer::{Answer, Outgoing, Outgoings};
 pub use crate::bot_link::BotLink;
 pub use crate::error::{LinkError, LinkFault};

@@ -21,7 +21,7 @@
 //! kind is, with the last if its body is. The reader returns the packets before it.
 //!
 //! ```text
-//! let frame = write_packet(alloc, &Packet::Hello { layout: 2, leaf: 1, version: 2 })?;    // 0008 08 02 0001 00000002
+//! let frame = write_packet(alloc, &Packet::Hello { layout: 4, leaf: 1, version: 2 })?;    // 0008 08 04 0001 00000002
 //! let mut reader = WireReader::new(alloc);
 //! reader.feed(alloc, &frame[..7])?;              // no packet yet
 //! reader.feed(alloc, &frame[7..])?;              // the hello

@@ -9,7 +9,8 @@ use userfile::{Change, ChangeFault};
 pub enum Packet {
     /// A leaf's hello to the hub: the layout of its journal, and its version.
     Hello {
-        /// The layout in which the leaf keeps its journal, from 1: layout 0 has no frame.
+        /// The layout in which the leaf keeps its journal, from 1: layout 0 has no frame. A leaf of a layout below 4
+        /// can't read a change in a person's name.
         layout: u8,
         /// The leaf's number.
         leaf: u16,
@@ -24,7 +25,7 @@ pub enum Packet {
         origin: u16,
         /// The asking leaf's request number: 0 for the hub's own.
         request: u32,
-        /// The change itself.
+        /// The change itself, with who asks for it.
         change: Change,
     },
     /// The hub sends a leaf a part of its records at a version.
@@ -44,7 +45,7 @@ pub enum Packet {
         leaf: u16,
         /// The leaf's number for this request.
         request: u32,
-        /// The change that it asks for.
+        /// The change that it asks for, with the person who asks if there is one.
         change: Change,
     },
     /// The hub tells a leaf that its request was accepted.

@@ -3,6 +3,7 @@ ghost use Rattle.std.specs.Prelude.{◌≡◌, IfSome, IfOk};
 ghost use Rattle.botfolder.specs.Folders.{AreCopies, AreReady};
 
 use crate::LAYOUT;
+use crate::cut_short::cut_journals;
 use crate::keeping::kept_files;
 use crate::seen::{Seen, done, yes};
 use botfolder::{Begun, BotFolder, FolderError, FolderFault, Stopped, read_stopped};
@@ -28,6 +29,7 @@ pub fn bot_folders<R: AllocGlobal + Files<File = File> + Clock>(rt: &R, seen: &m
     controls(rt, seen);
     missing_files(rt, seen);
     other_files(rt, seen);
+    cut_journals(rt, seen);
     kept_files(rt, seen);
 }
 
@@ -170,8 +172,8 @@ fn taken<R: AllocGlobal + Files<File = File> + Clock>(rt: &R, folder: &str) -> &
     }
 }
 
-// Starts, ends at once, and returns what the start finds.
-fn started<R: AllocGlobal + Files<File = File> + Clock>(rt: &R) -> &'static str {
+/// Starts, ends at once, and returns what the start finds.
+pub fn started<R: AllocGlobal + Files<File = File> + Clock>(rt: &R) -> &'static str {
     match begun(rt) {
         Ok(Begun::Found(_)) => "finds a journal",
         Ok(Begun::Empty(_)) => "begins anew",
@@ -227,8 +229,8 @@ fn is_base<R: AllocGlobal>(rt: &R, disks: Pair) -> bool
     }
 }
 
-// Reads the bot while it does not run, and returns what is found.
-fn read<R: AllocGlobal + Files<File = File> + Clock>(rt: &R) -> &'static str {
+/// Reads the bot while it does not run, and returns what is found.
+pub fn read<R: AllocGlobal + Files<File = File> + Clock>(rt: &R) -> &'static str {
     match read_stopped(rt, BOT) {
         Ok(copies) => copied(rt, copies),
         Err(error) => word_of(error),
@@ -276,6 +278,7 @@ fn word_of_fault(fault: FolderFault) -> &'static str {
         FolderFault::NotRegular(file) => file.name(),
         FolderFault::InUse => "in use",
         FolderFault::LacksFile => "lacks a file",
+        FolderFault::CutShort => "cut short",
         FolderFault::ShortNumber(_) => "too short a number",
         FolderFault::LongBook => "no room in its book",
         FolderFault::NoBot => "no bot",

@@ -5,8 +5,8 @@
 //! A second disk finds the file in use. An opening changes the time of the last writing. A disk whose descriptor was
 //! closed under it refuses a write and a sync, since both go to the file. The program stops the making of a journal at
 //! each call of its disks, with five ways of tearing, and prints what the next start does. For a bot's folder it prints
-//! what a start finds after one that was stopped at each step of its making, beside one that runs, and after one that
-//! ended; and what is found of the numbers and the lines that the folder keeps.
+//! what a start finds after one that was stopped at each step of its making, beside one that runs, after one that
+//! ended, and where a gate of its journal is closed; and what is found of the numbers and the lines that the folder keeps.
 //!
 //! No contract can say either what a socket gives and takes. The program prints that the bytes that one end sends come
 //! out of the other in order; that a waiting caller is let in; that the watch names the token of a socket that has
@@ -21,6 +21,7 @@
 
 mod bots;
 mod connections;
+mod cut_short;
 mod descriptors;
 mod doors;
 mod folders;
@@ -55,7 +56,7 @@ use std::random::RandomSource;
 use std::rt::Files;
 use std::time::Clock;
 
-/// The layout of the journals that are made here, whose texts are read as they are.
+/// The layout of most journals that are made here, whose texts are read as they are.
 const LAYOUT: u8 = 2;
 
 fn main(rt: HostRuntime) -> anyhow::Result<()> {

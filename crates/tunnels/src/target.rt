@@ -1,8 +1,11 @@
 // A connection to an address of the configuration, through its tunnel if it has one.
-ghost use Rattle.std.specs.Prelude.{◌≡◌, IfOk, IfSome, true, false};
+ghost use Rattle.std.specs.Prelude.{◌≡◌, Err, IfOk, IfSome, true, false};
+ghost use Rattle.bytetext.specs.declared.failure.Failure.TheVariants.{Refused};
 ghost use Rattle.streams.specs.Accounts.{nothing_yet};
 ghost use Rattle.net.specs.Addresses.{LeadsTo};
+ghost use Rattle.net.specs.declared.address.DialFault.TheVariants.{NoTunnel};
 ghost use Rattle.tunnels.specs.Dials.{GoesThroughTunnel, NeedsName};
+ghost use Rattle.tunnels.specs.Paths.{HasPath};
 
 use crate::path::tunnel_path;
 use bytetext::Failure;
@@ -27,7 +30,8 @@ pub struct Target<'a> {
 /// [`Dialling::connect`], which returns `Ok(None)` while it looks a name up.
 ///
 /// # Errors
-/// With a plus `NoTunnel` and `TunnelBusy`; else those of [`Dialling::connect`].
+/// With a plus `NoTunnel`, also if [`tunnel_path`] returns `None`, and `TunnelBusy`; else those of
+/// [`Dialling::connect`].
 pub fn dial<R: AllocGlobal + Net + Files<File = File> + RandomSource>(
     dialling: &mut Dialling,
     rt: &R,
@@ -39,6 +43,9 @@ pub fn dial<R: AllocGlobal + Net + Files<File = File> + RandomSource>(
     ensures unchanged { dialling.new ≡ dialling.old }
     // With a plus, nothing but the tunnel is connected to, no name is looked up, and no memory is needed.
     ensures tunnel { target.entry.address.now.tls ≡ true → GoesThroughTunnel result }
+    // A tunnel whose socket can have no path is none.
+    ensures no_path { target.entry.address.now.tls ≡ true → (HasPath target.entry.folder.now target.entry.address.now → ⊥)
+        → result ≡ Err (Refused NoTunnel) }
     // Without one, memory runs out only while a name is looked up.
     ensures memory { NeedsName target.entry.address.now.host result }
     ensures address { target.entry.address.now.tls ≡ false → LeadsTo target.entry.address.now.host target.entry.address.now.port result }
@@ -67,6 +74,7 @@ fn dial_tunnel<R: Net>(
     target: Target<'_>,
 ) -> Result<Option<Dialled>, Failure<DialFault>>
     ensures tunnel { GoesThroughTunnel result }
+    ensures no_path { (HasPath target.entry.folder.now target.entry.address.now → ⊥) → result ≡ Err (Refused NoTunnel) }
     ensures fresh { IfOk result (λ found. IfSome found (λ dialled. dialled.socket.account.past ≡ nothing_yet)) }
 {
     let Some(path) = tunnel_path(target.folder, target.address) else {

@@ -1,13 +1,14 @@
 -- Which commands of an administrator ask for a change of the records.
 use Rattle.std.specs.Prelude.{Bool, true, false}
 use Rattle.control.specs.declared.admin_command.AdminCommand.{AdminCommand}
-use Rattle.control.specs.declared.admin_command.AdminCommand.TheVariants.{Change, Show, ShowJson, Status, StatusJson, Bind, Unbind, Say, Compact, Jump, Renew, Trust}
-use Rattle.control.specs.declared.admin_command.AdminCommand.TheVariants.{Reload, Reopen, Backup, Join, Part, Die}
+use Rattle.control.specs.declared.admin_command.AdminCommand.TheVariants.{Change, Show, ShowJson, Changes, Status, StatusJson, Bind, Unbind, Say, Compact, Jump}
+use Rattle.control.specs.declared.admin_command.AdminCommand.TheVariants.{Renew, Trust, Reload, Reopen, Backup, Join, Part, Die}
 
 abbrev pub is_change : AdminCommand → Bool
 is_change (Change change) = true
 is_change Show = false
 is_change ShowJson = false
+is_change (Changes from) = false
 is_change Status = false
 is_change StatusJson = false
 is_change (Bind words) = false

@@ -2,7 +2,7 @@
 use Rattle.std.specs.Prelude.{ℕ, ◌==◌, ◌&&◌, not, Bool, true, false, List, Option, None, Some, if◌then◌else◌}
 use Rattle.std.specs.List.{list_all}
 use Rattle.std.specs.Str.{bytes_eq}
-use Rattle.settings.specs.Drafts.{is_said_of}
+use Rattle.settings.specs.Drafts.{is_limited}
 use Rattle.settings.specs.declared.setting_word.SettingWord.{SettingWord}
 use Rattle.settings.specs.declared.setting_word.SettingWord.TheVariants.{Bot, Data, Exclusive, Hub, Leaf, Listen, Page, Secret}
 use Rattle.settings.specs.declared.settings.Address.{Address}
@@ -33,9 +33,9 @@ same_address None (Some new) = false
 same_address (Some old) None = false
 same_address (Some old) (Some new) = is_at old new
 
--- each leaf of the one list is in the other
+-- each leaf of the one list is in the other, and may do the same
 abbrev pub are_said_in : List LeafLine → List LeafLine → Bool
-are_said_in lines others = list_all (λ line. is_said_of line.leaf others) lines
+are_said_in lines others = list_all (λ line. is_limited line.leaf line.rule others) lines
 
 abbrev pub same_leaves : List LeafLine → List LeafLine → Bool
 same_leaves old new = are_said_in old new && are_said_in new old
@@ -53,7 +53,7 @@ changed_word old new =
     else if not (same_station old.station new.station) then Some Bot
     else if not (same_address old.hub new.hub) then Some Hub
     else if not (same_address old.listen new.listen) then Some Listen
-    else if not (same_leaves old.reads new.reads) then Some Leaf
+    else if not (same_leaves old.limits new.limits) then Some Leaf
     else if not (same_text old.secret new.secret) then Some Secret
     else if not (same_flag old.exclusive new.exclusive) then Some Exclusive
     else if not (same_page old.page new.page) then Some Page

@@ -1,9 +1,15 @@
 -- How a bot is connected to the others of its net.
 use Rattle.std.specs.Prelude.{◌≡◌, ◌<◌, ◌==◌, ◌&&◌, nat_lt, ℕ, Bool, List, Option, MatchOption}
+use Rattle.settings.specs.declared.settings.LeafLine.{LeafLine}
+use Rattle.settings.specs.declared.settings.LeafRule.{LeafRule}
+use Rattle.settings.specs.declared.settings.LeafRule.TheVariants.{Reads as reads_line, Persons as persons_line}
 use Rattle.settings.specs.declared.settings.Station.{Station}
 use Rattle.peers.specs.Keys.{leaf_key}
 use Rattle.peers.specs.declared.secret.Secret.{Secret}
 use Rattle.peers.specs.declared.secret.Secret.TheVariants.{Net as NetSecret, Leaf as LeafKey}
+use Rattle.peers.specs.declared.handshake_progress.LeafRights.{LeafRights}
+use Rattle.peers.specs.declared.handshake_progress.LeafRights.TheVariants.{Reads, Persons}
+use Rattle.peers.specs.declared.stations.LeafLimit.{LeafLimit}
 use Rattle.peers.specs.declared.links.Links.{Links}
 use Rattle.peers.specs.declared.links.Links.TheVariants.{Alone, Hub, Leaf}
 
@@ -20,6 +26,14 @@ IsKnownWhereWanted station secret = MatchOption secret (station.leaves ≡ 0) (�
 abbrev pub own_key : ℕ → Secret → List ℕ
 own_key leaf (NetSecret key) = leaf_key key leaf
 own_key leaf (LeafKey number key) = key
+
+-- what the hub's file says that a leaf may do
+abbrev pub rights_by : LeafRule → LeafRights
+rights_by reads_line = Reads
+rights_by persons_line = Persons
+
+abbrev pub limit_in : LeafLine → LeafLimit
+limit_in line = record { leaf = line.leaf; may = rights_by line.rule }
 
 -- a bot that is the hub, and has leaves
 abbrev pub is_hub : Station → Bool

@@ -61,7 +61,7 @@ pub enum RunError {
     Book(BookFault),
     /// The hub cannot listen at its address.
     Listen(DoorFault),
-    /// The folder holds another bot's journal, or none that can be read.
+    /// The folder holds another bot's journal, or a damaged one.
     OtherJournal,
     /// The folder holds a journal of an older layout that cannot be rewritten, since its generations are used up.
     GenerationsSpent,
@@ -245,7 +245,7 @@ fn sentence(error: RunError) -> &'static str {
         RunError::LogFile =>
             "the file of the line log file can't be opened: make its folder, and give the bot's user the right to write there",
         RunError::OtherJournal =>
-            "holds the journal of another bot, or none that can be read: give the folder of this bot",
+            "holds the journal of another bot, or one that is damaged: give the folder of this bot, or a copy of it; a leaf may also begin with an empty folder",
         RunError::GenerationsSpent =>
             "holds a journal of an older layout that can't be rewritten, since its generations are used up: run an older version of eggnet, or give a leaf an empty folder",
         RunError::NoNet =>

@@ -64,20 +64,20 @@ fn is_at(old: &Address, new: &Address) -> bool
     old.port == new.port && old.tls == new.tls && old.host.as_bytes() == new.host.as_bytes()
 }
 
-// Whether the same leaves may only read, in whatever order.
+// Whether the same lines of leaves stand there, in whatever order.
 fn same_leaves(old: &Settings, new: &Settings) -> bool
-    ensures { result ≡ same_leaves old.now.reads new.now.reads }
+    ensures { result ≡ same_leaves old.now.limits new.now.limits }
 {
     are_said_in(old, new) && are_said_in(new, old)
 }
 
 fn are_said_in(one: &Settings, other: &Settings) -> bool
-    ensures { result ≡ are_said_in one.now.reads other.now.reads }
+    ensures { result ≡ are_said_in one.now.limits other.now.limits }
 {
-    one.reads
+    one.limits
         .as_slice()
         .iter()
-        .all(|line| other.only_reads(line.leaf))
+        .all(|line| other.is_limited(line.leaf, line.rule))
 }
 
 fn same_page(old: &Option<PageSetting>, new: &Option<PageSetting>) -> bool

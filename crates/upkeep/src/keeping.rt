@@ -5,11 +5,13 @@ ghost use Rattle.upkeep.specs.Stations.{is_hub};
 use crate::ending::{RunError, of_folder};
 use crate::netting::keep_net;
 use crate::space::Space;
+use administrators::changes_answer;
 use botfolder::BotFolder;
 use bytetext::NoMemory;
 use net::Log;
 use peers::Links;
 use settings::{Settings, Station};
+use sharelink::AcceptedChange;
 use std::alloc::Global;
 use std::fs::File;
 use std::rt::Files;
@@ -152,6 +154,24 @@ fn enter<R: AllocGlobal + Files<File = File>>(
         Ok(()) => Ok(()),
         Err(error) => Err(of_folder(error)),
     }
+}
+
+/// Tells an admin of the accepted changes from number `from` on: `held` are those that the journal of a hub, or of a bot that
+/// is alone, holds one by one, of which the last has the number `version`. Returns the answer.
+///
+/// # Errors
+/// `NoMemory` if an allocation fails.
+pub fn tell_changes(
+    alloc: Global,
+    settings: &Settings,
+    held: &[AcceptedChange],
+    version: u32,
+    from: u32,
+) -> Result<Vec<u8>, NoMemory> {
+    if settings.station.number != 0 {
+        return Ok(Vec::from_slice(alloc, NO_HUB)?);
+    }
+    changes_answer(alloc, held, version, from)
 }
 
 // Whether a bot at this station is a hub with leaves.

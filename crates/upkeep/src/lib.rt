@@ -51,7 +51,9 @@ pub use crate::ending::{RunError, Subject, of_folder};
 pub use crate::fixed_words::changed_word;
 pub use crate::folder_opening::{door_of, folder_of, forget_journal, space_of};
 pub use crate::json_status::status_json;
-pub use crate::keeping::{enter_new_leaves, keep_new_doubt, keep_new_net, renew, trust};
+pub use crate::keeping::{
+    enter_new_leaves, keep_new_doubt, keep_new_net, renew, tell_changes, trust,
+};
 pub use crate::log_opening::log_of;
 pub use crate::netting::{begin_net, links_of, secret_of, tunnel_keys, warn};
 pub use crate::page_opening::{PageFault, page_of};

@@ -1,6 +1,6 @@
 // Which net a bot belongs to, and how it is connected to the others.
 ghost use Rattle.std.specs.Prelude.{◌≡◌, ◌<◌, IfOk, map};
-ghost use Rattle.upkeep.specs.Stations.{IsKnownWhereWanted, IsLinkedAs, own_key};
+ghost use Rattle.upkeep.specs.Stations.{IsKnownWhereWanted, IsLinkedAs, limit_in, own_key, rights_by};
 
 use crate::ending::{RunError, of_folder};
 use administrators::LogEntry;
@@ -8,11 +8,12 @@ use botfolder::BotFolder;
 use bytetext::{Failure, NoMemory};
 use net::{DoorFault, Log, Registry, literal};
 use peers::{
-    Book, Doubted, DrawnNumber, HubConnection, HubLinks, HubStation, LeafStation, Links,
-    ListenFault, ListenPlace, Secret, SecretFault, doubt_in, key_of, leaf_key, tunnel_key_line,
+    Book, Doubted, DrawnNumber, HubConnection, HubLinks, HubStation, LeafLimit, LeafRights,
+    LeafStation, Links, ListenFault, ListenPlace, Secret, SecretFault, doubt_in, key_of, leaf_key,
+    tunnel_key_line,
 };
 use sealing::Key;
-use settings::{Settings, Station};
+use settings::{LeafLine, LeafRule, Settings, Station};
 use std::alloc::Global;
 use std::fs::File;
 use std::net::Net;
@@ -281,7 +282,7 @@ fn open_hub<R: AllocGlobal + Net + Files<File = File>>(
         key,
         net,
         leaves: settings.station.leaves,
-        readers: readers_of(rt.alloc(), settings)?,
+        limits: limits_of(rt.alloc(), settings)?,
         book: book_of(rt, folder, settings.station.leaves)?,
         doubt: doubt_of(rt, folder)?,
     };
@@ -292,15 +293,34 @@ fn open_hub<R: AllocGlobal + Net + Files<File = File>>(
     }
 }
 
-// The leaves that may only read.
-fn readers_of(alloc: Global, settings: &Settings) -> Result<Vec<u16>, NoMemory>
-    ensures { IfOk result (λ readers. readers.items ≡ map (λ line. line.leaf) settings.now.reads) }
+// The leaves that may not ask for every change.
+fn limits_of(alloc: Global, settings: &Settings) -> Result<Vec<LeafLimit>, NoMemory>
+    ensures { IfOk result (λ limits. limits.items ≡ map limit_in settings.now.limits) }
 {
-    let mut readers = Vec::new(alloc);
-    for line in settings.reads.as_slice() {
-        readers.push(line.leaf)?;
+    let mut limits = Vec::new(alloc);
+    for line in settings.limits.as_slice() {
+        limits.push(limit_in(*line))?;
     }
-    Ok(readers)
+    Ok(limits)
+}
+
+// What a line says that a leaf may do.
+fn limit_in(line: LeafLine) -> LeafLimit
+    ensures { result ≡ limit_in line }
+{
+    LeafLimit {
+        leaf: line.leaf,
+        may: rights_by(line.rule),
+    }
+}
+
+fn rights_by(rule: LeafRule) -> LeafRights
+    ensures { result ≡ rights_by rule }
+{
+    match rule {
+        LeafRule::Reads => LeafRights::Reads,
+        LeafRule::Persons => LeafRights::Persons,
+    }
 }
 
 // Reads the hub's book of its leaves. A hub that has none yet knows no leaf's folder.

@@ -1,6 +1,6 @@
 // Why a bot does not execute a command now.
 ghost use Rattle.std.specs.Prelude.{◌≡◌, true, false, IfOk, IsSome};
-ghost use Rattle.peers.specs.Asking.{may_ask};
+ghost use Rattle.peers.specs.Asking.{may_ask, may_ask_nameless};
 ghost use Rattle.upkeep.specs.Refusing.{is_change};
 
 use crate::space::{NO_ROOM, Space};
@@ -13,12 +13,16 @@ use std::alloc::Global;
 const READS: &[u8] =
     b"refused this leaf may only read: ask at the hub, or take its line leaf out of the hub's configuration\n";
 
+// The answer to an admin, who asks in nobody's name, at a leaf that may ask for persons alone.
+const PERSONS: &[u8] =
+    b"refused this leaf may ask for persons alone: ask at the hub, or take its line leaf out of the hub's configuration\n";
+
 // The answer to an admin who asks for a change at a leaf that was never linked.
 const NEW: &[u8] =
     b"refused never linked: this leaf takes changes once its hub has welcomed it: ask at the hub, or see what status says\n";
 
 /// Returns the answer that refuses `command`, if the bot does not execute it now: it has no room on its disk, or it is a
-/// hub in doubt, or a leaf that may only read or was never linked.
+/// hub in doubt, or a leaf that was never linked or may ask for no change in nobody's name, as an admin's is.
 ///
 /// # Errors
 /// `NoMemory` if an allocation fails.
@@ -30,6 +34,8 @@ pub fn refusal(
 ) -> Result<Option<Vec<u8>>, NoMemory>
     // A bot that may not ask for changes refuses each change.
     ensures asks { may_ask links.now ≡ false → is_change command.now ≡ true → IfOk result IsSome }
+    // An admin's change is in nobody's name.
+    ensures nameless { may_ask_nameless links.now ≡ false → is_change command.now ≡ true → IfOk result IsSome }
 {
     if needs_room(command) && !space.has_room() {
         return Ok(Some(Vec::from_slice(alloc, NO_ROOM)?));
@@ -45,6 +51,9 @@ pub fn refusal(
     }
     if !links.may_ask() {
         return Ok(Some(Vec::from_slice(alloc, READS)?));
+    }
+    if !links.may_ask_nameless() {
+        return Ok(Some(Vec::from_slice(alloc, PERSONS)?));
     }
     Ok(None)
 }
@@ -79,6 +88,7 @@ fn is_change(command: &AdminCommand) -> bool
         AdminCommand::Change(_) => true,
         AdminCommand::Show
         | AdminCommand::ShowJson
+        | AdminCommand::Changes(_)
         | AdminCommand::Status
         | AdminCommand::StatusJson
         | AdminCommand::Reload
@@ -106,6 +116,7 @@ fn needs_room(command: &AdminCommand) -> bool {
         | AdminCommand::Trust => true,
         AdminCommand::Show
         | AdminCommand::ShowJson
+        | AdminCommand::Changes(_)
         | AdminCommand::Status
         | AdminCommand::StatusJson
         | AdminCommand::Reload

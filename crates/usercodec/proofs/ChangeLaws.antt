@@ -1,347 +1,257 @@
 -- Changes: what is read is spelled so, what is spelled so is read, and what was told stays.
-use Rattle.std.proofs.Common.{◌≡◌, ℕ, suc, ◌^◌, ◌<◌, true, eqb, nat_lt, false, List, [], ◌∷◌, ◌++◌, Ok, Err, refl, sym, ap, subst, ◌∙◌, append_assoc, arith}
-use Rattle.std.proofs.Common.{inl, inr}
-use Rattle.std.specs.Int.{w64}
-use Rattle.std.proofs.lemmas.Bool.{eqb-true, ltb-true}
-use Rattle.std.proofs.lemmas.Bool.Decides.{nat_tests}
-use Rattle.rfccase.specs.Channels.{is_channel_name}
-use Rattle.userfile.specs.Shapes.{is_handle, is_hostmask, is_ban_channel, is_comment, is_info}
-use Rattle.userfile.specs.Apply.{new_ban}
-use Rattle.userfile.specs.declared.ban.Ban.{Ban}
+use Rattle.std.proofs.Common.{◌≡◌, ℕ, suc, ◌<◌, Bool, true, false, eqb, if◌then◌else◌, List, [], ◌∷◌, ◌++◌, Option, Some, None, Ok, Err, refl, sym, ap, subst, ◌∙◌, inl, inr}
+use Rattle.std.proofs.lemmas.Bool.{eqb-true}
+use Rattle.rfccase.specs.declared.casemappings.Casemapping.{Casemapping}
+use Rattle.rfccase.specs.declared.casemappings.Casemapping.TheVariants.{Ascii, StrictRfc1459, Rfc1459}
+use Rattle.userfile.specs.Shapes.{is_person}
+use Rattle.userfile.specs.Apply.{bad_asker, bad_edit, bad_shape}
+use Rattle.userfile.specs.Changes.{by_nobody, by_person}
+use Rattle.userfile.specs.declared.change.Asker.{Asker}
 use Rattle.userfile.specs.declared.change.Change.{Change}
-use Rattle.userfile.specs.declared.change.Change.TheVariants.{AddUser, DelUser, AddHost, DelHost, SetGlobal, SetChan, SetBot, AddBan, DelBan}
-use Rattle.userfile.specs.declared.change.Change.TheVariants.{SetInfo, SetSticky}
-use Rattle.usercodec.specs.declared.fault.CodecFault.TheVariants.{BadTag}
-use Rattle.usercodec.specs.Fields.{number, text, flags, mark, Reading, ◌>>=◌, byte_at, number_at, flags_at}
-use Rattle.usercodec.specs.Fields.{handle_at, hostmask_at, channel_at, ban_channel_at, comment_at, info_at, mark_at}
-use Rattle.usercodec.specs.Changes.{ban_bytes, change_bytes, IsGoodChange, both, made, handle_and_mask_at, handle_and_flags_at, channel_and_mask_at}
-use Rattle.usercodec.specs.Changes.{set_chan_at, ban_at, add_ban_at, set_info_at, set_sticky_at, fields_at, change_at}
+use Rattle.userfile.specs.declared.edit.Edit.{Edit}
+use Rattle.userfile.specs.declared.edit.Edit.TheVariants.{AddUser, DelUser, AddHost, DelHost, SetGlobal, SetChan, SetBot, AddBan, DelBan}
+use Rattle.userfile.specs.declared.edit.Edit.TheVariants.{SetInfo, SetSticky}
+use Rattle.usercodec.specs.declared.fault.CodecFault.TheVariants.{BadTag, NotCanonical}
+use Rattle.usercodec.specs.Fields.{Reading, ◌>>=◌, checked, byte_at}
+use Rattle.usercodec.specs.FaultBytes.{known}
+use Rattle.usercodec.specs.Changes.{edit_bytes, IsGoodEdit, casemapping_byte, asker_bytes, bytes_by, change_bytes, IsGoodChange, both, made}
+use Rattle.usercodec.specs.Changes.{is_edit_tag, edit_fields_at, edit_at, casemapping_from, casemapping_at, asker_of, asker_at, asked_edit_at, named_at}
+use Rattle.usercodec.specs.Changes.{fields_at, change_at}
 use Rattle.usercodec.specs.Laws.{Stays}
-use Rattle.usercodec.proofs.ShapeLaws.{handle_is_short, channel_is_short, ban_channel_is_short, hostmask_is_short, comment_is_short, info_is_short}
-use Rattle.usercodec.proofs.ShapeLaws.{fields_pass, shape_passes}
-use Rattle.usercodec.proofs.Steps.{IsBytes, chosen, bind_ok, ok_is, Takes, Takes-then, stays_bind, stays_if, NoTag, no_tag_bind}
-use Rattle.usercodec.proofs.FieldLaws.{IsSort, IsField, byte_field, field64, text_field, checked_field, both_field, mark_field}
+use Rattle.usercodec.proofs.ShapeLaws.{parts_pass, passes}
+use Rattle.usercodec.proofs.Steps.{IsBytes, chosen, bind_ok, ok_is, Takes, stays_bind, stays_if, stays_checked, NoTag, no_tag_bind}
+use Rattle.usercodec.proofs.FieldLaws.{IsSort, IsField, byte_field, both_field, made_field}
+use Rattle.usercodec.proofs.EditLaws.{person_field, edit_sort, fields_take, fields_stay, known_edit}
 
--- ---- the fields of changes
+no_value : {A : Type 0} (x : A) (rest : List ℕ) → (let r : Reading A = Err BadTag in r) ≡ Ok (x, rest) → ⊥
+no_value x rest e = cc
 
-pub handle_field : IsField handle_at text (λ handle. is_handle handle ≡ true)
-unfolding handle_at
-handle_field = checked_field text_field is_handle handle_is_short
+-- ---- who asks
 
-pub hostmask_field : IsField hostmask_at text (λ mask. is_hostmask mask ≡ true)
-unfolding hostmask_at
-hostmask_field = checked_field text_field is_hostmask hostmask_is_short
+some_is : (x y : Casemapping) → (let s : Option Casemapping = Some x in s) ≡ Some y → x ≡ y
+some_is x y e = cc
 
-pub channel_field : IsField channel_at text (λ channel. is_channel_name channel ≡ true)
-unfolding channel_at
-channel_field = checked_field text_field is_channel_name channel_is_short
+byte_is : (byte n : ℕ) (mapping x : Casemapping) → eqb byte n ≡ true → (let s : Option Casemapping = Some mapping in s) ≡ Some x
+    → casemapping_byte mapping ≡ n → casemapping_byte x ≡ byte
+byte_is byte n mapping x same e is = ap casemapping_byte (sym (some_is mapping x e)) ∙ is ∙ sym (eqb-true byte n same)
 
-pub ban_channel_field : IsField ban_channel_at text (λ channel. is_ban_channel channel ≡ true)
-unfolding ban_channel_at
-ban_channel_field = checked_field text_field is_ban_channel ban_channel_is_short
-
-pub comment_field : IsField comment_at text (λ comment. is_comment comment ≡ true)
-unfolding comment_at
-comment_field = checked_field text_field is_comment comment_is_short
-
-pub info_field : IsField info_at text (λ info. is_info info ≡ true)
-unfolding info_at
-info_field = checked_field text_field is_info info_is_short
-
-letters_fit : (bits : ℕ) → nat_lt bits (2 ^ 52) ≡ true → bits < 2 ^ 64
-letters_fit bits passes = let lt = ltb-true bits (2 ^ 52) passes in omega arith
-
-pub flags_field : IsField flags_at flags (λ bits. nat_lt bits (2 ^ 52) ≡ true)
-unfolding flags_at
-flags_field = checked_field field64 (λ bits. nat_lt bits (2 ^ 52)) letters_fit
-
--- ---- several fields, each after the other
-
-handle_and_mask_field : IsField handle_and_mask_at (λ x. text x.0 ++ text x.1) (λ x. (is_handle x.0 ≡ true) × (is_hostmask x.1 ≡ true))
-unfolding handle_and_mask_at
-handle_and_mask_field = both_field handle_field hostmask_field
-
-handle_and_flags_field : IsField handle_and_flags_at (λ x. text x.0 ++ flags x.1) (λ x. (is_handle x.0 ≡ true) × (nat_lt x.1 (2 ^ 52) ≡ true))
-unfolding handle_and_flags_at
-handle_and_flags_field = both_field handle_field flags_field
-
-channel_and_mask_field : IsField channel_and_mask_at (λ x. text x.0 ++ text x.1) (λ x. (is_ban_channel x.0 ≡ true) × (is_hostmask x.1 ≡ true))
-unfolding channel_and_mask_at
-channel_and_mask_field = both_field ban_channel_field hostmask_field
-
--- whether the fields of a ban that is added have a spelling
-pub record BanPasses (ban : Ban) : Type 0 where
-  pub channel : is_ban_channel ban.channel ≡ true
-  pub mask : is_hostmask ban.mask ≡ true
-  pub creator : is_handle ban.creator ≡ true
-  pub expires : ban.expires < 2 ^ 64
-  pub comment : is_comment ban.comment ≡ true
-
--- a ban that is read isn't sticky
-abbrev pub PlainBanPasses : Ban → Type 0
-PlainBanPasses ban = BanPasses ban × (ban.sticky ≡ false)
-
-pub ban_field : IsField ban_at ban_bytes PlainBanPasses
-unfolding ban_at
-ban_field = record { laws = record { part = record { takes = takes; again = again }; stays = stays }; no_tag = no_tag }
-  where
-    takes : (bytes : List ℕ) (x : Ban) (rest : List ℕ) → IsBytes bytes → ban_at bytes ≡ Ok (x, rest) → Takes bytes (ban_bytes x) rest × PlainBanPasses x
-    takes bytes x rest fits e =
-        let a = bind_ok (ban_channel_at bytes) (λ a. hostmask_at a.1 >>= λ b. handle_at b.1 >>= λ c. number_at w64 c.1 >>= λ d. comment_at d.1 >>=
-        λ e. Ok (new_ban a.0 b.0 c.0 d.0 e.0, e.1)) (x, rest) e in
-        let b = bind_ok (hostmask_at a.0.1) (λ b. handle_at b.1 >>= λ c. number_at w64 c.1 >>= λ d. comment_at d.1 >>= λ e. Ok
-        (new_ban a.0.0 b.0 c.0 d.0 e.0, e.1)) (x, rest) a.2 in
-        let c = bind_ok (handle_at b.0.1) (λ c. number_at w64 c.1 >>= λ d. comment_at d.1 >>= λ e. Ok (new_ban a.0.0 b.0.0 c.0 d.0 e.0, e.1)) (x, rest) b.2 in
-        let d = bind_ok (number_at w64 c.0.1) (λ d. comment_at d.1 >>= λ e. Ok (new_ban a.0.0 b.0.0 c.0.0 d.0 e.0, e.1)) (x, rest) c.2 in
-        let f = bind_ok (comment_at d.0.1) (λ e. Ok (new_ban a.0.0 b.0.0 c.0.0 d.0.0 e.0, e.1)) (x, rest) d.2 in
-        let ta = ban_channel_field.laws.part.takes bytes a.0.0 a.0.1 fits a.1 in
-        let tb = hostmask_field.laws.part.takes a.0.1 b.0.0 b.0.1 ta.0.rest_fits b.1 in
-        let tc = handle_field.laws.part.takes b.0.1 c.0.0 c.0.1 tb.0.rest_fits c.1 in
-        let td = field64.laws.part.takes c.0.1 d.0.0 d.0.1 tc.0.rest_fits d.1 in
-        let tf = comment_field.laws.part.takes d.0.1 f.0.0 f.0.1 td.0.rest_fits f.1 in
-        let e4 = Takes-then c.0.1 (number w64 d.0.0) d.0.1 (text f.0.0) f.0.1 td.0 tf.0 in
-        let e3 = Takes-then b.0.1 (text c.0.0) c.0.1 (number w64 d.0.0 ++ text f.0.0) f.0.1 tc.0 e4 in
-        let e2 = Takes-then a.0.1 (text b.0.0) b.0.1 (text c.0.0 ++ (number w64 d.0.0 ++ text f.0.0)) f.0.1 tb.0 e3 in
-        let e1 = Takes-then bytes (text a.0.0) a.0.1 (text b.0.0 ++ (text c.0.0 ++ (number w64 d.0.0 ++ text f.0.0))) f.0.1 ta.0 e2 in
-        subst (λ (p : Ban × List ℕ). Takes bytes (ban_bytes p.0) p.1 × PlainBanPasses p.0)
-        (ok_is (new_ban a.0.0 b.0.0 c.0.0 d.0.0 f.0.0, f.0.1) (x, rest) f.2)
-        (e1, (record { channel = ta.1; mask = tb.1; creator = tc.1; expires = td.1; comment = tf.1 }, refl))
-
-    again : (x : Ban) (rest : List ℕ) → PlainBanPasses x → ban_at (ban_bytes x ++ rest) ≡ Ok (x, rest)
-    again x rest good =
-        let after_moment = text x.comment ++ rest in
-        let after_creator = number w64 x.expires ++ after_moment in
-        let after_mask = text x.creator ++ after_creator in
-        let after_channel = text x.mask ++ after_mask in
-        let grouped : ban_bytes x ++ rest ≡ text x.channel ++ after_channel = simp append_assoc in
-        ap ban_at grouped
-        ∙ rw (
-          ban_channel_field.laws.part.again x.channel after_channel good.0.channel,
-          hostmask_field.laws.part.again x.mask after_mask good.0.mask,
-          handle_field.laws.part.again x.creator after_creator good.0.creator,
-          field64.laws.part.again x.expires after_moment good.0.expires,
-          comment_field.laws.part.again x.comment rest good.0.comment,
-        ) refl
-        ∙ ap (λ on. Ok (record x { sticky = on }, rest)) (sym good.1)
-
-    stays : (bytes more : List ℕ) → Stays (ban_at bytes) (ban_at (bytes ++ more)) more
-    stays bytes more =
-        stays_bind (ban_channel_at bytes) _ _ more (ban_channel_field.laws.stays bytes more) (λ a.
-        stays_bind (hostmask_at a.1) _ _ more (hostmask_field.laws.stays a.1 more) (λ b.
-        stays_bind (handle_at b.1) _ _ more (handle_field.laws.stays b.1 more) (λ c.
-        stays_bind (number_at w64 c.1) _ _ more (field64.laws.stays c.1 more) (λ d.
-        stays_bind (comment_at d.1) _ _ more (comment_field.laws.stays d.1 more) (λ e. refl)))))
-
-    no_tag : (bytes : List ℕ) → NoTag (ban_at bytes)
-    no_tag bytes =
-        no_tag_bind (ban_channel_at bytes) _ (ban_channel_field.no_tag bytes) (λ a.
-        no_tag_bind (hostmask_at a.1) _ (hostmask_field.no_tag a.1) (λ b.
-        no_tag_bind (handle_at b.1) _ (handle_field.no_tag b.1) (λ c.
-        no_tag_bind (number_at w64 c.1) _ (field64.no_tag c.1) (λ d.
-        no_tag_bind (comment_at d.1) _ (comment_field.no_tag d.1) (λ e. tt)))))
-
--- ---- what stands after a tag
-
--- the tag and its fields are a change that has a spelling
-abbrev Taken : ℕ → List ℕ → Change → List ℕ → Type 0
-Taken tag bytes x rest = Takes (tag ∷ bytes) (change_bytes x) rest × IsGoodChange x
-
--- changes of one tag
-pub record IsTagged {A : Type 0} (read : List ℕ → Reading A) (spelling : A → List ℕ) (IsGood : A → Type 0) (tag : ℕ) (change_of : A → Change) : Type 0 where
-  pub field : IsField read spelling IsGood
-  pub spelled : (x : A) → change_bytes (change_of x) ≡ tag ∷ spelling x
-  pub good : (x : A) → IsGood x → IsGoodChange (change_of x)
-
-tagged_takes : {A : Type 0} {read : List ℕ → Reading A} {spelling : A → List ℕ} {IsGood : A → Type 0} (kind tag : ℕ) (change_of : A → Change)
-    → IsTagged read spelling IsGood kind change_of → (bytes : List ℕ) (x : Change) (rest : List ℕ) → IsBytes bytes → eqb tag kind ≡ true
-    → made change_of (read bytes) ≡ Ok (x, rest) → Taken tag bytes x rest
-tagged_takes {A = A} {read = read} {spelling = spelling} kind tag change_of tagged bytes x rest fits same e =
-    let tag_is : tag ≡ kind = eqb-true tag kind same in
-    let a = bind_ok (read bytes) (λ y. Ok (change_of y.0, y.1)) (x, rest) e in
-    let t = tagged.field.laws.part.takes bytes a.0.0 a.0.1 fits a.1 in
-    let front : tag ∷ bytes ≡ (kind ∷ spelling a.0.0) ++ a.0.1 = ap (λ (k : ℕ). k ∷ bytes) tag_is ∙ ap (λ (b : List ℕ). kind ∷ b) t.0.parts in
-    let parts : tag ∷ bytes ≡ change_bytes (change_of a.0.0) ++ a.0.1 = front ∙ ap (λ (b : List ℕ). b ++ a.0.1) (sym (tagged.spelled a.0.0)) in
-    subst (λ (p : Change × List ℕ). Taken tag bytes p.0 p.1) (ok_is (change_of a.0.0, a.0.1) (x, rest) a.2)
-    (record { parts = parts; rest_fits = t.0.rest_fits }, tagged.good a.0.0 t.1)
-
-made_stays : {A : Type 0} {read : List ℕ → Reading A} {spelling : A → List ℕ} {IsGood : A → Type 0} (change_of : A → Change)
-    → IsField read spelling IsGood → (bytes more : List ℕ) → Stays (made change_of (read bytes)) (made change_of (read (bytes ++ more))) more
-made_stays {read = read} change_of field bytes more = stays_bind (read bytes) _ _ more (field.laws.stays bytes more) (λ x. refl)
-
-pub made_no_tag : {A : Type 0} {read : List ℕ → Reading A} {spelling : A → List ℕ} {IsGood : A → Type 0} (change_of : A → Change)
-    → IsField read spelling IsGood → (bytes : List ℕ) → NoTag (made change_of (read bytes))
-made_no_tag {read = read} change_of field bytes = no_tag_bind (read bytes) _ (field.no_tag bytes) (λ x. tt)
-
-pub add_user : IsTagged handle_at text (λ handle. is_handle handle ≡ true) 1 AddUser
-add_user = record { field = handle_field; spelled = λ x. refl; good = λ x p. record { shape = shape_passes (AddUser x) p; room = tt } }
-
-pub del_user : IsTagged handle_at text (λ handle. is_handle handle ≡ true) 2 DelUser
-del_user = record { field = handle_field; spelled = λ x. refl; good = λ x p. record { shape = shape_passes (DelUser x) p; room = tt } }
-
-pub add_host : IsTagged handle_and_mask_at (λ x. text x.0 ++ text x.1) (λ x. (is_handle x.0 ≡ true) × (is_hostmask x.1 ≡ true)) 3 (λ x. AddHost x.0 x.1)
-add_host = record { field = handle_and_mask_field; spelled = λ x. refl; good = λ x p. record { shape = shape_passes (AddHost x.0 x.1) p; room = tt } }
-
-pub del_host : IsTagged handle_and_mask_at (λ x. text x.0 ++ text x.1) (λ x. (is_handle x.0 ≡ true) × (is_hostmask x.1 ≡ true)) 4 (λ x. DelHost x.0 x.1)
-del_host = record { field = handle_and_mask_field; spelled = λ x. refl; good = λ x p. record { shape = shape_passes (DelHost x.0 x.1) p; room = tt } }
-
-pub set_global : IsTagged handle_and_flags_at (λ x. text x.0 ++ flags x.1) (λ x. (is_handle x.0 ≡ true) × (nat_lt x.1 (2 ^ 52) ≡ true)) 5
-    (λ x. SetGlobal x.0 x.1)
-set_global = record {
-  field = handle_and_flags_field;
-  spelled = λ x. refl;
-  good = λ x p. record { shape = shape_passes (SetGlobal x.0 x.1) p.0; room = ltb-true x.1 (2 ^ 52) p.1 };
-}
-
-pub set_chan : IsTagged (both handle_at (both channel_at flags_at)) (λ x. text x.0 ++ (text x.1.0 ++ flags x.1.1))
-    (λ x. (is_handle x.0 ≡ true) × ((is_channel_name x.1.0 ≡ true) × (nat_lt x.1.1 (2 ^ 52) ≡ true))) 6 (λ x. SetChan x.0 x.1.0 x.1.1)
-set_chan = record {
-  field = both_field handle_field (both_field channel_field flags_field);
-  spelled = λ x. refl;
-  good = λ x p. record { shape = shape_passes (SetChan x.0 x.1.0 x.1.1) (p.0, p.1.0); room = ltb-true x.1.1 (2 ^ 52) p.1.1 };
-}
-
-pub set_bot : IsTagged handle_and_flags_at (λ x. text x.0 ++ flags x.1) (λ x. (is_handle x.0 ≡ true) × (nat_lt x.1 (2 ^ 52) ≡ true)) 7 (λ x. SetBot x.0 x.1)
-set_bot = record {
-  field = handle_and_flags_field;
-  spelled = λ x. refl;
-  good = λ x p. record { shape = shape_passes (SetBot x.0 x.1) p.0; room = ltb-true x.1 (2 ^ 52) p.1 };
-}
-
-abbrev pub ban_change : Ban → Change
-ban_change ban = AddBan ban.channel ban.mask ban.creator ban.expires ban.comment
-
-pub add_ban : IsTagged ban_at ban_bytes PlainBanPasses 8 ban_change
-add_ban = record {
-  field = ban_field;
-  spelled = λ x. refl;
-  good = λ x p. record { shape = shape_passes (ban_change x) (p.0.channel, p.0.mask, p.0.creator, p.0.comment); room = p.0.expires };
-}
-
-pub del_ban : IsTagged channel_and_mask_at (λ x. text x.0 ++ text x.1) (λ x. (is_ban_channel x.0 ≡ true) × (is_hostmask x.1 ≡ true)) 9 (λ x. DelBan x.0 x.1)
-del_ban = record { field = channel_and_mask_field; spelled = λ x. refl; good = λ x p. record { shape = shape_passes (DelBan x.0 x.1) p; room = tt } }
-
-pub set_info : IsTagged (both handle_at info_at) (λ x. text x.0 ++ text x.1) (λ x. (is_handle x.0 ≡ true) × (is_info x.1 ≡ true)) 10 (λ x. SetInfo x.0 x.1)
-set_info = record {
-  field = both_field handle_field info_field;
-  spelled = λ x. refl;
-  good = λ x p. record { shape = shape_passes (SetInfo x.0 x.1) p; room = tt };
-}
-
-pub set_sticky : IsTagged (both ban_channel_at (both hostmask_at mark_at)) (λ x. text x.0 ++ (text x.1.0 ++ mark x.1.1))
-    (λ x. (is_ban_channel x.0 ≡ true) × ((is_hostmask x.1.0 ≡ true) × Unit {0})) 11 (λ x. SetSticky x.0 x.1.0 x.1.1)
-set_sticky = record {
-  field = both_field ban_channel_field (both_field hostmask_field mark_field);
-  spelled = λ x. refl;
-  good = λ x p. record { shape = shape_passes (SetSticky x.0 x.1.0 x.1.1) (p.0, p.1.0); room = tt };
-}
-
-fields_take : (tag : ℕ) (bytes : List ℕ) (x : Change) (rest : List ℕ) → IsBytes bytes → fields_at tag bytes ≡ Ok (x, rest) → Taken tag bytes x rest
-unfolding fields_at set_chan_at add_ban_at set_info_at set_sticky_at
-fields_take tag bytes x rest fits e =
-    elim (chosen (eqb tag 1) _ _ _ e) [
-      | inl p ↦ tagged_takes 1 tag _ add_user bytes x rest fits p.0 p.1
+casemapping_byte-from : (byte : ℕ) (x : Casemapping) → casemapping_from byte ≡ Some x → casemapping_byte x ≡ byte
+unfolding casemapping_from
+casemapping_byte-from byte x e =
+    elim (chosen (eqb byte 0) _ _ _ e) [
+      | inl p ↦ byte_is byte 0 Ascii x p.0 p.1 refl
       | inr p ↦
-          elim (chosen (eqb tag 2) _ _ _ p.1) [
-            | inl p ↦ tagged_takes 2 tag _ del_user bytes x rest fits p.0 p.1
+          elim (chosen (eqb byte 1) _ _ _ p.1) [
+            | inl p ↦ byte_is byte 1 StrictRfc1459 x p.0 p.1 refl
             | inr p ↦
-                elim (chosen (eqb tag 3) _ _ _ p.1) [
-                  | inl p ↦ tagged_takes 3 tag _ add_host bytes x rest fits p.0 p.1
-                  | inr p ↦
-                      elim (chosen (eqb tag 4) _ _ _ p.1) [
-                        | inl p ↦ tagged_takes 4 tag _ del_host bytes x rest fits p.0 p.1
-                        | inr p ↦
-                            elim (chosen (eqb tag 5) _ _ _ p.1) [
-                              | inl p ↦ tagged_takes 5 tag _ set_global bytes x rest fits p.0 p.1
-                              | inr p ↦
-                                  elim (chosen (eqb tag 6) _ _ _ p.1) [
-                                    | inl p ↦ tagged_takes 6 tag _ set_chan bytes x rest fits p.0 p.1
-                                    | inr p ↦
-                                        elim (chosen (eqb tag 7) _ _ _ p.1) [
-                                          | inl p ↦ tagged_takes 7 tag _ set_bot bytes x rest fits p.0 p.1
-                                          | inr p ↦
-                                              elim (chosen (eqb tag 8) _ _ _ p.1) [
-                                                | inl p ↦ tagged_takes 8 tag _ add_ban bytes x rest fits p.0 p.1
-                                                | inr p ↦
-                                                    elim (chosen (eqb tag 9) _ _ _ p.1) [
-                                                      | inl p ↦ tagged_takes 9 tag _ del_ban bytes x rest fits p.0 p.1
-                                                      | inr p ↦
-                                                          elim (chosen (eqb tag 10) _ _ _ p.1) [
-                                                            | inl p ↦ tagged_takes 10 tag _ set_info bytes x rest fits p.0 p.1
-                                                            | inr p ↦
-                                                                elim (chosen (eqb tag 11) _ _ _ p.1) [
-                                                                  | inl p ↦ tagged_takes 11 tag _ set_sticky bytes x rest fits p.0 p.1
-                                                                  | inr p ↦
-                                                                      absurd (no_value x rest p.1)
-                                                                ]
-                                                          ]
-                                                    ]
-                                              ]
-                                        ]
-                                  ]
-                            ]
-                      ]
+                elim (chosen (eqb byte 2) _ _ _ p.1) [
+                  | inl p ↦ byte_is byte 2 Rfc1459 x p.0 p.1 refl
+                  | inr p ↦ absurd (none_is x p.1)
                 ]
           ]
     ]
   where
-    no_value : (x : Change) (rest : List ℕ) → (let r : Reading Change = Err BadTag in r) ≡ Ok (x, rest) → ⊥
-    no_value x rest e = cc
+    none_is : (x : Casemapping) → (let n : Option Casemapping = None in n) ≡ Some x → ⊥
+    none_is x e = cc
 
-pub fields_stay : (tag : ℕ) (bytes more : List ℕ) → Stays (fields_at tag bytes) (fields_at tag (bytes ++ more)) more
-unfolding fields_at set_chan_at add_ban_at set_info_at set_sticky_at
-fields_stay tag bytes more =
-    stays_if (eqb tag 1) _ _ _ _ more (made_stays AddUser add_user.field bytes more)
-    (stays_if (eqb tag 2) _ _ _ _ more (made_stays DelUser del_user.field bytes more)
-    (stays_if (eqb tag 3) _ _ _ _ more (made_stays (λ x. AddHost x.0 x.1) add_host.field bytes more)
-    (stays_if (eqb tag 4) _ _ _ _ more (made_stays (λ x. DelHost x.0 x.1) del_host.field bytes more)
-    (stays_if (eqb tag 5) _ _ _ _ more (made_stays (λ x. SetGlobal x.0 x.1) set_global.field bytes more)
-    (stays_if (eqb tag 6) _ _ _ _ more (made_stays (λ x. SetChan x.0 x.1.0 x.1.1) set_chan.field bytes more)
-    (stays_if (eqb tag 7) _ _ _ _ more (made_stays (λ x. SetBot x.0 x.1) set_bot.field bytes more)
-    (stays_if (eqb tag 8) _ _ _ _ more (made_stays ban_change add_ban.field bytes more)
-    (stays_if (eqb tag 9) _ _ _ _ more (made_stays (λ x. DelBan x.0 x.1) del_ban.field bytes more)
-    (stays_if (eqb tag 10) _ _ _ _ more (made_stays (λ x. SetInfo x.0 x.1) set_info.field bytes more)
-    (stays_if (eqb tag 11) _ _ _ _ more (made_stays (λ x. SetSticky x.0 x.1.0 x.1.1) set_sticky.field bytes more) refl))))))))))
+casemapping_from-byte : (mapping : Casemapping) → casemapping_from (casemapping_byte mapping) ≡ Some mapping
+unfolding casemapping_from
+casemapping_from-byte Ascii = refl
+casemapping_from-byte StrictRfc1459 = refl
+casemapping_from-byte Rfc1459 = refl
+
+-- a known value, and the bytes after it
+known_is : (value : Option Casemapping) (bytes : List ℕ) (x : Casemapping) (rest : List ℕ) → known value bytes ≡ Ok (x, rest) → (value ≡ Some x) × (bytes ≡ rest)
+known_is (Some y) bytes x rest e =
+    let same = ok_is (y, bytes) (x, rest) e in
+    (ap (λ (p : Casemapping × List ℕ). Some p.0) same, ap (λ (p : Casemapping × List ℕ). p.1) same)
+known_is None bytes x rest e = absurd cc
+
+known_stays : (value : Option Casemapping) (bytes more : List ℕ) → Stays (known value bytes) (known value (bytes ++ more)) more
+known_stays (Some x) bytes more = refl
+known_stays None bytes more = refl
+
+known_no_tag : (value : Option Casemapping) (bytes : List ℕ) → NoTag (known value bytes)
+known_no_tag (Some x) bytes = tt
+known_no_tag None bytes = tt
+
+casemapping_field : IsField casemapping_at (λ mapping. casemapping_byte mapping ∷ []) (λ mapping. Unit {0})
+unfolding casemapping_at byte_at
+casemapping_field = record { laws = record { part = record { takes = takes; again = again }; stays = stays }; no_tag = no_tag }
+  where
+    takes : (bytes : List ℕ) (x : Casemapping) (rest : List ℕ) → IsBytes bytes → casemapping_at bytes ≡ Ok (x, rest)
+        → Takes bytes (casemapping_byte x ∷ []) rest × Unit {0}
+    takes bytes x rest fits e =
+        let a = bind_ok (byte_at bytes) (λ byte. known (casemapping_from byte.0) byte.1) (x, rest) e in
+        let t = (byte_field.laws.part.takes bytes a.0.0 a.0.1 fits a.1).0 in
+        let k = known_is (casemapping_from a.0.0) a.0.1 x rest a.2 in
+        let took : Takes bytes (casemapping_byte x ∷ []) a.0.1 =
+        subst (λ (b : ℕ). Takes bytes (b ∷ []) a.0.1) (sym (casemapping_byte-from a.0.0 x k.0)) t in
+        (subst (λ (r : List ℕ). Takes bytes (casemapping_byte x ∷ []) r) k.1 took, tt)
+
+    again : (x : Casemapping) (rest : List ℕ) → Unit {0} → casemapping_at ((casemapping_byte x ∷ []) ++ rest) ≡ Ok (x, rest)
+    again x rest good = rw (casemapping_from-byte x) refl
+
+    stays : (bytes more : List ℕ) → Stays (casemapping_at bytes) (casemapping_at (bytes ++ more)) more
+    stays bytes more =
+        stays_bind (byte_at bytes) _ _ more (byte_field.laws.stays bytes more) (λ byte. known_stays (casemapping_from byte.0) byte.1 more)
+
+    no_tag : (bytes : List ℕ) → NoTag (casemapping_at bytes)
+    no_tag bytes = no_tag_bind (byte_at bytes) _ (byte_field.no_tag bytes) (λ byte. known_no_tag (casemapping_from byte.0) byte.1)
+
+-- the person of who asks has a spelling
+abbrev IsGoodAsker : Asker → Type 0
+IsGoodAsker asker = is_person asker.person ≡ true
+
+asker_field : IsField asker_at asker_bytes IsGoodAsker
+unfolding asker_at
+asker_field =
+    made_field (both_field person_field casemapping_field) asker_of (λ asker. (asker.person, asker.casemapping)) (λ y. refl)
+    asker_bytes (λ x good. refl) (λ y. refl) IsGoodAsker (λ x good. good.0) (λ y good. (good, tt))
+
+-- ---- the edit that a person asks for
+
+-- the tag that was read, if it is one of an edit
+abbrev kept : Bool → ℕ → List ℕ → Reading ℕ
+kept known tag bytes = if known then Ok (tag, bytes) else Err NotCanonical
+
+was_known : (known : Bool) (tag : ℕ) (bytes : List ℕ) (x : Edit) (rest : List ℕ)
+    → (kept known tag bytes >>= λ t. edit_fields_at t.0 t.1) ≡ Ok (x, rest) → edit_fields_at tag bytes ≡ Ok (x, rest)
+was_known true tag bytes x rest e = e
+was_known false tag bytes x rest e = absurd cc
+
+-- the spelling of an edit begins with one of the tags
+begins_known : (x : Edit) (rest : List ℕ) → asked_edit_at (edit_bytes x ++ rest) ≡ edit_at (edit_bytes x ++ rest)
+unfolding asked_edit_at edit_at byte_at
+begins_known (AddUser handle) rest = refl
+begins_known (DelUser handle) rest = refl
+begins_known (AddHost handle mask) rest = refl
+begins_known (DelHost handle mask) rest = refl
+begins_known (SetGlobal handle bits) rest = refl
+begins_known (SetChan handle channel bits) rest = refl
+begins_known (SetBot handle bits) rest = refl
+begins_known (AddBan channel mask creator expires comment) rest = refl
+begins_known (DelBan channel mask) rest = refl
+begins_known (SetInfo handle info) rest = refl
+begins_known (SetSticky channel mask on) rest = refl
+
+asked_field : IsField asked_edit_at edit_bytes IsGoodEdit
+unfolding asked_edit_at edit_at byte_at
+asked_field = record { laws = record { part = record { takes = takes; again = again }; stays = stays }; no_tag = no_tag }
+  where
+    takes : (bytes : List ℕ) (x : Edit) (rest : List ℕ) → IsBytes bytes → asked_edit_at bytes ≡ Ok (x, rest) → Takes bytes (edit_bytes x) rest × IsGoodEdit x
+    takes [] x rest fits e = absurd cc
+    takes (tag ∷ bytes) x rest fits e = edit_sort.part.takes (tag ∷ bytes) x rest fits (was_known (is_edit_tag tag) tag bytes x rest e)
+
+    again : (x : Edit) (rest : List ℕ) → IsGoodEdit x → asked_edit_at (edit_bytes x ++ rest) ≡ Ok (x, rest)
+    again x rest good = begins_known x rest ∙ edit_sort.part.again x rest good
+
+    stays : (bytes more : List ℕ) → Stays (asked_edit_at bytes) (asked_edit_at (bytes ++ more)) more
+    stays bytes more =
+        stays_bind (checked is_edit_tag (byte_at bytes)) _ _ more (stays_checked is_edit_tag (byte_at bytes) _ more (byte_field.laws.stays bytes more))
+        (λ tag. fields_stay tag.0 tag.1 more)
+
+    no_tag : (bytes : List ℕ) → NoTag (asked_edit_at bytes)
+    no_tag [] = tt
+    no_tag (tag ∷ bytes) = by (is_edit_tag tag) refl
+      where
+        by : (known : Bool) → is_edit_tag tag ≡ known → NoTag (kept known tag bytes >>= λ t. edit_fields_at t.0 t.1)
+        by true is = known_edit tag bytes is
+        by false is = tt
+
+named_field : IsField (both asker_at asked_edit_at) (λ x. asker_bytes x.0 ++ edit_bytes x.1) (λ x. IsGoodAsker x.0 × IsGoodEdit x.1)
+named_field = both_field asker_field asked_field
+
+pub named_no_tag : (bytes : List ℕ) → NoTag (named_at bytes)
+unfolding named_at
+named_no_tag bytes = no_tag_bind (both asker_at asked_edit_at bytes) _ (named_field.no_tag bytes) (λ x. tt)
 
 -- ---- changes
 
+nobody : (edit : Edit) → IsGoodEdit edit → IsGoodChange (by_nobody edit)
+nobody edit good = record { shape = good.shape; room = good.room }
+
+somebody : (asker : Asker) (edit : Edit) → IsGoodAsker asker → IsGoodEdit edit → IsGoodChange (by_person asker edit)
+somebody asker edit named good = record { shape = rw named good.shape; room = good.room }
+
+pub edit_is_good : (change : Change) → IsGoodChange change → IsGoodEdit change.edit
+edit_is_good change good = record { shape = (parts_pass change good.shape).1; room = good.room }
+
+-- a reading of an edit is one of a change in nobody's name
+pub nobody_takes : (bytes : List ℕ) (reading : Reading Edit) (x : Change) (rest : List ℕ)
+    → ((edit : Edit) (after : List ℕ) → reading ≡ Ok (edit, after) → Takes bytes (edit_bytes edit) after × IsGoodEdit edit)
+    → made by_nobody reading ≡ Ok (x, rest) → Takes bytes (change_bytes x) rest × (IsGoodChange x × (x.by ≡ None))
+nobody_takes bytes reading x rest takes e =
+    let a = bind_ok reading (λ y. Ok (by_nobody y.0, y.1)) (x, rest) e in
+    let t = takes a.0.0 a.0.1 a.1 in
+    subst (λ (p : Change × List ℕ). Takes bytes (change_bytes p.0) p.1 × (IsGoodChange p.0 × (p.0.by ≡ None)))
+    (ok_is (by_nobody a.0.0, a.0.1) (x, rest) a.2) (t.0, (nobody a.0.0 t.1, refl))
+
+named_takes : (tag : ℕ) (bytes : List ℕ) (x : Change) (rest : List ℕ) → IsBytes bytes → eqb tag 12 ≡ true → named_at bytes ≡ Ok (x, rest)
+    → Takes (tag ∷ bytes) (change_bytes x) rest × IsGoodChange x
+unfolding named_at
+named_takes tag bytes x rest fits same e =
+    let tag_is : tag ≡ 12 = eqb-true tag 12 same in
+    let a = bind_ok (both asker_at asked_edit_at bytes) (λ y. Ok (by_person y.0.0 y.0.1, y.1)) (x, rest) e in
+    let t = named_field.laws.part.takes bytes a.0.0 a.0.1 fits a.1 in
+    let parts : tag ∷ bytes ≡ change_bytes (by_person a.0.0.0 a.0.0.1) ++ a.0.1 =
+    ap (λ (k : ℕ). k ∷ bytes) tag_is ∙ ap (λ (b : List ℕ). 12 ∷ b) t.0.parts in
+    subst (λ (p : Change × List ℕ). Takes (tag ∷ bytes) (change_bytes p.0) p.1 × IsGoodChange p.0)
+    (ok_is (by_person a.0.0.0 a.0.0.1, a.0.1) (x, rest) a.2)
+    (record { parts = parts; rest_fits = t.0.rest_fits }, somebody a.0.0.0 a.0.0.1 t.1.0 t.1.1)
+
+named_stays : (bytes more : List ℕ) → Stays (named_at bytes) (named_at (bytes ++ more)) more
+unfolding named_at
+named_stays bytes more = stays_bind (both asker_at asked_edit_at bytes) _ _ more (named_field.laws.stays bytes more) (λ x. refl)
+
+-- no edit has the tag of a change in a person's name
+no_edit : (bytes : List ℕ) → edit_fields_at 12 bytes ≡ Err BadTag
+unfolding edit_fields_at
+no_edit bytes = refl
+
+-- an edit that is read is a change in nobody's name
+reads_nobody : (bytes : List ℕ) (edit : Edit) (rest : List ℕ) → edit_at bytes ≡ Ok (edit, rest) → change_at bytes ≡ Ok (by_nobody edit, rest)
+unfolding edit_at change_at fields_at byte_at
+reads_nobody [] edit rest e = absurd cc
+reads_nobody (tag ∷ bytes) edit rest e = by (eqb tag 12) refl
+  where
+    by : (named : Bool) → eqb tag 12 ≡ named → (if named then named_at bytes else made by_nobody (edit_fields_at tag bytes)) ≡ Ok (by_nobody edit, rest)
+    by true same =
+        let tag_is : tag ≡ 12 = eqb-true tag 12 same in
+        absurd (no_value edit rest (sym (no_edit bytes) ∙ ap (λ k. edit_fields_at k bytes) (sym tag_is) ∙ e))
+    by false other = ap (made by_nobody) e
+
+again_by : (by : Option Asker) (edit : Edit) (rest : List ℕ) → bad_asker by ≡ None → IsGoodEdit edit
+    → change_at (bytes_by by edit ++ rest) ≡ Ok (record { by = by; edit = edit }, rest)
+unfolding change_at fields_at byte_at named_at
+again_by None edit rest named good = reads_nobody (edit_bytes edit ++ rest) edit rest (edit_sort.part.again edit rest good)
+again_by (Some asker) edit rest named good =
+    ap (made (λ x. by_person x.0 x.1)) (named_field.laws.part.again (asker, edit) rest (passes _ _ named, good))
+
 pub change_sort : IsSort change_at change_bytes IsGoodChange
-unfolding change_at fields_at set_chan_at add_ban_at set_info_at set_sticky_at byte_at
+unfolding change_at fields_at byte_at
 change_sort = record { part = record { takes = takes; again = again }; stays = stays }
   where
     takes : (bytes : List ℕ) (x : Change) (rest : List ℕ) → IsBytes bytes → change_at bytes ≡ Ok (x, rest)
         → Takes bytes (change_bytes x) rest × IsGoodChange x
     takes [] x rest fits e = absurd cc
-    takes (tag ∷ bytes) x rest fits e = fields_take tag bytes x rest (λ i. fits (suc i)) e
-
-    of : {A : Type 0} {read : List ℕ → Reading A} {spelling : A → List ℕ} {IsGood : A → Type 0} (change_of : A → Change) → IsField read spelling IsGood
-        → (x : A) (rest : List ℕ) → IsGood x → made change_of (read (spelling x ++ rest)) ≡ Ok (change_of x, rest)
-    of change_of field x rest good = ap (made change_of) (field.laws.part.again x rest good)
-
-    bits_pass : (bits : ℕ) → bits < 2 ^ 52 → nat_lt bits (2 ^ 52) ≡ true
-    bits_pass bits lt = grind (arith, nat_tests)
+    takes (tag ∷ bytes) x rest fits e =
+        elim (chosen (eqb tag 12) _ _ _ e) [
+          | inl p ↦ named_takes tag bytes x rest (λ i. fits (suc i)) p.0 p.1
+          | inr p ↦
+              let t = nobody_takes (tag ∷ bytes) (edit_fields_at tag bytes) x rest (edit_takes tag bytes fits) p.1 in
+              (t.0, t.1.0)
+        ]
+      where
+        edit_takes : (tag : ℕ) (bytes : List ℕ) → IsBytes (tag ∷ bytes) → (edit : Edit) (after : List ℕ) → edit_fields_at tag bytes ≡ Ok (edit, after)
+            → Takes (tag ∷ bytes) (edit_bytes edit) after × IsGoodEdit edit
+        edit_takes tag bytes fits edit after e = fields_take tag bytes edit after (λ i. fits (suc i)) e
 
     again : (x : Change) (rest : List ℕ) → IsGoodChange x → change_at (change_bytes x ++ rest) ≡ Ok (x, rest)
-    again (AddUser handle) rest good = of AddUser handle_field handle rest (fields_pass (AddUser handle) good.shape)
-    again (DelUser handle) rest good = of DelUser handle_field handle rest (fields_pass (DelUser handle) good.shape)
-    again (AddHost handle mask) rest good = of (λ x. AddHost x.0 x.1) handle_and_mask_field (handle, mask) rest (fields_pass (AddHost handle mask) good.shape)
-    again (DelHost handle mask) rest good = of (λ x. DelHost x.0 x.1) handle_and_mask_field (handle, mask) rest (fields_pass (DelHost handle mask) good.shape)
-    again (SetGlobal handle bits) rest good =
-        of (λ x. SetGlobal x.0 x.1) handle_and_flags_field (handle, bits) rest (fields_pass (SetGlobal handle bits) good.shape, bits_pass bits good.room)
-    again (SetChan handle channel bits) rest good =
-        let p = fields_pass (SetChan handle channel bits) good.shape in
-        of (λ x. SetChan x.0 x.1.0 x.1.1) set_chan.field (handle, (channel, bits)) rest (p.0, (p.1, bits_pass bits good.room))
-    again (SetBot handle bits) rest good =
-        of (λ x. SetBot x.0 x.1) handle_and_flags_field (handle, bits) rest (fields_pass (SetBot handle bits) good.shape, bits_pass bits good.room)
-    again (AddBan channel mask creator expires comment) rest good =
-        let p = fields_pass (AddBan channel mask creator expires comment) good.shape in
-        of ban_change ban_field (new_ban channel mask creator expires comment) rest
-        (record { channel = p.0; mask = p.1; creator = p.2; expires = good.room; comment = p.3 }, refl)
-    again (DelBan channel mask) rest good = of (λ x. DelBan x.0 x.1) channel_and_mask_field (channel, mask) rest
-        (fields_pass (DelBan channel mask) good.shape)
-    again (SetInfo handle info) rest good = of (λ x. SetInfo x.0 x.1) set_info.field (handle, info) rest (fields_pass (SetInfo handle info) good.shape)
-    again (SetSticky channel mask on) rest good =
-        let p = fields_pass (SetSticky channel mask on) good.shape in
-        of (λ x. SetSticky x.0 x.1.0 x.1.1) set_sticky.field (channel, (mask, on)) rest (p.0, (p.1, tt))
+    again x rest good = again_by x.by x.edit rest (parts_pass x good.shape).0 (edit_is_good x good)
 
     stays : (bytes more : List ℕ) → Stays (change_at bytes) (change_at (bytes ++ more)) more
-    stays bytes more = stays_bind (byte_at bytes) _ _ more (byte_field.laws.stays bytes more) (λ tag. fields_stay tag.0 tag.1 more)
+    stays bytes more =
+        stays_bind (byte_at bytes) _ _ more (byte_field.laws.stays bytes more) (λ tag.
+        stays_if (eqb tag.0 12) _ _ _ _ more (named_stays tag.1 more)
+        (stays_bind (edit_fields_at tag.0 tag.1) _ _ more (fields_stay tag.0 tag.1 more) (λ x. refl)))

@@ -2,6 +2,7 @@ pub mod ShapeLaws
 pub mod Steps
 pub mod PartLaws
 pub mod FieldLaws
+pub mod EditLaws
 pub mod ChangeLaws
 pub mod SortLaws
 pub mod ItemSteps

@@ -1,36 +1,69 @@
--- Changes and records as layout 1 spelled them: what is read was spelled so, what was spelled so is read, and what was told stays.
-use Rattle.std.proofs.Common.{◌≡◌, ℕ, suc, true, false, eqb, List, [], ◌∷◌, ◌++◌, Ok, Err, refl, sym, ap, subst, ◌∙◌, inl, inr}
+-- Changes and records as older layouts spelled them: what is read was spelled so, what was spelled so is read, and what was told stays.
+use Rattle.std.proofs.Common.{◌≡◌, ℕ, suc, true, false, eqb, List, [], ◌∷◌, ◌++◌, Option, None, Ok, Err, refl, sym, ap, subst, ◌∙◌, inl, inr}
 use Rattle.std.proofs.lemmas.Bool.{eqb-true}
 use Rattle.userfile.specs.Shapes.{is_info}
 use Rattle.userfile.specs.declared.ban.Ban.{Ban}
 use Rattle.userfile.specs.declared.user.User.{User}
+use Rattle.userfile.specs.Changes.{by_nobody}
+use Rattle.userfile.specs.declared.change.Asker.{Asker}
 use Rattle.userfile.specs.declared.change.Change.{Change}
-use Rattle.userfile.specs.declared.change.Change.TheVariants.{AddUser, DelUser, AddHost, DelHost, SetGlobal, SetChan, SetBot, AddBan, DelBan}
-use Rattle.userfile.specs.declared.change.Change.TheVariants.{SetInfo, SetSticky}
+use Rattle.userfile.specs.declared.edit.Edit.{Edit}
+use Rattle.userfile.specs.declared.edit.Edit.TheVariants.{AddUser, DelUser, AddHost, DelHost, SetGlobal, SetChan, SetBot, AddBan, DelBan}
+use Rattle.userfile.specs.declared.edit.Edit.TheVariants.{SetInfo, SetSticky}
 use Rattle.usercodec.specs.declared.fault.CodecFault.TheVariants.{BadTag}
 use Rattle.usercodec.specs.declared.records.Record.{Record}
 use Rattle.usercodec.specs.declared.records.Record.TheVariants as records
 use Rattle.usercodec.specs.Fields.{Reading, byte_at}
-use Rattle.usercodec.specs.Changes.{change_bytes, made, ban_at, change_at}
+use Rattle.usercodec.specs.Changes.{edit_bytes, bytes_by, change_bytes, made, ban_at, edit_fields_at, edit_at}
 use Rattle.usercodec.specs.Records.{plain_user_at}
 use Rattle.usercodec.specs.Laws.{Stays}
-use Rattle.usercodec.specs.Old.{change_bytes_old, IsOldChange, IsGoodChangeOld, is_change_tag_old, fields_at_old, change_at_old}
+use Rattle.usercodec.specs.Old.{IsGoodNamelessChange, nameless_change_at}
+use Rattle.usercodec.specs.Old.{change_bytes_old, IsOldEdit, IsGoodChangeOld, is_change_tag_old, fields_at_old, change_at_old}
 use Rattle.usercodec.specs.Old.{record_bytes_old, IsGoodRecordOld, record_fields_at_old, record_at_old}
 use Rattle.usercodec.proofs.Steps.{IsBytes, head_is, chosen, bind_ok, ok_is, Takes, stays_bind, stays_if}
 use Rattle.usercodec.proofs.FieldLaws.{IsSort, IsField, byte_field}
-use Rattle.usercodec.proofs.ChangeLaws.{change_sort, fields_stay, PlainBanPasses, ban_field}
+use Rattle.usercodec.proofs.EditLaws.{edit_sort, fields_stay, PlainBanPasses, ban_field}
+use Rattle.usercodec.proofs.ChangeLaws.{edit_is_good, nobody_takes}
 use Rattle.usercodec.proofs.RecordLaws.{PlainUserPasses, plain_user_field, user_is_good, user_passes, ban_is_good, ban_passes}
 
 no_value : {A : Type 0} (x : A) (rest : List ℕ) → (let r : Reading A = Err BadTag in r) ≡ Ok (x, rest) → ⊥
 no_value x rest e = cc
 
--- ---- changes
+-- ---- changes in nobody's name
+
+-- such a change is spelled as its edit
+bare : (x : Change) → x.by ≡ None → change_bytes x ≡ edit_bytes x.edit
+bare x nameless = ap (λ by. bytes_by by x.edit) nameless
+
+-- and is read again from it
+nobody_again : (x : Change) (reading : Reading Edit) (rest : List ℕ) → x.by ≡ None → reading ≡ Ok (x.edit, rest) → made by_nobody reading ≡ Ok (x, rest)
+nobody_again x reading rest nameless e = ap (made by_nobody) e ∙ ap (λ (by : Option Asker). Ok (record x { by = by }, rest)) (sym nameless)
+
+pub nameless_sort : IsSort nameless_change_at change_bytes IsGoodNamelessChange
+unfolding nameless_change_at
+nameless_sort = record { part = record { takes = takes; again = again }; stays = stays }
+  where
+    takes : (bytes : List ℕ) (x : Change) (rest : List ℕ) → IsBytes bytes → nameless_change_at bytes ≡ Ok (x, rest)
+        → Takes bytes (change_bytes x) rest × IsGoodNamelessChange x
+    takes bytes x rest fits e =
+        let t = nobody_takes bytes (edit_at bytes) x rest (λ edit after. edit_sort.part.takes bytes edit after fits) e in
+        (t.0, record { good = t.1.0; nameless = t.1.1 })
+
+    again : (x : Change) (rest : List ℕ) → IsGoodNamelessChange x → nameless_change_at (change_bytes x ++ rest) ≡ Ok (x, rest)
+    again x rest good =
+        ap (λ (b : List ℕ). nameless_change_at (b ++ rest)) (bare x good.nameless)
+        ∙ nobody_again x (edit_at (edit_bytes x.edit ++ rest)) rest good.nameless (edit_sort.part.again x.edit rest (edit_is_good x good.good))
+
+    stays : (bytes more : List ℕ) → Stays (nameless_change_at bytes) (nameless_change_at (bytes ++ more)) more
+    stays bytes more = stays_bind (edit_at bytes) _ _ more (edit_sort.stays bytes more) (λ x. refl)
+
+-- ---- changes of layout 1
 
 differ : false ≡ true → ⊥
 differ e = cc
 
--- what begins with an old tag is an old change
-was_old : (x : Change) (tag : ℕ) (bytes rest : List ℕ) → is_change_tag_old tag ≡ true → tag ∷ bytes ≡ change_bytes x ++ rest → IsOldChange x
+-- what begins with an old tag is an old edit
+was_old : (x : Edit) (tag : ℕ) (bytes rest : List ℕ) → is_change_tag_old tag ≡ true → tag ∷ bytes ≡ edit_bytes x ++ rest → IsOldEdit x
 was_old (AddUser handle) tag bytes rest known e = tt
 was_old (DelUser handle) tag bytes rest known e = tt
 was_old (AddHost handle mask) tag bytes rest known e = tt
@@ -43,8 +76,23 @@ was_old (DelBan channel mask) tag bytes rest known e = tt
 was_old (SetInfo handle info) tag bytes rest known e = differ (sym (ap is_change_tag_old (head_is tag bytes 10 _ e)) ∙ known)
 was_old (SetSticky channel mask on) tag bytes rest known e = differ (sym (ap is_change_tag_old (head_is tag bytes 11 _ e)) ∙ known)
 
+-- an old edit begins with an old tag
+begins_old : (x : Edit) (rest : List ℕ) → IsOldEdit x → change_at_old (edit_bytes x ++ rest) ≡ made by_nobody (edit_at (edit_bytes x ++ rest))
+unfolding change_at_old fields_at_old edit_at byte_at
+begins_old (AddUser handle) rest old = refl
+begins_old (DelUser handle) rest old = refl
+begins_old (AddHost handle mask) rest old = refl
+begins_old (DelHost handle mask) rest old = refl
+begins_old (SetGlobal handle bits) rest old = refl
+begins_old (SetChan handle channel bits) rest old = refl
+begins_old (SetBot handle bits) rest old = refl
+begins_old (AddBan channel mask creator expires comment) rest old = refl
+begins_old (DelBan channel mask) rest old = refl
+begins_old (SetInfo handle info) rest old = absurd old
+begins_old (SetSticky channel mask on) rest old = absurd old
+
 pub change_sort_old : IsSort change_at_old change_bytes_old IsGoodChangeOld
-unfolding change_at_old fields_at_old change_at byte_at
+unfolding change_at_old fields_at_old edit_at byte_at
 change_sort_old = record { part = record { takes = takes; again = again }; stays = stays }
   where
     takes : (bytes : List ℕ) (x : Change) (rest : List ℕ) → IsBytes bytes → change_at_old bytes ≡ Ok (x, rest)
@@ -53,30 +101,25 @@ change_sort_old = record { part = record { takes = takes; again = again }; stays
     takes (tag ∷ bytes) x rest fits e =
         elim (chosen (is_change_tag_old tag) _ _ _ e) [
           | inl p ↦
-              let t = change_sort.part.takes (tag ∷ bytes) x rest fits p.1 in
-              (t.0, record { good = t.1; old = was_old x tag bytes rest p.0 t.0.parts })
+              let t = nobody_takes (tag ∷ bytes) (edit_fields_at tag bytes) x rest (λ edit after. edit_sort.part.takes (tag ∷ bytes) edit after fits) p.1 in
+              let old = was_old x.edit tag bytes rest p.0 (t.0.parts ∙ ap (λ (b : List ℕ). b ++ rest) (bare x t.1.1)) in
+              (t.0, record { good = t.1.0; nameless = t.1.1; old = old })
           | inr p ↦ absurd (no_value x rest p.1)
         ]
 
     again : (x : Change) (rest : List ℕ) → IsGoodChangeOld x → change_at_old (change_bytes_old x ++ rest) ≡ Ok (x, rest)
-    again (AddUser handle) rest good = change_sort.part.again (AddUser handle) rest good.good
-    again (DelUser handle) rest good = change_sort.part.again (DelUser handle) rest good.good
-    again (AddHost handle mask) rest good = change_sort.part.again (AddHost handle mask) rest good.good
-    again (DelHost handle mask) rest good = change_sort.part.again (DelHost handle mask) rest good.good
-    again (SetGlobal handle bits) rest good = change_sort.part.again (SetGlobal handle bits) rest good.good
-    again (SetChan handle channel bits) rest good = change_sort.part.again (SetChan handle channel bits) rest good.good
-    again (SetBot handle bits) rest good = change_sort.part.again (SetBot handle bits) rest good.good
-    again (AddBan channel mask creator expires comment) rest good = change_sort.part.again (AddBan channel mask creator expires comment) rest good.good
-    again (DelBan channel mask) rest good = change_sort.part.again (DelBan channel mask) rest good.good
-    again (SetInfo handle info) rest good = absurd good.old
-    again (SetSticky channel mask on) rest good = absurd good.old
+    again x rest good =
+        ap (λ (b : List ℕ). change_at_old (b ++ rest)) (bare x good.nameless)
+        ∙ begins_old x.edit rest good.old
+        ∙ nobody_again x (edit_at (edit_bytes x.edit ++ rest)) rest good.nameless (edit_sort.part.again x.edit rest (edit_is_good x good.good))
 
     stays : (bytes more : List ℕ) → Stays (change_at_old bytes) (change_at_old (bytes ++ more)) more
     stays bytes more =
         stays_bind (byte_at bytes) _ _ more (byte_field.laws.stays bytes more) (λ tag.
-        stays_if (is_change_tag_old tag.0) _ _ _ _ more (fields_stay tag.0 tag.1 more) refl)
+        stays_if (is_change_tag_old tag.0) _ _ _ _ more
+        (stays_bind (edit_fields_at tag.0 tag.1) _ _ more (fields_stay tag.0 tag.1 more) (λ x. refl)) refl)
 
--- ---- records
+-- ---- records of layout 1
 
 no_info : (info : List ℕ) → info ≡ [] → is_info info ≡ true
 unfolding is_info

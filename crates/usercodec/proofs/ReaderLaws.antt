@@ -4,18 +4,19 @@ use Rattle.std.specs.Int.{w16, w32}
 use Rattle.std.proofs.lemmas.Bool.{eqb-true}
 use Rattle.userfile.specs.declared.error.ChangeFault.{ChangeFault}
 use Rattle.userfile.specs.declared.error.ChangeFault.TheVariants.{BadHandle, BadMask, BadChannel, BadComment, NoSuchUser, UserExists, MaskExists}
-use Rattle.userfile.specs.declared.error.ChangeFault.TheVariants.{NoSuchMask, BanExists, NoSuchBan, Full}
+use Rattle.userfile.specs.declared.error.ChangeFault.TheVariants.{NoSuchMask, BanExists, NoSuchBan, Full, NotAllowed}
 use Rattle.usercodec.specs.Fields.{number, byte_at, number_at}
 use Rattle.usercodec.specs.Changes.{both, change_at, change_bytes, IsGoodChange}
 use Rattle.usercodec.specs.FaultBytes.{fault_byte, fault_from, known, fault_at}
 use Rattle.usercodec.specs.Records.{record_at, record_bytes, IsGoodRecord}
+use Rattle.usercodec.specs.Old.{IsGoodNamelessChange, nameless_change_at}
 use Rattle.usercodec.specs.Old.{change_at_old, change_bytes_old, IsGoodChangeOld, record_at_old, record_bytes_old, IsGoodRecordOld}
 use Rattle.usercodec.proofs.Steps.{IsBytes, bind_ok, chosen, ok_is, Takes}
 use Rattle.usercodec.proofs.PartLaws.{IsPart, both_part}
 use Rattle.usercodec.proofs.FieldLaws.{byte_field, field16, field32}
 use Rattle.usercodec.proofs.ChangeLaws.{change_sort}
 use Rattle.usercodec.proofs.RecordLaws.{record_sort}
-use Rattle.usercodec.proofs.OldLaws.{change_sort_old, record_sort_old}
+use Rattle.usercodec.proofs.OldLaws.{nameless_sort, change_sort_old, record_sort_old}
 
 pub byte_part : IsPart byte_at (λ byte. byte ∷ []) (λ byte. byte < 256)
 byte_part = byte_field.laws.part
@@ -31,6 +32,9 @@ change_part = change_sort.part
 
 pub record_part : IsPart record_at record_bytes IsGoodRecord
 record_part = record_sort.part
+
+pub nameless_change_part : IsPart nameless_change_at change_bytes IsGoodNamelessChange
+nameless_change_part = nameless_sort.part
 
 pub change_part_old : IsPart change_at_old change_bytes_old IsGoodChangeOld
 change_part_old = change_sort_old.part
@@ -83,7 +87,11 @@ fault_byte-from byte x e =
                                                                 elim (chosen (eqb byte 11) _ _ _ p.1) [
                                                                   | inl p ↦ byte_is byte 11 Full x p.0 p.1 refl
                                                                   | inr p ↦
-                                                                      absurd (none_is x p.1)
+                                                                      elim (chosen (eqb byte 12) _ _ _ p.1) [
+                                                                        | inl p ↦ byte_is byte 12 NotAllowed x p.0 p.1 refl
+                                                                        | inr p ↦
+                                                                            absurd (none_is x p.1)
+                                                                      ]
                                                                 ]
                                                           ]
                                                     ]
@@ -112,6 +120,7 @@ fault_from-byte BanExists = refl
 fault_from-byte NoSuchBan = refl
 fault_from-byte BadComment = refl
 fault_from-byte Full = refl
+fault_from-byte NotAllowed = refl
 
 pub known_is : {A : Type 0} (value : Option A) (bytes : List ℕ) (x : A) (rest : List ℕ) → known value bytes ≡ Ok (x, rest) → (value ≡ Some x) × (bytes ≡ rest)
 known_is {A = A} (Some y) bytes x rest e =

@@ -25,7 +25,7 @@ use Rattle.usercodec.specs.Records.{entry_bytes, plain_user_bytes, user_bytes, h
 use Rattle.usercodec.specs.Records.{has_channel, entry_at, entries_at, plain_user, plain_user_at, user_at, held_ban_at, record_fields_at, record_at}
 use Rattle.usercodec.proofs.Steps.{IsBytes, chosen, bind_ok, ok_is, Takes, Takes-then, stays_bind, stays_if, NoTag, no_tag_bind}
 use Rattle.usercodec.proofs.FieldLaws.{IsSort, IsField, byte_field, also_field, both_field, made_field, mark_field}
-use Rattle.usercodec.proofs.ChangeLaws.{handle_field, hostmask_field, channel_field, flags_field, info_field, BanPasses, ban_field}
+use Rattle.usercodec.proofs.EditLaws.{handle_field, hostmask_field, channel_field, flags_field, info_field, BanPasses, ban_field}
 use Rattle.usercodec.proofs.ItemLaws.{AreCounted, counted_field}
 use Rattle.usercodec.proofs.NewLaws.{IsNew, not_true, not_false, all_new, were_new, both_all, all_both}
 

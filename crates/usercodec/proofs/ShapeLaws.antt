@@ -4,18 +4,20 @@ use Rattle.std.specs.List.{list_all}
 use Rattle.std.proofs.lemmas.Bool.Decides.{nat_tests}
 use Rattle.std.proofs.lemmas.List.{length-append}
 use Rattle.rfccase.specs.Channels.{is_channel_name}
-use Rattle.userfile.specs.Shapes.{is_handle, is_hostmask, is_ban_channel, is_comment, is_info}
+use Rattle.userfile.specs.Shapes.{is_handle, is_hostmask, is_ban_channel, is_comment, is_info, is_person}
 use Rattle.userfile.proofs.RepeatLemmas.{and_true}
 use Rattle.userfile.specs.Together.{is_user, is_entry, is_good_ban}
 use Rattle.userfile.specs.declared.ban.Ban.{Ban}
 use Rattle.userfile.specs.declared.user.User.{User}
-use Rattle.userfile.specs.Apply.{bad_shape, fault_unless, first_of_two}
+use Rattle.userfile.specs.Apply.{bad_asker, bad_edit, bad_shape, fault_unless, first_of_two}
+use Rattle.userfile.specs.declared.change.Asker.{Asker}
 use Rattle.userfile.specs.declared.change.Change.{Change}
-use Rattle.userfile.specs.declared.change.Change.TheVariants.{AddUser, DelUser, AddHost, DelHost, SetGlobal, SetChan, SetBot, AddBan, DelBan}
-use Rattle.userfile.specs.declared.change.Change.TheVariants.{SetInfo, SetSticky}
+use Rattle.userfile.specs.declared.edit.Edit.{Edit}
+use Rattle.userfile.specs.declared.edit.Edit.TheVariants.{AddUser, DelUser, AddHost, DelHost, SetGlobal, SetChan, SetBot, AddBan, DelBan}
+use Rattle.userfile.specs.declared.edit.Edit.TheVariants.{SetInfo, SetSticky}
 use Rattle.userfile.specs.declared.error.ChangeFault.{ChangeFault}
-use Rattle.usercodec.specs.Lengths.{IsShort, ChangeIsShort}
-use Rattle.usercodec.specs.Changes.{change_bytes}
+use Rattle.usercodec.specs.Lengths.{IsShort, AskerIsShort, EditIsShort, ChangeIsShort}
+use Rattle.usercodec.specs.Changes.{edit_bytes, bytes_by, change_bytes}
 
 -- ---- lengths
 
@@ -42,18 +44,22 @@ pub info_is_short : (info : List ℕ) → is_info info ≡ true → IsShort info
 unfolding is_info
 info_is_short info good = grind (arith, nat_tests)
 
+pub person_is_short : (person : List ℕ) → is_person person ≡ true → IsShort person
+unfolding is_person
+person_is_short person good = hostmask_is_short person (and_true (and_true good).0).0
+
 -- ---- shapes
 
-two_pass : (first later : Option ChangeFault) → first_of_two first later ≡ None → (first ≡ None) × (later ≡ None)
+pub two_pass : (first later : Option ChangeFault) → first_of_two first later ≡ None → (first ≡ None) × (later ≡ None)
 two_pass None later e = (refl, e)
 two_pass (Some fault) later e = absurd cc
 
-passes : (test : Bool) (fault : ChangeFault) → fault_unless test fault ≡ None → test ≡ true
+pub passes : (test : Bool) (fault : ChangeFault) → fault_unless test fault ≡ None → test ≡ true
 passes true fault e = refl
 passes false fault e = absurd cc
 
--- each field of the change passes its test
-abbrev pub FieldsPass : Change → Type 0
+-- each field of the edit passes its test
+abbrev pub FieldsPass : Edit → Type 0
 FieldsPass (AddUser handle) = is_handle handle ≡ true
 FieldsPass (DelUser handle) = is_handle handle ≡ true
 FieldsPass (AddHost handle mask) = (is_handle handle ≡ true) × (is_hostmask mask ≡ true)
@@ -67,7 +73,7 @@ FieldsPass (DelBan channel mask) = (is_ban_channel channel ≡ true) × (is_host
 FieldsPass (SetInfo handle info) = (is_handle handle ≡ true) × (is_info info ≡ true)
 FieldsPass (SetSticky channel mask on) = (is_ban_channel channel ≡ true) × (is_hostmask mask ≡ true)
 
-pub fields_pass : (change : Change) → bad_shape change ≡ None → FieldsPass change
+pub fields_pass : (edit : Edit) → bad_edit edit ≡ None → FieldsPass edit
 fields_pass (AddUser handle) e = passes _ _ e
 fields_pass (DelUser handle) e = passes _ _ e
 fields_pass (AddHost handle mask) e = let p = two_pass _ _ e in (passes _ _ p.0, passes _ _ p.1)
@@ -85,7 +91,7 @@ fields_pass (SetInfo handle info) e = let p = two_pass _ _ e in (passes _ _ p.0,
 fields_pass (SetSticky channel mask on) e = let p = two_pass _ _ e in (passes _ _ p.1, passes _ _ p.0)
 
 -- and the other way round
-pub shape_passes : (change : Change) → FieldsPass change → bad_shape change ≡ None
+pub shape_passes : (edit : Edit) → FieldsPass edit → bad_edit edit ≡ None
 shape_passes (AddUser handle) p = rw p refl
 shape_passes (DelUser handle) p = rw p refl
 shape_passes (AddHost handle mask) p = rw (p.0, p.1) refl
@@ -98,36 +104,54 @@ shape_passes (DelBan channel mask) p = rw (p.1, p.0) refl
 shape_passes (SetInfo handle info) p = rw (p.0, p.1) refl
 shape_passes (SetSticky channel mask on) p = rw (p.1, p.0) refl
 
-pub short_texts : (change : Change) → bad_shape change ≡ None → ChangeIsShort change
-short_texts (AddUser handle) e = handle_is_short handle (fields_pass (AddUser handle) e)
-short_texts (DelUser handle) e = handle_is_short handle (fields_pass (DelUser handle) e)
-short_texts (AddHost handle mask) e = let p = fields_pass (AddHost handle mask) e in (handle_is_short handle p.0, hostmask_is_short mask p.1)
-short_texts (DelHost handle mask) e = let p = fields_pass (DelHost handle mask) e in (handle_is_short handle p.0, hostmask_is_short mask p.1)
-short_texts (SetGlobal handle bits) e = handle_is_short handle (fields_pass (SetGlobal handle bits) e)
-short_texts (SetChan handle channel bits) e =
+short_edit : (edit : Edit) → bad_edit edit ≡ None → EditIsShort edit
+short_edit (AddUser handle) e = handle_is_short handle (fields_pass (AddUser handle) e)
+short_edit (DelUser handle) e = handle_is_short handle (fields_pass (DelUser handle) e)
+short_edit (AddHost handle mask) e = let p = fields_pass (AddHost handle mask) e in (handle_is_short handle p.0, hostmask_is_short mask p.1)
+short_edit (DelHost handle mask) e = let p = fields_pass (DelHost handle mask) e in (handle_is_short handle p.0, hostmask_is_short mask p.1)
+short_edit (SetGlobal handle bits) e = handle_is_short handle (fields_pass (SetGlobal handle bits) e)
+short_edit (SetChan handle channel bits) e =
     let p = fields_pass (SetChan handle channel bits) e in (handle_is_short handle p.0, channel_is_short channel p.1)
-short_texts (SetBot handle bits) e = handle_is_short handle (fields_pass (SetBot handle bits) e)
-short_texts (AddBan channel mask creator expires comment) e =
+short_edit (SetBot handle bits) e = handle_is_short handle (fields_pass (SetBot handle bits) e)
+short_edit (AddBan channel mask creator expires comment) e =
     let p = fields_pass (AddBan channel mask creator expires comment) e in
     (ban_channel_is_short channel p.0, hostmask_is_short mask p.1, handle_is_short creator p.2, comment_is_short comment p.3)
-short_texts (DelBan channel mask) e =
+short_edit (DelBan channel mask) e =
     let p = fields_pass (DelBan channel mask) e in (ban_channel_is_short channel p.0, hostmask_is_short mask p.1)
-short_texts (SetInfo handle info) e = let p = fields_pass (SetInfo handle info) e in (handle_is_short handle p.0, info_is_short info p.1)
-short_texts (SetSticky channel mask on) e =
+short_edit (SetInfo handle info) e = let p = fields_pass (SetInfo handle info) e in (handle_is_short handle p.0, info_is_short info p.1)
+short_edit (SetSticky channel mask on) e =
     let p = fields_pass (SetSticky channel mask on) e in (ban_channel_is_short channel p.0, hostmask_is_short mask p.1)
 
+short_asker : (by : Option Asker) → bad_asker by ≡ None → AskerIsShort by
+short_asker None e = tt
+short_asker (Some asker) e = person_is_short asker.person (passes _ _ e)
+
+-- what a good shape says of who asks, and of the edit
+pub parts_pass : (change : Change) → bad_shape change ≡ None → (bad_asker change.by ≡ None) × (bad_edit change.edit ≡ None)
+parts_pass change e = two_pass (bad_asker change.by) (bad_edit change.edit) e
+
+pub short_texts : (change : Change) → bad_shape change ≡ None → ChangeIsShort change
+short_texts change e = let p = parts_pass change e in (short_asker change.by p.0, short_edit change.edit p.1)
+
+edit_is_short : (edit : Edit) → EditIsShort edit → length (edit_bytes edit) < 1700
+edit_is_short (AddUser handle) short = omega arith
+edit_is_short (DelUser handle) short = omega arith
+edit_is_short (AddHost handle mask) short = simp length-append (omega arith)
+edit_is_short (DelHost handle mask) short = simp length-append (omega arith)
+edit_is_short (SetGlobal handle bits) short = simp length-append (omega arith)
+edit_is_short (SetChan handle channel bits) short = simp length-append (omega arith)
+edit_is_short (SetBot handle bits) short = simp length-append (omega arith)
+edit_is_short (AddBan channel mask creator expires comment) short = simp length-append (omega arith)
+edit_is_short (DelBan channel mask) short = simp length-append (omega arith)
+edit_is_short (SetInfo handle info) short = simp length-append (omega arith)
+edit_is_short (SetSticky channel mask on) short = simp length-append (omega arith)
+
+named_is_short : (by : Option Asker) (edit : Edit) → AskerIsShort by → EditIsShort edit → length (bytes_by by edit) < 2000
+named_is_short None edit asker short = let e = edit_is_short edit short in omega arith
+named_is_short (Some asker) edit name short = let e = edit_is_short edit short in simp length-append (omega arith)
+
 pub change_is_short : (change : Change) → ChangeIsShort change → length (change_bytes change) < 2000
-change_is_short (AddUser handle) short = omega arith
-change_is_short (DelUser handle) short = omega arith
-change_is_short (AddHost handle mask) short = simp length-append (omega arith)
-change_is_short (DelHost handle mask) short = simp length-append (omega arith)
-change_is_short (SetGlobal handle bits) short = simp length-append (omega arith)
-change_is_short (SetChan handle channel bits) short = simp length-append (omega arith)
-change_is_short (SetBot handle bits) short = simp length-append (omega arith)
-change_is_short (AddBan channel mask creator expires comment) short = simp length-append (omega arith)
-change_is_short (DelBan channel mask) short = simp length-append (omega arith)
-change_is_short (SetInfo handle info) short = simp length-append (omega arith)
-change_is_short (SetSticky channel mask on) short = simp length-append (omega arith)
+change_is_short change short = named_is_short change.by change.edit short.0 short.1
 
 -- ---- records
 

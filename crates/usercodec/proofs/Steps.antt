@@ -100,3 +100,7 @@ no_tag_bind (Err NotCanonical) f none next = tt
 pub no_tag_if : {A : Type 0} (test : Bool) (x y : Reading A) → NoTag x → NoTag y → NoTag (cond test x y)
 no_tag_if true x y p q = p
 no_tag_if false x y p q = q
+
+pub no_tag_where : {A : Type 0} (test : Bool) (x y : Reading A) → (test ≡ true → NoTag x) → (test ≡ false → NoTag y) → NoTag (cond test x y)
+no_tag_where true x y p q = p refl
+no_tag_where false x y p q = q refl

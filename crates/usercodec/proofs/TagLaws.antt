@@ -3,24 +3,21 @@ use Rattle.std.proofs.Common.{◌≡◌, ℕ, suc, ◌≤◌, Bool, true, false,
 use Rattle.std.proofs.lemmas.Bool.{eqb-true}
 use Rattle.std.proofs.lemmas.Bool.Decides.{nat_tests}
 use Rattle.std.specs.Prelude.{◌↔◌}
+use Rattle.userfile.specs.Changes.{by_nobody}
 use Rattle.userfile.specs.declared.change.Change.{Change}
-use Rattle.userfile.specs.declared.change.Change.TheVariants.{AddUser, DelUser, AddHost, DelHost, SetGlobal, SetBot, SetChan, DelBan}
-use Rattle.userfile.specs.declared.change.Change.TheVariants.{SetInfo, SetSticky}
+use Rattle.userfile.specs.declared.edit.Edit.{Edit}
 use Rattle.usercodec.specs.declared.records.Record.{Record}
 use Rattle.usercodec.specs.declared.fault.CodecFault.TheVariants.{Short, BadTag, NotCanonical}
 use Rattle.usercodec.specs.Fields.{Reading, byte_at}
-use Rattle.usercodec.specs.Changes.{is_change_tag, fields_at, change_at, set_chan_at, ban_at, add_ban_at, set_info_at, set_sticky_at}
+use Rattle.usercodec.specs.Changes.{made, ban_at, is_edit_tag, edit_fields_at, edit_at, is_change_tag, fields_at, change_at}
 use Rattle.usercodec.specs.Records.{plain_user_at, user_at, held_ban_at, is_record_tag, record_fields_at, record_at}
+use Rattle.usercodec.specs.Old.{nameless_change_at}
 use Rattle.usercodec.specs.Old.{is_change_tag_old, fields_at_old, change_at_old, is_record_tag_old, record_fields_at_old, record_at_old}
 use Rattle.usercodec.specs.Laws.{BeginsUnknown}
-use Rattle.usercodec.proofs.Steps.{head_is, NoTag, no_tag_bind}
-use Rattle.usercodec.proofs.ChangeLaws.{made_no_tag, ban_change, add_user, del_user, add_host, del_host, set_global, set_chan, set_bot, add_ban}
-use Rattle.usercodec.proofs.ChangeLaws.{del_ban, set_info, set_sticky, ban_field}
+use Rattle.usercodec.proofs.Steps.{head_is, NoTag, no_tag_bind, no_tag_where}
+use Rattle.usercodec.proofs.EditLaws.{ban_field, known_edit}
+use Rattle.usercodec.proofs.ChangeLaws.{named_no_tag}
 use Rattle.usercodec.proofs.RecordLaws.{plain_user_field, user_field, held_ban_field}
-
-no_tag_where : {A : Type 0} (test : Bool) (x y : Reading A) → (test ≡ true → NoTag x) → (test ≡ false → NoTag y) → NoTag (cond test x y)
-no_tag_where true x y p q = p refl
-no_tag_where false x y p q = q refl
 
 -- what has no fault of a tag isn't refused for one
 tells_none : {A : Type 0} (reading : Reading A) → NoTag reading → reading ≡ Err BadTag → ⊥
@@ -28,9 +25,6 @@ tells_none (Ok x) none e = cc
 tells_none (Err Short) none e = cc
 tells_none (Err BadTag) none e = none
 tells_none (Err NotCanonical) none e = cc
-
-above : (tag k : ℕ) → k ≤ tag → eqb tag k ≡ false → suc k ≤ tag
-above tag k le other = grind (arith, nat_tests)
 
 -- a byte that is no tag is none of the tags
 other_than : (is_tag : ℕ → Bool) (tag k : ℕ) → is_tag k ≡ true → is_tag tag ≡ false → eqb tag k ≡ false
@@ -72,57 +66,64 @@ begins is_tag fields known unknown tag bytes = (to, from)
 
 -- ---- changes
 
-known_change : (tag : ℕ) (bytes : List ℕ) → is_change_tag tag ≡ true → NoTag (fields_at tag bytes)
-unfolding fields_at set_chan_at add_ban_at set_info_at set_sticky_at
-known_change tag bytes known =
-    no_tag_where (eqb tag 1) _ _ (λ e. made_no_tag AddUser add_user.field bytes) (λ n1. let l1 = above tag 1 first n1 in
-    no_tag_where (eqb tag 2) _ _ (λ e. made_no_tag DelUser del_user.field bytes) (λ n2. let l2 = above tag 2 l1 n2 in
-    no_tag_where (eqb tag 3) _ _ (λ e. made_no_tag (λ x. AddHost x.0 x.1) add_host.field bytes) (λ n3. let l3 = above tag 3 l2 n3 in
-    no_tag_where (eqb tag 4) _ _ (λ e. made_no_tag (λ x. DelHost x.0 x.1) del_host.field bytes) (λ n4. let l4 = above tag 4 l3 n4 in
-    no_tag_where (eqb tag 5) _ _ (λ e. made_no_tag (λ x. SetGlobal x.0 x.1) set_global.field bytes) (λ n5. let l5 = above tag 5 l4 n5 in
-    no_tag_where (eqb tag 6) _ _ (λ e. made_no_tag (λ x. SetChan x.0 x.1.0 x.1.1) set_chan.field bytes) (λ n6. let l6 = above tag 6 l5 n6 in
-    no_tag_where (eqb tag 7) _ _ (λ e. made_no_tag (λ x. SetBot x.0 x.1) set_bot.field bytes) (λ n7. let l7 = above tag 7 l6 n7 in
-    no_tag_where (eqb tag 8) _ _ (λ e. made_no_tag ban_change add_ban.field bytes) (λ n8. let l8 = above tag 8 l7 n8 in
-    no_tag_where (eqb tag 9) _ _ (λ e. made_no_tag (λ x. DelBan x.0 x.1) del_ban.field bytes) (λ n9. let l9 = above tag 9 l8 n9 in
-    no_tag_where (eqb tag 10) _ _ (λ e. made_no_tag (λ x. SetInfo x.0 x.1) set_info.field bytes) (λ n10. let l10 = above tag 10 l9 n10 in
-    no_tag_where (eqb tag 11) _ _ (λ e. made_no_tag (λ x. SetSticky x.0 x.1.0 x.1.1) set_sticky.field bytes) (λ n11. let l11 = above tag 11 l10 n11 in
-    absurd (let high : 12 ≤ tag = l11 in let low : tag ≤ 11 = last in omega arith))))))))))))
-  where
-    first : 1 ≤ tag
-    first = grind (arith, nat_tests)
+unknown_edit : (tag : ℕ) (bytes : List ℕ) → is_edit_tag tag ≡ false → edit_fields_at tag bytes ≡ Err BadTag
+unfolding edit_fields_at
+unknown_edit tag bytes unknown =
+    rw (
+      other_than is_edit_tag tag 1 refl unknown,
+      other_than is_edit_tag tag 2 refl unknown,
+      other_than is_edit_tag tag 3 refl unknown,
+      other_than is_edit_tag tag 4 refl unknown,
+      other_than is_edit_tag tag 5 refl unknown,
+      other_than is_edit_tag tag 6 refl unknown,
+      other_than is_edit_tag tag 7 refl unknown,
+      other_than is_edit_tag tag 8 refl unknown,
+      other_than is_edit_tag tag 9 refl unknown,
+      other_than is_edit_tag tag 10 refl unknown,
+      other_than is_edit_tag tag 11 refl unknown,
+    ) refl
 
-    last : tag ≤ 11
-    last = grind (arith, nat_tests)
+made_refused : (reading : Reading Edit) → reading ≡ Err BadTag → made by_nobody reading ≡ Err BadTag
+made_refused reading e = ap (made by_nobody) e
+
+known_change : (tag : ℕ) (bytes : List ℕ) → is_change_tag tag ≡ true → NoTag (fields_at tag bytes)
+unfolding fields_at
+known_change tag bytes known =
+    no_tag_where (eqb tag 12) _ _ (λ e. named_no_tag bytes) (λ other.
+    no_tag_bind (edit_fields_at tag bytes) _ (known_edit tag bytes (is_edit other)) (λ x. tt))
+  where
+    is_edit : eqb tag 12 ≡ false → is_edit_tag tag ≡ true
+    is_edit other = grind (arith, nat_tests)
 
 unknown_change : (tag : ℕ) (bytes : List ℕ) → is_change_tag tag ≡ false → fields_at tag bytes ≡ Err BadTag
 unfolding fields_at
-unknown_change tag bytes unknown =
-    rw (
-      other_than is_change_tag tag 1 refl unknown,
-      other_than is_change_tag tag 2 refl unknown,
-      other_than is_change_tag tag 3 refl unknown,
-      other_than is_change_tag tag 4 refl unknown,
-      other_than is_change_tag tag 5 refl unknown,
-      other_than is_change_tag tag 6 refl unknown,
-      other_than is_change_tag tag 7 refl unknown,
-      other_than is_change_tag tag 8 refl unknown,
-      other_than is_change_tag tag 9 refl unknown,
-      other_than is_change_tag tag 10 refl unknown,
-      other_than is_change_tag tag 11 refl unknown,
-    ) refl
+unknown_change tag bytes unknown = rw (other_than is_change_tag tag 12 refl unknown) (made_refused (edit_fields_at tag bytes) (unknown_edit tag bytes is_none))
+  where
+    is_none : is_edit_tag tag ≡ false
+    is_none = grind (arith, nat_tests)
 
 pub change_tag : (bytes : List ℕ) → (change_at bytes ≡ Err BadTag) ↔ BeginsUnknown is_change_tag bytes
 unfolding change_at byte_at
 change_tag [] = no_byte {A = Change} is_change_tag
 change_tag (tag ∷ bytes) = begins is_change_tag fields_at known_change unknown_change tag bytes
 
+-- those of the layouts 2 and 3
+
+pub nameless_tag : (bytes : List ℕ) → (nameless_change_at bytes ≡ Err BadTag) ↔ BeginsUnknown is_edit_tag bytes
+unfolding nameless_change_at edit_at byte_at
+nameless_tag [] = no_byte {A = Change} is_edit_tag
+nameless_tag (tag ∷ bytes) =
+    begins is_edit_tag (λ tag bytes. made by_nobody (edit_fields_at tag bytes))
+    (λ tag bytes known. no_tag_bind (edit_fields_at tag bytes) _ (known_edit tag bytes known) (λ x. tt))
+    (λ tag bytes unknown. made_refused (edit_fields_at tag bytes) (unknown_edit tag bytes unknown)) tag bytes
+
 -- those of layout 1
 
 known_change_old : (tag : ℕ) (bytes : List ℕ) → is_change_tag_old tag ≡ true → NoTag (fields_at_old tag bytes)
 unfolding fields_at_old
-known_change_old tag bytes known = no_tag_where (is_change_tag_old tag) _ _ (λ e. known_change tag bytes still) (λ other. absurd (differ (sym other ∙ known)))
+known_change_old tag bytes known = no_tag_where (is_change_tag_old tag) _ _ (λ e. no_tag_bind (edit_fields_at tag bytes) _ (known_edit tag bytes still) (λ x. tt)) (λ other. absurd (differ (sym other ∙ known)))
   where
-    still : is_change_tag tag ≡ true
+    still : is_edit_tag tag ≡ true
     still = grind (arith, nat_tests)
 
     differ : false ≡ true → ⊥

@@ -2,7 +2,7 @@
 use Rattle.std.specs.Prelude.{ℕ, ◌==◌, List, Option, Some, None, Ok, Err, if◌then◌else◌}
 use Rattle.userfile.specs.declared.error.ChangeFault.{ChangeFault}
 use Rattle.userfile.specs.declared.error.ChangeFault.TheVariants.{BadHandle, BadMask, BadChannel, BadComment, NoSuchUser, UserExists, MaskExists}
-use Rattle.userfile.specs.declared.error.ChangeFault.TheVariants.{NoSuchMask, BanExists, NoSuchBan, Full}
+use Rattle.userfile.specs.declared.error.ChangeFault.TheVariants.{NoSuchMask, BanExists, NoSuchBan, Full, NotAllowed}
 use Rattle.usercodec.specs.declared.fault.CodecFault.TheVariants.{NotCanonical}
 use Rattle.usercodec.specs.Fields.{Reading, ◌>>=◌, byte_at}
 
@@ -18,6 +18,7 @@ fault_byte BanExists = 8
 fault_byte NoSuchBan = 9
 fault_byte BadComment = 10
 fault_byte Full = 11
+fault_byte NotAllowed = 12
 
 -- the fault that a byte stands for, if there is one
 unfoldable pub fault_from : ℕ → Option ChangeFault
@@ -33,7 +34,8 @@ fault_from byte =
     else (if byte == 9 then Some NoSuchBan
     else (if byte == 10 then Some BadComment
     else (if byte == 11 then Some Full
-    else None))))))))))
+    else (if byte == 12 then Some NotAllowed
+    else None)))))))))))
 
 -- the value that was read must be a known one
 abbrev pub known : {A : Type 0} → Option A → List ℕ → Reading A

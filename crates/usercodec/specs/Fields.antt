@@ -5,7 +5,7 @@ use Rattle.std.specs.Prelude.{ℕ, ◌^◌, ◌==◌, nat_lt, nat_le, Bool, List
 use Rattle.std.specs.List.{flat_map}
 use Rattle.std.specs.Int.{Width, w64, byte_len, from_be_bytes, to_be_bytes}
 use Rattle.rfccase.specs.Channels.{is_channel_name}
-use Rattle.userfile.specs.Shapes.{is_handle, is_hostmask, is_ban_channel, is_comment, is_info}
+use Rattle.userfile.specs.Shapes.{is_handle, is_hostmask, is_ban_channel, is_comment, is_info, is_person}
 use Rattle.usercodec.specs.declared.fault.CodecFault.{CodecFault}
 use Rattle.usercodec.specs.declared.fault.CodecFault.TheVariants.{Short, NotCanonical}
 
@@ -79,6 +79,9 @@ handle_at bytes = checked is_handle (text_at bytes)
 
 unfoldable pub hostmask_at : List ℕ → Reading (List ℕ)
 hostmask_at bytes = checked is_hostmask (text_at bytes)
+
+unfoldable pub person_at : List ℕ → Reading (List ℕ)
+person_at bytes = checked is_person (text_at bytes)
 
 unfoldable pub channel_at : List ℕ → Reading (List ℕ)
 channel_at bytes = checked is_channel_name (text_at bytes)

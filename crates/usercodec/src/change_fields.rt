@@ -1,158 +1,76 @@
 // Reads the change at the front of some bytes. It reads all fields before the first copy, so it allocates only if the
 // bytes are a change.
 ghost use Rattle.std.specs.Prelude.{◌≡◌};
-ghost use Rattle.usercodec.specs.Answers.{Makes};
-ghost use Rattle.usercodec.specs.Fields.{handle_at};
-ghost use Rattle.usercodec.specs.Changes.{handle_and_mask_at, handle_and_flags_at, channel_and_mask_at};
-ghost use Rattle.usercodec.specs.Changes.{set_chan_at, add_ban_at, set_info_at, set_sticky_at, fields_at, change_at};
+ghost use Rattle.usercodec.specs.Answers.{Gives, Makes};
+ghost use Rattle.usercodec.specs.Changes.{casemapping_at, asked_edit_at, named_at, change_at};
+ghost use Rattle.usercodec.specs.Old.{nameless_change_at};
 
-use crate::bans::ban_fields;
+use crate::casemapping_byte::casemapping_of_byte;
+use crate::edit_fields::edit_fields;
 use crate::fault::{CodecError, CodecFault};
-use crate::reader::Reader;
+use crate::reader::{Reader, keep_if};
 use bytetext::{Failure, Text};
-use flagexpr::Flags;
+use rfccase::Casemapping;
 use std::alloc::Global;
-use userfile::Change;
+use userfile::{Asker, Change, Edit};
 
-#[tactic(auto, unfolding(crate::specs::Changes::change_at))]
+#[tactic(auto, unfolding(crate::specs::Changes::change_at, crate::specs::Changes::fields_at))]
 pub(crate) fn change(alloc: Global, reader: &mut Reader<'_>) -> Result<Change, CodecError>
     ensures { Makes (λ change. (change, reader.new)) result (change_at reader.old) }
 {
     let tag = reader.byte()?;
-    fields(alloc, tag, reader)
+    if tag == 12 {
+        return named_change(alloc, reader);
+    }
+    let edit = edit_fields(alloc, tag, reader)?;
+    Ok(Change::by_nobody(edit))
 }
 
-#[tactic(auto, unfolding(crate::specs::Changes::fields_at))]
-pub(crate) fn fields(alloc: Global, tag: u8, reader: &mut Reader<'_>) -> Result<Change, CodecError>
-    ensures { Makes (λ change. (change, reader.new)) result (fields_at tag reader.old) }
+// Reads a change that was spelled before changes had names.
+#[tactic(auto, unfolding(crate::specs::Old::nameless_change_at, crate::specs::Changes::edit_at))]
+pub(crate) fn nameless_change(alloc: Global, reader: &mut Reader<'_>) -> Result<Change, CodecError>
+    ensures { Makes (λ change. (change, reader.new)) result (nameless_change_at reader.old) }
 {
-    match tag {
-        1 => {
-            let handle = handle(alloc, reader)?;
-            Ok(Change::AddUser { handle })
-        }
-        2 => {
-            let handle = handle(alloc, reader)?;
-            Ok(Change::DelUser { handle })
-        }
-        3 => {
-            let (handle, mask) = handle_and_mask(alloc, reader)?;
-            Ok(Change::AddHost { handle, mask })
-        }
-        4 => {
-            let (handle, mask) = handle_and_mask(alloc, reader)?;
-            Ok(Change::DelHost { handle, mask })
-        }
-        5 => {
-            let (handle, flags) = handle_and_flags(alloc, reader)?;
-            Ok(Change::SetGlobal { handle, flags })
-        }
-        6 => set_chan(alloc, reader),
-        7 => {
-            let (handle, flags) = handle_and_flags(alloc, reader)?;
-            Ok(Change::SetBot { handle, flags })
-        }
-        8 => add_ban(alloc, reader),
-        9 => {
-            let (channel, mask) = channel_and_mask(alloc, reader)?;
-            Ok(Change::DelBan { channel, mask })
-        }
-        10 => set_info(alloc, reader),
-        11 => set_sticky(alloc, reader),
-        _ => Err(Failure::Refused(CodecFault::BadTag)),
+    let tag = reader.byte()?;
+    let edit = edit_fields(alloc, tag, reader)?;
+    Ok(Change::by_nobody(edit))
+}
+
+// Reads who asks, and the edit.
+#[tactic(auto, unfolding(crate::specs::Changes::named_at, crate::specs::Changes::asker_at))]
+fn named_change(alloc: Global, reader: &mut Reader<'_>) -> Result<Change, CodecError>
+    ensures { Makes (λ change. (change, reader.new)) result (named_at reader.old) }
+{
+    let person = reader.person()?;
+    let casemapping = casemapping(reader)?;
+    let edit = asked_edit(alloc, reader)?;
+    let person = Text::from_slice(alloc, person)?;
+    Ok(Change::by_person(
+        Asker {
+            person,
+            casemapping,
+        },
+        edit,
+    ))
+}
+
+#[tactic(auto, unfolding(crate::specs::Changes::casemapping_at))]
+fn casemapping(reader: &mut Reader<'_>) -> Result<Casemapping, CodecError>
+    ensures { Gives (λ mapping. (mapping, reader.new)) result (casemapping_at reader.old) }
+{
+    let byte = reader.byte()?;
+    match casemapping_of_byte(byte) {
+        Some(mapping) => Ok(mapping),
+        None => Err(Failure::Refused(CodecFault::NotCanonical)),
     }
 }
 
-fn handle(alloc: Global, reader: &mut Reader<'_>) -> Result<Text, CodecError>
-    ensures { Makes (λ text. (text, reader.new)) result (handle_at reader.old) }
+// Reads the edit after who asks: its tag is a field that has a rule.
+#[tactic(auto, unfolding(crate::specs::Changes::asked_edit_at))]
+fn asked_edit(alloc: Global, reader: &mut Reader<'_>) -> Result<Edit, CodecError>
+    ensures { Makes (λ edit. (edit, reader.new)) result (asked_edit_at reader.old) }
 {
-    let handle = reader.handle()?;
-    Ok(Text::from_slice(alloc, handle)?)
-}
-
-#[tactic(auto, unfolding(crate::specs::Changes::handle_and_mask_at))]
-fn handle_and_mask(alloc: Global, reader: &mut Reader<'_>) -> Result<(Text, Text), CodecError>
-    ensures { Makes (λ pair. (pair, reader.new)) result (handle_and_mask_at reader.old) }
-{
-    let handle = reader.handle()?;
-    let mask = reader.hostmask()?;
-    Ok((
-        Text::from_slice(alloc, handle)?,
-        Text::from_slice(alloc, mask)?,
-    ))
-}
-
-#[tactic(auto, unfolding(crate::specs::Changes::handle_and_flags_at))]
-fn handle_and_flags(alloc: Global, reader: &mut Reader<'_>) -> Result<(Text, Flags), CodecError>
-    ensures { Makes (λ pair. (pair, reader.new)) result (handle_and_flags_at reader.old) }
-{
-    let handle = reader.handle()?;
-    let flags = reader.flags()?;
-    Ok((Text::from_slice(alloc, handle)?, flags))
-}
-
-#[tactic(auto, unfolding(crate::specs::Changes::channel_and_mask_at))]
-fn channel_and_mask(alloc: Global, reader: &mut Reader<'_>) -> Result<(Text, Text), CodecError>
-    ensures { Makes (λ pair. (pair, reader.new)) result (channel_and_mask_at reader.old) }
-{
-    let channel = reader.ban_channel()?;
-    let mask = reader.hostmask()?;
-    Ok((
-        Text::from_slice(alloc, channel)?,
-        Text::from_slice(alloc, mask)?,
-    ))
-}
-
-#[tactic(auto, unfolding(crate::specs::Changes::set_chan_at))]
-fn set_chan(alloc: Global, reader: &mut Reader<'_>) -> Result<Change, CodecError>
-    ensures { Makes (λ change. (change, reader.new)) result (set_chan_at reader.old) }
-{
-    let handle = reader.handle()?;
-    let channel = reader.channel()?;
-    let flags = reader.flags()?;
-    Ok(Change::SetChan {
-        handle: Text::from_slice(alloc, handle)?,
-        channel: Text::from_slice(alloc, channel)?,
-        flags,
-    })
-}
-
-#[tactic(auto, unfolding(crate::specs::Changes::add_ban_at))]
-fn add_ban(alloc: Global, reader: &mut Reader<'_>) -> Result<Change, CodecError>
-    ensures { Makes (λ change. (change, reader.new)) result (add_ban_at reader.old) }
-{
-    let ban = ban_fields(reader)?;
-    Ok(Change::AddBan {
-        channel: Text::from_slice(alloc, ban.channel)?,
-        mask: Text::from_slice(alloc, ban.mask)?,
-        creator: Text::from_slice(alloc, ban.creator)?,
-        expires: ban.expires,
-        comment: Text::from_slice(alloc, ban.comment)?,
-    })
-}
-
-#[tactic(auto, unfolding(crate::specs::Changes::set_info_at))]
-fn set_info(alloc: Global, reader: &mut Reader<'_>) -> Result<Change, CodecError>
-    ensures { Makes (λ change. (change, reader.new)) result (set_info_at reader.old) }
-{
-    let handle = reader.handle()?;
-    let info = reader.info()?;
-    Ok(Change::SetInfo {
-        handle: Text::from_slice(alloc, handle)?,
-        info: Text::from_slice(alloc, info)?,
-    })
-}
-
-#[tactic(auto, unfolding(crate::specs::Changes::set_sticky_at))]
-fn set_sticky(alloc: Global, reader: &mut Reader<'_>) -> Result<Change, CodecError>
-    ensures { Makes (λ change. (change, reader.new)) result (set_sticky_at reader.old) }
-{
-    let channel = reader.ban_channel()?;
-    let mask = reader.hostmask()?;
-    let on = reader.mark()?;
-    Ok(Change::SetSticky {
-        channel: Text::from_slice(alloc, channel)?,
-        mask: Text::from_slice(alloc, mask)?,
-        on,
-    })
+    let tag = reader.byte()?;
+    let tag = keep_if(1 <= tag && tag <= 11, tag)?;
+    edit_fields(alloc, tag, reader)
 }

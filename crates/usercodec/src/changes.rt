@@ -1,23 +1,22 @@
 // Writes and reads changes as bytes.
 ghost use Rattle.std.specs.Prelude.{◌≡◌, ℕ, List, ◌++◌, ◌∷◌, length, take, None, IfOk, OnOk};
 ghost use Rattle.std.specs.Prelude.{◌≤◌, ◌<◌, ◌+◌, OnErr, vec_capacity, vec_len};
-ghost use Rattle.std.specs.Int.{w64};
 ghost use Rattle.userfile.specs.Apply.{bad_shape};
-ghost use Rattle.usercodec.specs.Fields.{number, text, flags};
 ghost use Rattle.usercodec.specs.Lengths.{IsShort, ChangeIsShort};
 ghost use Rattle.userfile.specs.declared.change.Change.{Change};
 ghost use Rattle.usercodec.specs.Answers.{Decodes, Reads};
-ghost use Rattle.usercodec.specs.Changes.{change_bytes, IsGoodChange, change_at};
+ghost use Rattle.usercodec.specs.Changes.{asker_bytes, change_bytes, IsGoodChange, change_at};
 
+use crate::casemapping_byte::byte_of_casemapping;
 use crate::change_fields::change;
 use crate::decoded::Decoded;
+use crate::edits::put_edit;
 use crate::fault::CodecError;
 use crate::reader::Reader;
-use crate::writer::{put_byte, put_flags, put_mark, put_text, put_u64};
-use bytetext::{NoMemory, Text};
-use flagexpr::Flags;
+use crate::writer::{put_byte, put_text};
+use bytetext::NoMemory;
 use std::alloc::Global;
-use userfile::Change;
+use userfile::{Asker, Change};
 
 /// Returns the one spelling of `change`. The change must have a good shape, which `userfile::shape` tests.
 ///
@@ -52,74 +51,22 @@ fn put_fields(out: &mut Vec<u8>, change: &Change) -> Result<(), NoMemory>
     ensures memory { OnErr result (vec_capacity out.old < vec_len out.old + length (change_bytes change.now)) }
     ensures capacity { vec_capacity out.old ≤ vec_capacity out.new }
 {
-    match change {
-        Change::AddUser { handle } => put_one(out, 1, handle),
-        Change::DelUser { handle } => put_one(out, 2, handle),
-        Change::AddHost { handle, mask } => put_two(out, 3, handle, mask),
-        Change::DelHost { handle, mask } => put_two(out, 4, handle, mask),
-        Change::SetGlobal { handle, flags } => put_set(out, 5, handle, *flags),
-        Change::SetChan {
-            handle,
-            channel,
-            flags,
-        } => {
-            put_two(out, 6, handle, channel)?;
-            put_flags(out, *flags)
-        }
-        Change::SetBot { handle, flags } => put_set(out, 7, handle, *flags),
-        Change::AddBan {
-            channel,
-            mask,
-            creator,
-            expires,
-            comment,
-        } => {
-            put_two(out, 8, channel, mask)?;
-            put_text(out, creator.as_bytes())?;
-            put_u64(out, *expires)?;
-            put_text(out, comment.as_bytes())
-        }
-        Change::DelBan { channel, mask } => put_two(out, 9, channel, mask),
-        Change::SetInfo { handle, info } => put_two(out, 10, handle, info),
-        Change::SetSticky { channel, mask, on } => {
-            put_two(out, 11, channel, mask)?;
-            put_mark(out, *on)
-        }
+    if let Some(asker) = &change.by {
+        put_asker(out, asker)?;
     }
+    put_edit(out, &change.edit)
 }
 
-// Appends a tag and a text.
-fn put_one(out: &mut Vec<u8>, tag: u8, first: &Text) -> Result<(), NoMemory>
-    requires { IsShort first.now }
-    ensures bytes { OnOk result (out.new.items ≡ out.old.items ++ tag ∷ text first.now) }
-    ensures memory { OnErr result (vec_capacity out.old < vec_len out.old + length (tag ∷ text first.now)) }
+// Appends the tag of a change in a person's name, and who asks.
+fn put_asker(out: &mut Vec<u8>, asker: &Asker) -> Result<(), NoMemory>
+    requires { IsShort asker.now.person }
+    ensures bytes { OnOk result (out.new.items ≡ out.old.items ++ 12 ∷ asker_bytes asker.now) }
+    ensures memory { OnErr result (vec_capacity out.old < vec_len out.old + length (12 ∷ asker_bytes asker.now)) }
     ensures capacity { vec_capacity out.old ≤ vec_capacity out.new }
 {
-    put_byte(out, tag)?;
-    put_text(out, first.as_bytes())
-}
-
-// Appends a tag and two texts.
-fn put_two(out: &mut Vec<u8>, tag: u8, first: &Text, second: &Text) -> Result<(), NoMemory>
-    requires first { IsShort first.now }
-    requires second { IsShort second.now }
-    ensures bytes { OnOk result (out.new.items ≡ out.old.items ++ tag ∷ (text first.now ++ text second.now)) }
-    ensures memory { OnErr result (vec_capacity out.old < vec_len out.old + length (tag ∷ (text first.now ++ text second.now))) }
-    ensures capacity { vec_capacity out.old ≤ vec_capacity out.new }
-{
-    put_one(out, tag, first)?;
-    put_text(out, second.as_bytes())
-}
-
-// Appends a tag, a text and flags.
-fn put_set(out: &mut Vec<u8>, tag: u8, handle: &Text, letters: Flags) -> Result<(), NoMemory>
-    requires { IsShort handle.now }
-    ensures bytes { OnOk result (out.new.items ≡ out.old.items ++ tag ∷ (text handle.now ++ flags letters)) }
-    ensures memory { OnErr result (vec_capacity out.old < vec_len out.old + length (tag ∷ (text handle.now ++ flags letters))) }
-    ensures capacity { vec_capacity out.old ≤ vec_capacity out.new }
-{
-    put_one(out, tag, handle)?;
-    put_flags(out, letters)
+    put_byte(out, 12)?;
+    put_text(out, asker.person.as_bytes())?;
+    put_byte(out, byte_of_casemapping(asker.casemapping))
 }
 
 /// Reads the change at the front of `bytes`.

@@ -11,10 +11,11 @@ pub enum CodecFault {
     /// X2: the first byte is not a tag of this kind of value.
     #[error("the first byte is no tag of this kind of value")]
     BadTag,
-    /// X3: a field is complete, and no value has it: a handle, mask, channel, comment or info text breaks its rule,
-    /// flags have a bit above 51 set, a mark is neither 0 nor 1, a channel of a user has no flags, a count is above
-    /// its limit, or a user has a mask or a channel twice. A text and its length byte are one field, so a text that
-    /// is cut is X1; a count is a field of its own.
+    /// X3: a field is complete, and no value has it: a handle, mask, channel, comment, info text or person breaks its
+    /// rule, flags have a bit above 51 set, a mark is neither 0 nor 1, a casemapping is above 2, the tag after a person
+    /// is not one of an edit, a channel of a user has no flags, a count is above its limit, or a user has a mask or a
+    /// channel twice. A text and its length byte are one field, so a text that is cut is X1; a count is a field of its
+    /// own.
     #[error("a field breaks its rule: write the value again in its one spelling")]
     NotCanonical,
 }

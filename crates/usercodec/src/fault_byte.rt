@@ -4,7 +4,7 @@ ghost use Rattle.usercodec.specs.FaultBytes.{fault_byte, fault_from};
 
 use userfile::ChangeFault;
 
-/// Returns the byte for the refusal `fault`: the number of its code, 1 for U1 to 11 for U11.
+/// Returns the byte for the refusal `fault`: the number of its code, 1 for U1 to 12 for U12.
 pub fn byte_of_fault(fault: ChangeFault) -> u8
     ensures { result ≡ fault_byte fault }
 {
@@ -20,10 +20,11 @@ pub fn byte_of_fault(fault: ChangeFault) -> u8
         ChangeFault::NoSuchBan => 9,
         ChangeFault::BadComment => 10,
         ChangeFault::Full => 11,
+        ChangeFault::NotAllowed => 12,
     }
 }
 
-/// Returns the fault that `byte` stands for, or `None` if it is not from 1 to 11.
+/// Returns the fault that `byte` stands for, or `None` if it is not from 1 to 12.
 #[tactic(auto, unfolding(crate::specs::FaultBytes::fault_from))]
 pub fn fault_of_byte(byte: u8) -> Option<ChangeFault>
     ensures { result ≡ fault_from byte }
@@ -40,6 +41,7 @@ pub fn fault_of_byte(byte: u8) -> Option<ChangeFault>
         9 => Some(ChangeFault::NoSuchBan),
         10 => Some(ChangeFault::BadComment),
         11 => Some(ChangeFault::Full),
+        12 => Some(ChangeFault::NotAllowed),
         _ => None,
     }
 }

@@ -3,9 +3,10 @@ ghost use Rattle.std.specs.Prelude.{◌≡◌, ◌↔◌, ℕ, List, ◌∷◌, 
 ghost use Rattle.userfile.specs.declared.change.Change.{Change};
 ghost use Rattle.usercodec.specs.declared.records.Record.{Record};
 ghost use Rattle.usercodec.specs.declared.fault.CodecFault.TheVariants.{Short, BadTag};
-ghost use Rattle.usercodec.specs.Changes.{change_bytes, IsGoodChange, is_change_tag, change_at};
+ghost use Rattle.usercodec.specs.Changes.{change_bytes, IsGoodChange, is_edit_tag, is_change_tag, change_at};
 ghost use Rattle.usercodec.specs.Laws.{Stays, BeginsUnknown};
 ghost use Rattle.usercodec.specs.Records.{record_bytes, IsGoodRecord, is_record_tag, record_at};
+ghost use Rattle.usercodec.specs.Old.{IsGoodNamelessChange, nameless_change_at};
 ghost use Rattle.usercodec.specs.Old.{change_bytes_old, IsGoodChangeOld, is_change_tag_old, change_at_old};
 ghost use Rattle.usercodec.specs.Old.{record_bytes_old, IsGoodRecordOld, is_record_tag_old, record_at_old};
 
@@ -35,6 +36,17 @@ pub fn laws_of_records()
     ensures stays { (bytes more : List ℕ) → Stays (record_at bytes) (record_at (bytes ++ more)) more }
     // `BadTag` comes exactly if the first byte is not one of the tags.
     ensures tag { (bytes : List ℕ) → (record_at bytes ≡ Err BadTag) ↔ BeginsUnknown is_record_tag bytes }
+{}
+
+/// States the same laws for changes as the layouts 2 and 3 spelled them.
+pub fn laws_of_nameless_changes()
+    ensures apart { (a b : Change) (x y : List ℕ) → IsGoodNamelessChange a → IsGoodNamelessChange b
+        → change_bytes a ++ x ≡ change_bytes b ++ y → (a ≡ b) × (x ≡ y) }
+    ensures cut { (change : Change) (front : List ℕ) (next : ℕ) (rest : List ℕ) → IsGoodNamelessChange change
+        → change_bytes change ≡ front ++ next ∷ rest → nameless_change_at front ≡ Err Short }
+    ensures stays { (bytes more : List ℕ) → Stays (nameless_change_at bytes) (nameless_change_at (bytes ++ more)) more }
+    // The tag 12 is one of the unknown ones.
+    ensures tag { (bytes : List ℕ) → (nameless_change_at bytes ≡ Err BadTag) ↔ BeginsUnknown is_edit_tag bytes }
 {}
 
 /// States the same laws for changes as layout 1 spelled them.

@@ -1,15 +1,18 @@
-// Reads changes and records as layout 1 spelled them. Nothing writes them any more; a journal that has them is read
-// once.
+// Reads changes and records as older layouts spelled them. A journal of an older layout is read once, and rewritten in
+// the present one.
 ghost use Rattle.std.specs.Prelude.{◌≡◌, ℕ, List, ◌++◌, length, take, IfOk};
 ghost use Rattle.userfile.specs.declared.change.Change.{Change};
 ghost use Rattle.usercodec.specs.declared.records.Record.{Record};
 ghost use Rattle.usercodec.specs.Answers.{Makes, Decodes, Reads};
+ghost use Rattle.usercodec.specs.Changes.{change_bytes};
+ghost use Rattle.usercodec.specs.Old.{IsGoodNamelessChange, nameless_change_at};
 ghost use Rattle.usercodec.specs.Old.{change_bytes_old, IsGoodChangeOld, fields_at_old, change_at_old};
 ghost use Rattle.usercodec.specs.Old.{record_bytes_old, IsGoodRecordOld, record_fields_at_old, record_at_old};
 
 use crate::bans::ban_fields;
-use crate::change_fields::fields;
+use crate::change_fields::nameless_change;
 use crate::decoded::Decoded;
+use crate::edit_fields::edit_fields;
 use crate::fault::{CodecError, CodecFault};
 use crate::reader::Reader;
 use crate::records::Record;
@@ -18,7 +21,37 @@ use bytetext::Failure;
 use std::alloc::Global;
 use userfile::Change;
 
-/// Reads the change at the front of `bytes`, as layout 1 spelled it: as now, but without the tags 10 and 11.
+/// Reads the change at the front of `bytes`, as the layouts 2 and 3 spelled it: as now, but without the tag 12, so that
+/// each change is in nobody's name.
+///
+/// # Errors
+/// Those of [`read_change`](crate::read_change).
+pub fn read_nameless_change(alloc: Global, bytes: &[u8]) -> Result<Decoded<Change>, CodecError>
+    ensures good { IfOk result (λ read. IsGoodNamelessChange read.value) }
+    // The front of the bytes is the spelling of what is read.
+    ensures front { IfOk result (λ read. take read.used bytes.now ≡ change_bytes read.value) }
+    ensures used { IfOk result (λ read. read.used ≡ length (change_bytes read.value)) }
+    // If the front of the bytes is the spelling of a change in nobody's name, that change is read.
+    ensures only { (change : Change) (rest : List ℕ) → IsGoodNamelessChange change
+        → bytes.now ≡ change_bytes change ++ rest → Reads result change (length (change_bytes change)) }
+    // Which fault a failed read returns.
+    ensures exact { Decodes bytes.now result (nameless_change_at bytes.now) }
+{
+    decode_nameless(alloc, bytes)
+}
+
+fn decode_nameless(alloc: Global, bytes: &[u8]) -> Result<Decoded<Change>, CodecError>
+    ensures { Decodes bytes.now result (nameless_change_at bytes.now) }
+{
+    let mut reader = Reader::new(bytes);
+    let value = nameless_change(alloc, &mut reader)?;
+    Ok(Decoded {
+        value,
+        used: bytes.len() - reader.len(),
+    })
+}
+
+/// Reads the change at the front of `bytes`, as layout 1 spelled it: as now, but without the tags 10 to 12.
 ///
 /// # Errors
 /// Those of [`read_change`](crate::read_change).
@@ -60,7 +93,8 @@ fn fields_old(alloc: Global, tag: u8, reader: &mut Reader<'_>) -> Result<Change,
     ensures { Makes (λ change. (change, reader.new)) result (fields_at_old tag reader.old) }
 {
     if 1 <= tag && tag <= 9 {
-        return fields(alloc, tag, reader);
+        let edit = edit_fields(alloc, tag, reader)?;
+        return Ok(Change::by_nobody(edit));
     }
     Err(Failure::Refused(CodecFault::BadTag))
 }

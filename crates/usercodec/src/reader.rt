@@ -1,7 +1,7 @@
 // Reads the fields at the front of some bytes.
 ghost use Rattle.std.specs.Prelude.{◌≡◌};
 
-use crate::change_fields::change;
+use crate::change_fields::{change, nameless_change};
 use crate::fault::{CodecError, CodecFault};
 use crate::fault_byte::fault_of_byte;
 use crate::old::change_old;
@@ -12,13 +12,15 @@ use flagexpr::Flags;
 use rfccase::is_channel_name;
 use std::alloc::Global;
 use std::marker::Model;
-use userfile::{Change, ChangeFault, is_ban_channel, is_comment, is_handle, is_hostmask, is_info};
+use userfile::{
+    Change, ChangeFault, is_ban_channel, is_comment, is_handle, is_hostmask, is_info, is_person,
+};
 
 /// Reads fields from the front of some bytes, one after the other. Contracts see the bytes that are still to be read.
 ///
 /// Each call returns a field and steps over it. A call that returns an error leaves the reader unchanged. Numbers have
 /// their most significant byte first. Only [`change`](Reader::change), [`record`](Reader::record),
-/// [`records`](Reader::records) and those of layout 1 allocate.
+/// [`records`](Reader::records) and those of older layouts allocate.
 ///
 /// ```text
 /// let mut reader = Reader::new(b"\x00\x02\x07alice");
@@ -48,7 +50,7 @@ impl<'a> Reader<'a> {
     ghost use Rattle.usercodec.specs.FaultBytes.{fault_at};
     ghost use Rattle.usercodec.specs.Changes.{change_at};
     ghost use Rattle.usercodec.specs.Records.{record_at, so_many_records_at};
-    ghost use Rattle.usercodec.specs.Old.{change_at_old, so_many_records_at_old};
+    ghost use Rattle.usercodec.specs.Old.{nameless_change_at, change_at_old, so_many_records_at_old};
 
     /// Creates a reader at the beginning of `bytes`.
     pub fn new(bytes: &'a [u8]) -> Reader<'a>
@@ -194,6 +196,20 @@ impl<'a> Reader<'a> {
         Ok(records)
     }
 
+    /// Reads a change as the layouts 2 and 3 spelled it: see [`read_nameless_change`](crate::read_nameless_change).
+    ///
+    /// # Errors
+    /// Those of [`change`](Reader::change).
+    pub fn nameless_change(&mut self, alloc: Global) -> Result<Change, CodecError>
+        ensures value { Makes (λ change. (change, self.new)) result (nameless_change_at self.old) }
+        ensures unchanged { OnErr result (self.new ≡ self.old) }
+    {
+        let mut ahead = Reader { rest: self.rest };
+        let change = nameless_change(alloc, &mut ahead)?;
+        self.rest = ahead.rest;
+        Ok(change)
+    }
+
     /// Reads a change as layout 1 spelled it: see [`read_change_old`](crate::read_change_old).
     ///
     /// # Errors
@@ -231,7 +247,7 @@ impl<'a> Reader<'a> {
     ghost use Rattle.std.specs.Int.{w64};
     ghost use Rattle.usercodec.specs.Answers.{Gives};
     ghost use Rattle.usercodec.specs.Fields.{number_at, text_at, count_at, flags_at};
-    ghost use Rattle.usercodec.specs.Fields.{handle_at, hostmask_at, channel_at, ban_channel_at, comment_at, info_at, mark_at};
+    ghost use Rattle.usercodec.specs.Fields.{handle_at, hostmask_at, channel_at, ban_channel_at, comment_at, info_at, mark_at, person_at};
 
     // The number of bytes that are left.
     pub(crate) fn len(&self) -> usize
@@ -292,6 +308,14 @@ impl<'a> Reader<'a> {
     {
         let text = self.text()?;
         keep_if(is_hostmask(text), text)
+    }
+
+    #[tactic(auto, unfolding(crate::specs::Fields::person_at))]
+    pub(crate) fn person(&mut self) -> Result<&'a [u8], CodecError>
+        ensures { Gives (λ text. (text.now, self.new)) result (person_at self.old) }
+    {
+        let text = self.text()?;
+        keep_if(is_person(text), text)
     }
 
     #[tactic(auto, unfolding(crate::specs::Fields::channel_at))]

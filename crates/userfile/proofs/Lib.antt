@@ -1,7 +1,7 @@
 pub mod TextLemmas
 pub mod ListLemmas
 pub mod EntryLemmas
-pub mod EditLemmas
+pub mod UserEditLemmas
 pub mod MatchLemmas
 pub mod SearchLemmas
 pub mod GroupLemmas
@@ -13,3 +13,5 @@ pub mod RepeatLemmas
 pub mod SoundLemmas
 pub mod PlanLemmas
 pub mod WideningLemmas
+pub mod RankLemmas
+pub mod OwnerLemmas

@@ -11,10 +11,10 @@ use Rattle.rfccase.specs.Casemapping.{is_same}
 use Rattle.userfile.specs.declared.user.User.{User}
 use Rattle.userfile.specs.declared.index.Listing.{Listing}
 use Rattle.userfile.specs.declared.index.TailIndex.{TailIndex}
-use Rattle.userfile.specs.declared.edits.Edit.{Edit}
-use Rattle.userfile.specs.declared.edits.Edit.TheVariants.{DelMask, SetGlobal, DelChannel, SetChannels, SetBot, SetInfo}
+use Rattle.userfile.specs.declared.user_edits.UserEdit.{UserEdit}
+use Rattle.userfile.specs.declared.user_edits.UserEdit.TheVariants.{DelMask, SetGlobal, DelChannel, SetChannels, SetBot, SetInfo}
 use Rattle.userfile.specs.Apply.{with_mask, without_mask}
-use Rattle.userfile.specs.Edits.{edited, is_of_masks}
+use Rattle.userfile.specs.UserEdits.{edited, is_of_masks}
 use Rattle.userfile.specs.Held.{with_user, users_without}
 use Rattle.wildmask.proofs.SignatureLemmas.{same_pairs-self}
 use Rattle.userfile.specs.Hostmasks.{literals, mask_tail, mask_pairs}
@@ -129,7 +129,7 @@ IsIndexOf-edited index h edit same us is = record {
   names = Names-users index us (with_user h edit us) (masks_at-same h edit same us) is.names;
 }
 
-pub edited_same : (index : TailIndex) (h : List ℕ) (edit : Edit) → is_of_masks edit ≡ false → (us : List User) → IsIndexOf index us
+pub edited_same : (index : TailIndex) (h : List ℕ) (edit : UserEdit) → is_of_masks edit ≡ false → (us : List User) → IsIndexOf index us
     → IsIndexOf index (with_user h (edited edit) us)
 edited_same index h (DelMask m) other us is = absurd (true≢false other)
 edited_same index h (SetGlobal f) other us is = IsIndexOf-edited index h (edited (SetGlobal f)) (λ u. refl) us is

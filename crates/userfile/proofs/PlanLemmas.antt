@@ -6,8 +6,8 @@ use Rattle.std.specs.List.{list_any}
 use Rattle.rfccase.specs.Casemapping.{is_same}
 use Rattle.rfccase.proofs.SameLemmas.{is_same-Decides}
 use Rattle.userfile.specs.Records.{Records}
-use Rattle.userfile.specs.Apply.{fault_unless, first_of_two, of_user, add_mask_fault, del_mask_fault, not_taken, refusal, new_user}
-use Rattle.userfile.specs.Apply.{with_mask, without_mask, new_ban, changed}
+use Rattle.userfile.specs.Apply.{fault_unless, first_of_two, of_user, add_mask_fault, del_mask_fault, not_taken, edit_refusal, new_user}
+use Rattle.userfile.specs.Apply.{with_mask, without_mask, new_ban, edit_made}
 use Rattle.userfile.specs.Held.{user_of, with_user, has_mask, is_ban}
 use Rattle.userfile.specs.Plans.{adds, taken_back, before, after, Suits, IsPlanFor}
 use Rattle.userfile.specs.Shapes.{is_handle, is_hostmask, is_comment}
@@ -15,12 +15,12 @@ use Rattle.userfile.specs.Together.{AreSound}
 use Rattle.userfile.specs.declared.user.User.{User}
 use Rattle.userfile.specs.declared.plan.Plan.{Plan}
 use Rattle.userfile.specs.declared.plan.Plan.TheVariants.{Later, Added, Channels, Info}
-use Rattle.userfile.specs.declared.change.Change.{Change}
-use Rattle.userfile.specs.declared.change.Change.TheVariants.{AddUser, DelUser, AddHost, DelHost, SetGlobal, SetChan, SetBot, AddBan, DelBan, SetInfo, SetSticky}
+use Rattle.userfile.specs.declared.edit.Edit.{Edit}
+use Rattle.userfile.specs.declared.edit.Edit.TheVariants.{AddUser, DelUser, AddHost, DelHost, SetGlobal, SetChan, SetBot, AddBan, DelBan, SetInfo, SetSticky}
 use Rattle.userfile.specs.declared.error.ChangeFault.{ChangeFault}
 use Rattle.userfile.specs.declared.error.ChangeFault.TheVariants.{BadHandle, BadMask, BadComment, NoSuchUser, NoSuchMask, NoSuchBan}
 use Rattle.userfile.proofs.RepeatLemmas.{or_false, and_both, is_some-find}
-use Rattle.userfile.proofs.SoundLemmas.{first_none, if_none, changed-sound}
+use Rattle.userfile.proofs.SoundLemmas.{first_none, if_none, edit_made-sound}
 
 -- ---- one element more
 
@@ -107,7 +107,7 @@ bears h m us free = by (user_of h us) refl free
 -- ---- any addition
 
 -- what a change adds can be taken out
-pub refusal-taken_back : (old : Records) (c : Change) → refusal old c ≡ None → adds c ≡ true → refusal (changed old c) (taken_back c) ≡ None
+pub refusal-taken_back : (old : Records) (c : Edit) → edit_refusal old c ≡ None → adds c ≡ true → edit_refusal (edit_made old c) (taken_back c) ≡ None
 refusal-taken_back old (AddUser h) free adding = both_none (first_none free).0 (unless-true NoSuchUser (there h old.users))
 refusal-taken_back old (AddHost h m) free adding =
     let b = bears h m old.users (first_none free).1 in
@@ -130,7 +130,7 @@ refusal-taken_back old (SetInfo h i) free adding = absurd (true≢false (sym add
 refusal-taken_back old (SetSticky ch m on) free adding = absurd (true≢false (sym adding))
 
 -- and then the records are as before
-pub changed-taken_back : (old : Records) (c : Change) → refusal old c ≡ None → adds c ≡ true → changed (changed old c) (taken_back c) ≡ old
+pub changed-taken_back : (old : Records) (c : Edit) → edit_refusal old c ≡ None → adds c ≡ true → edit_made (edit_made old c) (taken_back c) ≡ old
 changed-taken_back old (AddUser h) free adding =
     ap (λ us. record old { users = us })
     (without-last (λ (u : User). is_same h u.handle) old.users (new_user h) (absent h old.users (if_none _ (first_none (first_none free).1).0)) (same-self h))
@@ -152,29 +152,29 @@ changed-taken_back old (SetSticky ch m on) free adding = absurd (true≢false (s
 -- ---- plans
 
 -- what is held since a plan was made stands together
-pub planned-sound : {E : Type 0} (result : Result Plan E) (old held : Records) (c : Change) → AreSound old → refusal old c ≡ None
+pub planned-sound : {E : Type 0} (result : Result Plan E) (old held : Records) (c : Edit) → AreSound old → edit_refusal old c ≡ None
     → IfOk result (λ plan. IsPlanFor plan c old held) → OnErr result (held ≡ old) → AreSound held
 planned-sound (Ok Later) old held c s free ok err = subst AreSound (sym ok.0) s
-planned-sound (Ok Added) old held c s free ok err = subst AreSound (sym ok.0) (changed-sound old c s free)
+planned-sound (Ok Added) old held c s free ok err = subst AreSound (sym ok.0) (edit_made-sound old c s free)
 planned-sound (Ok (Channels h es)) old held c s free ok err = subst AreSound (sym ok.0) s
 planned-sound (Ok (Info h i)) old held c s free ok err = subst AreSound (sym ok.0) s
 planned-sound (Err _) old held c s free ok err = subst AreSound (sym err) s
 
-pub IsPlanFor-before : (plan : Plan) (c : Change) (old held : Records) → refusal old c ≡ None → IsPlanFor plan c old held → before plan c held ≡ old
+pub IsPlanFor-before : (plan : Plan) (c : Edit) (old held : Records) → edit_refusal old c ≡ None → IsPlanFor plan c old held → before plan c held ≡ old
 IsPlanFor-before Later c old held free is = is.0
-IsPlanFor-before Added c old held free is = ap (λ r. changed r (taken_back c)) is.0 ∙ changed-taken_back old c free is.1
+IsPlanFor-before Added c old held free is = ap (λ r. edit_made r (taken_back c)) is.0 ∙ changed-taken_back old c free is.1
 IsPlanFor-before (Channels h es) c old held free is = is.0
 IsPlanFor-before (Info h i) c old held free is = is.0
 
-pub IsPlanFor-after : (plan : Plan) (c : Change) (old held : Records) → IsPlanFor plan c old held → after plan c held ≡ changed old c
-IsPlanFor-after Later c old held is = ap (λ r. changed r c) is.0
+pub IsPlanFor-after : (plan : Plan) (c : Edit) (old held : Records) → IsPlanFor plan c old held → after plan c held ≡ edit_made old c
+IsPlanFor-after Later c old held is = ap (λ r. edit_made r c) is.0
 IsPlanFor-after Added c old held is = is.0
-IsPlanFor-after (Channels h es) c old held is = ap (λ r. changed r c) is.0
-IsPlanFor-after (Info h i) c old held is = ap (λ r. changed r c) is.0
+IsPlanFor-after (Channels h es) c old held is = ap (λ r. edit_made r c) is.0
+IsPlanFor-after (Info h i) c old held is = ap (λ r. edit_made r c) is.0
 
-pub IsPlanFor-Suits : (plan : Plan) (c : Change) (old held : Records) → refusal old c ≡ None → IsPlanFor plan c old held → Suits plan c held
-IsPlanFor-Suits Later c old held free is = (subst (λ r. refusal r c ≡ None) (sym is.0) free, is.1)
+pub IsPlanFor-Suits : (plan : Plan) (c : Edit) (old held : Records) → edit_refusal old c ≡ None → IsPlanFor plan c old held → Suits plan c held
+IsPlanFor-Suits Later c old held free is = (subst (λ r. edit_refusal r c ≡ None) (sym is.0) free, is.1)
 IsPlanFor-Suits Added c old held free is =
-    (subst (λ r. refusal r (taken_back c) ≡ None) (sym is.0) (refusal-taken_back old c free is.1), is.1)
+    (subst (λ r. edit_refusal r (taken_back c) ≡ None) (sym is.0) (refusal-taken_back old c free is.1), is.1)
 IsPlanFor-Suits (Channels h es) c old held free is = subst (λ r. Suits (Channels h es) c r) (sym is.0) (free, is.1)
 IsPlanFor-Suits (Info h i) c old held free is = subst (λ r. Suits (Info h i) c r) (sym is.0) (free, is.1)

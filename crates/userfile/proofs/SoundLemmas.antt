@@ -7,17 +7,19 @@ use Rattle.rfccase.specs.Casemapping.{is_same}
 use Rattle.rfccase.specs.Channels.{is_channel_name}
 use Rattle.userfile.specs.Records.{Records}
 use Rattle.userfile.specs.Shapes.{is_handle, is_ban_channel, is_comment, is_info}
-use Rattle.userfile.specs.Apply.{fault_if, fault_unless, first_of_two, bad_shape, of_user, add_mask_fault, set_channel_fault, not_taken}
-use Rattle.userfile.specs.Apply.{refusal, new_user, with_mask, without_mask, with_global, set_channel, with_channel, with_bot, with_info, user_edited, new_ban}
-use Rattle.userfile.specs.Apply.{marked, with_sticky, changed}
+use Rattle.userfile.specs.Apply.{fault_if, fault_unless, first_of_two, bad_edit, of_user, add_mask_fault, set_channel_fault, not_taken}
+use Rattle.userfile.specs.Apply.{edit_refusal, new_user, with_mask, without_mask, with_global, set_channel, with_channel, with_bot, with_info, user_edited, new_ban}
+use Rattle.userfile.specs.Apply.{marked, with_sticky, edit_made}
 use Rattle.userfile.specs.Held.{user_of, with_user, entry_of, has_entry, entries_without, with_entry, is_ban, has_ban}
 use Rattle.userfile.specs.Together.{repeats_channel, is_entry, is_user, is_good_ban, repeats_handle, repeats_mask, repeats_ban, is_over}
 use Rattle.userfile.specs.Together.{records_fault, AreSound}
 use Rattle.userfile.specs.declared.user.User.{User}
 use Rattle.userfile.specs.declared.channel_flags.ChannelFlags.{ChannelFlags}
 use Rattle.userfile.specs.declared.ban.Ban.{Ban}
+use Rattle.userfile.specs.Apply.{refusal, changed, bad_asker, bad_shape, no_right, over_share, not_allowed}
 use Rattle.userfile.specs.declared.change.Change.{Change}
-use Rattle.userfile.specs.declared.change.Change.TheVariants.{AddUser, DelUser, AddHost, DelHost, SetGlobal, SetChan, SetBot, AddBan, DelBan, SetInfo, SetSticky}
+use Rattle.userfile.specs.declared.edit.Edit.{Edit}
+use Rattle.userfile.specs.declared.edit.Edit.TheVariants.{AddUser, DelUser, AddHost, DelHost, SetGlobal, SetChan, SetBot, AddBan, DelBan, SetInfo, SetSticky}
 use Rattle.userfile.specs.declared.error.ChangeFault.{ChangeFault}
 use Rattle.rfccase.proofs.SameLemmas.{is_same-sym, is_same-left}
 use Rattle.userfile.proofs.RepeatLemmas.{or_false, or_both, and_true, and_both, list_all-filter, list_all-push, length-filter-le}
@@ -386,7 +388,7 @@ module _ (ch m : List ℕ) (on : Bool) where
   length-with_sticky [] = refl
   length-with_sticky (b ∷ bs) = ap suc (length-with_sticky bs)
 
-keeps_parts : (r : Records) (c : Change) → Parts r.users r.bans → bad_shape c ≡ None → not_taken r c ≡ None → Parts (changed r c).users (changed r c).bans
+keeps_parts : (r : Records) (c : Edit) → Parts r.users r.bans → bad_edit c ≡ None → not_taken r c ≡ None → Parts (edit_made r c).users (edit_made r c).bans
 keeps_parts r (AddUser h) p shape taken =
     let n = first_none taken in
     let room = ltb-true (length r.users) 500 (unless_none _ n.1) in
@@ -451,6 +453,18 @@ keeps_parts r (SetSticky ch m on) p shape taken = record {
   few_bans = omega (arith, length-with_sticky ch m on r.bans, p.few_bans);
 }
 
-pub changed-sound : (r : Records) (c : Change) → AreSound r → refusal r c ≡ None → AreSound (changed r c)
-changed-sound r c s free = sound_of (changed r c)
+pub edit_made-sound : (r : Records) (c : Edit) → AreSound r → edit_refusal r c ≡ None → AreSound (edit_made r c)
+edit_made-sound r c s free = sound_of (edit_made r c)
     (keeps_parts r c (parts_of r.users r.bans s.users s.bans s.together) (first_none free).0 (first_none free).1)
+
+-- the edit of a change that isn't refused isn't refused in nobody's name
+pub edit-free : (r : Records) (c : Change) → refusal r c ≡ None → edit_refusal r c.edit ≡ None
+edit-free r c free =
+    let parts = first_none {a = bad_shape c} {b = not_allowed r c} free in
+    let shape = first_none {a = bad_asker c.by} {b = bad_edit c.edit} parts.0 in
+    let right = first_none {a = no_right r.users c.by c.edit} {b = first_of_two (not_taken r c.edit) (over_share r.bans c.by c.edit)} parts.1 in
+    let taken = first_none {a = not_taken r c.edit} {b = over_share r.bans c.by c.edit} right.1 in
+    rw (shape.1, taken.0) refl
+
+pub changed-sound : (r : Records) (c : Change) → AreSound r → refusal r c ≡ None → AreSound (changed r c)
+changed-sound r c s free = edit_made-sound r c.edit s (edit-free r c free)

@@ -7,7 +7,8 @@ use Rattle.rfccase.proofs.SameLemmas.{length-folded, is_same-Decides}
 use Rattle.wildmask.specs.Masks.{host_fault}
 use Rattle.wildmask.specs.declared.faults.MaskFault.{MaskFault}
 use Rattle.userfile.specs.declared.limits.TheConstants.{MAX_HANDLE}
-use Rattle.userfile.specs.Shapes.{is_hostmask, is_handle}
+use Rattle.userfile.specs.Shapes.{is_hostmask, is_handle, is_person}
+use Rattle.userfile.proofs.RepeatLemmas.{and_true}
 
 -- texts of different lengths are not the same
 pub is_same-length : (a b : List ℕ) → length b < length a → is_same a b ≡ false
@@ -23,6 +24,11 @@ is_same-length a b longer = by (is_same a b) refl
 pub no_fault : (text : List ℕ) (fault : MaskFault) → is_hostmask text ≡ true → host_fault text ≡ Some fault → ⊥
 unfolding is_hostmask
 no_fault text fault good bad = true≢false (sym good ∙ ap is_none bad)
+
+-- a person is written as a hostmask
+pub is_person-hostmask : (text : List ℕ) → is_person text ≡ true → is_hostmask text ≡ true
+unfolding is_person
+is_person-hostmask text good = (and_true (and_true good).0).0
 
 -- a handle has at most 32 bytes
 pub is_handle-length : (text : List ℕ) → is_handle text ≡ true → length text ≤ MAX_HANDLE

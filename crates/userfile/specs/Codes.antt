@@ -2,7 +2,7 @@
 use Rattle.std.specs.Prelude.{ℕ, List, codes}
 use Rattle.userfile.specs.declared.error.ChangeFault.{ChangeFault}
 use Rattle.userfile.specs.declared.error.ChangeFault.TheVariants.{BadHandle, BadMask, BadChannel, BadComment, NoSuchUser, UserExists, MaskExists}
-use Rattle.userfile.specs.declared.error.ChangeFault.TheVariants.{NoSuchMask, BanExists, NoSuchBan, Full}
+use Rattle.userfile.specs.declared.error.ChangeFault.TheVariants.{NoSuchMask, BanExists, NoSuchBan, Full, NotAllowed}
 
 abbrev pub fault_code : ChangeFault → List ℕ
 fault_code BadHandle = codes "U1"
@@ -16,3 +16,4 @@ fault_code BanExists = codes "U8"
 fault_code NoSuchBan = codes "U9"
 fault_code BadComment = codes "U10"
 fault_code Full = codes "U11"
+fault_code NotAllowed = codes "U12"

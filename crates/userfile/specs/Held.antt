@@ -63,3 +63,7 @@ has_ban channel mask bans = list_any (is_ban channel mask) bans
 
 abbrev pub bans_without : List ℕ → List ℕ → List Ban → List Ban
 bans_without channel mask bans = filter (λ ban. not (is_ban channel mask ban)) bans
+
+-- the bans of a channel
+abbrev pub bans_of : List ℕ → List Ban → List Ban
+bans_of channel bans = filter (λ ban. is_same channel ban.channel) bans

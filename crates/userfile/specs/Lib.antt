@@ -3,11 +3,14 @@ pub mod Shapes
 pub mod Hostmasks
 pub mod Records
 pub mod Held
+pub mod Changes
+pub mod Rights
 pub mod Apply
-pub mod Edits
+pub mod UserEdits
 pub mod Plans
 pub mod Updates
 pub mod Versions
+pub mod Ranks
 pub mod Persons
 pub mod Keys
 pub mod Together

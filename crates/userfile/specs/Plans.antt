@@ -1,15 +1,16 @@
--- What is made in advance for a change.
+-- What is made in advance for an edit.
 use Rattle.std.specs.Prelude.{◌≡◌, Bool, true, false, None}
 use Rattle.userfile.specs.Records.{Records}
-use Rattle.userfile.specs.Apply.{refusal, changed, grows, user_edited, with_info}
-use Rattle.userfile.specs.Edits.{with_channels}
+use Rattle.userfile.specs.Apply.{refusal, changed, edit_refusal, edit_made, edit_grows, user_edited, with_info}
+use Rattle.userfile.specs.UserEdits.{with_channels}
 use Rattle.userfile.specs.declared.change.Change.{Change}
-use Rattle.userfile.specs.declared.change.Change.TheVariants.{AddUser, DelUser, AddHost, DelHost, SetGlobal, SetChan, SetBot, AddBan, DelBan, SetInfo, SetSticky}
+use Rattle.userfile.specs.declared.edit.Edit.{Edit}
+use Rattle.userfile.specs.declared.edit.Edit.TheVariants.{AddUser, DelUser, AddHost, DelHost, SetGlobal, SetChan, SetBot, AddBan, DelBan, SetInfo, SetSticky}
 use Rattle.userfile.specs.declared.plan.Plan.{Plan}
 use Rattle.userfile.specs.declared.plan.Plan.TheVariants.{Later, Added, Channels, Info}
 
--- whether a change adds a user, a hostmask or a ban
-abbrev pub adds : Change → Bool
+-- whether an edit adds a user, a hostmask or a ban
+abbrev pub adds : Edit → Bool
 adds (AddUser handle) = true
 adds (DelUser handle) = false
 adds (AddHost handle mask) = true
@@ -22,8 +23,8 @@ adds (DelBan channel mask) = false
 adds (SetInfo handle info) = false
 adds (SetSticky channel mask on) = false
 
--- the change that removes what a change adds
-abbrev pub taken_back : Change → Change
+-- the edit that removes what an edit adds
+abbrev pub taken_back : Edit → Edit
 taken_back (AddUser handle) = DelUser handle
 taken_back (DelUser handle) = DelUser handle
 taken_back (AddHost handle mask) = DelHost handle mask
@@ -36,39 +37,39 @@ taken_back (DelBan channel mask) = DelBan channel mask
 taken_back (SetInfo handle info) = SetInfo handle info
 taken_back (SetSticky channel mask on) = SetSticky channel mask on
 
--- the records before a change with this plan; `held` are the records since the plan was made
-abbrev pub before : Plan → Change → Records → Records
-before Later change held = held
-before Added change held = changed held (taken_back change)
-before (Channels handle entries) change held = held
-before (Info handle info) change held = held
+-- the records before an edit with this plan; `held` are the records since the plan was made
+abbrev pub before : Plan → Edit → Records → Records
+before Later edit held = held
+before Added edit held = edit_made held (taken_back edit)
+before (Channels handle entries) edit held = held
+before (Info handle info) edit held = held
 
 -- and the records after it
-abbrev pub after : Plan → Change → Records → Records
-after Later change held = changed held change
-after Added change held = held
-after (Channels handle entries) change held = changed held change
-after (Info handle info) change held = changed held change
+abbrev pub after : Plan → Edit → Records → Records
+after Later edit held = edit_made held edit
+after Added edit held = held
+after (Channels handle entries) edit held = edit_made held edit
+after (Info handle info) edit held = edit_made held edit
 
--- the plan is what the change needs
-abbrev pub Suits : Plan → Change → Records → Type 0
-Suits Later change held = (refusal held change ≡ None) × (grows change ≡ false)
-Suits Added change held = (refusal held (taken_back change) ≡ None) × (adds change ≡ true)
-Suits (Channels handle entries) change held =
-    (refusal held change ≡ None) × (user_edited held handle (with_channels entries) ≡ changed held change)
-Suits (Info handle info) change held = (refusal held change ≡ None) × (user_edited held handle (with_info info) ≡ changed held change)
+-- the plan is what the edit needs
+abbrev pub Suits : Plan → Edit → Records → Type 0
+Suits Later edit held = (edit_refusal held edit ≡ None) × (edit_grows edit ≡ false)
+Suits Added edit held = (edit_refusal held (taken_back edit) ≡ None) × (adds edit ≡ true)
+Suits (Channels handle entries) edit held =
+    (edit_refusal held edit ≡ None) × (user_edited held handle (with_channels entries) ≡ edit_made held edit)
+Suits (Info handle info) edit held = (edit_refusal held edit ≡ None) × (user_edited held handle (with_info info) ≡ edit_made held edit)
 
 -- how the records since this plan was made follow from the records before
-abbrev pub IsPlanFor : Plan → Change → Records → Records → Type 0
-IsPlanFor Later change old held = (held ≡ old) × (grows change ≡ false)
-IsPlanFor Added change old held = (held ≡ changed old change) × (adds change ≡ true)
-IsPlanFor (Channels handle entries) change old held =
-    (held ≡ old) × (user_edited old handle (with_channels entries) ≡ changed old change)
-IsPlanFor (Info handle info) change old held = (held ≡ old) × (user_edited old handle (with_info info) ≡ changed old change)
+abbrev pub IsPlanFor : Plan → Edit → Records → Records → Type 0
+IsPlanFor Later edit old held = (held ≡ old) × (edit_grows edit ≡ false)
+IsPlanFor Added edit old held = (held ≡ edit_made old edit) × (adds edit ≡ true)
+IsPlanFor (Channels handle entries) edit old held =
+    (held ≡ old) × (user_edited old handle (with_channels entries) ≡ edit_made old edit)
+IsPlanFor (Info handle info) edit old held = (held ≡ old) × (user_edited old handle (with_info info) ≡ edit_made old edit)
 
 -- this plan was made for a change that isn't refused; `old` are the records before it, `held` those since
 pub record IsMade (plan : Plan) (change : Change) (old held : Records) : Type 0 where
   pub taken : refusal old change ≡ None
-  pub earlier : before plan change held ≡ old
-  pub later : after plan change held ≡ changed old change
-  pub suits : Suits plan change held
+  pub earlier : before plan change.edit held ≡ old
+  pub later : after plan change.edit held ≡ changed old change
+  pub suits : Suits plan change.edit held

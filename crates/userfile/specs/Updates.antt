@@ -15,15 +15,15 @@ use Rattle.userfile.specs.contracts.userfile.Userfile.{the_row}
 
 -- the records before the change
 abbrev pub records_before : Update Plan → Records
-records_before update = before update.plan update.change.now update.userfile.now
+records_before update = before update.plan update.change.now.edit update.userfile.now
 
 -- the records after the change
 abbrev pub records_after : Update Plan → Records
-records_after update = after update.plan update.change.now update.userfile.now
+records_after update = after update.plan update.change.now.edit update.userfile.now
 
 -- an update has what its change needs
 abbrev pub IsSuited : Update Plan → Type 0
-IsSuited update = Suits update.plan update.change.now update.userfile.now
+IsSuited update = Suits update.plan update.change.now.edit update.userfile.now
 
 -- the update is that of this change of the records `old`, and the change isn't refused
 pub record IsReady (change : Change) (old : Records) (update : Update Plan) : Type 0 where

@@ -1,13 +1,15 @@
 // The list of the bans.
-ghost use Rattle.std.specs.Prelude.{◌≡◌, true, IfOk, IfErr};
+ghost use Rattle.std.specs.Prelude.{◌≡◌, true, IfOk, IfErr, length};
 ghost use Rattle.bytetext.specs.declared.failure.Failure.TheVariants.{NoMemory as no_memory};
-ghost use Rattle.userfile.specs.Apply.{new_ban, marked, with_sticky};
-ghost use Rattle.userfile.specs.Held.{has_ban, bans_without};
+ghost use Rattle.userfile.specs.Apply.{has_ban_room, new_ban, marked, with_sticky};
+ghost use Rattle.userfile.specs.Held.{has_ban, bans_of, bans_without};
 ghost use Rattle.userfile.specs.Shapes.{is_hostmask};
 
 use crate::ban::Ban;
-use crate::edits::hostmask_of;
 use crate::error::ChangeError;
+use crate::limits::MAX_CHANNEL_BANS;
+use crate::texts::is_same;
+use crate::user_edits::hostmask_of;
 use bytetext::{Text, TryCopy};
 use std::alloc::Global;
 
@@ -16,6 +18,22 @@ pub(crate) fn has_ban(bans: &[Ban], channel: &[u8], mask: &[u8]) -> bool
     ensures { result ≡ has_ban channel.now mask.now bans.now }
 {
     bans.iter().any(|ban| ban.is_of(channel, mask))
+}
+
+// Whether a channel has room for a person's ban.
+pub(crate) fn has_ban_room(channel: &[u8], bans: &[Ban]) -> bool
+    ensures { result ≡ has_ban_room channel.now bans.now }
+{
+    channel.is_empty() || bans_of(channel, bans) < MAX_CHANNEL_BANS
+}
+
+// The number of a channel's bans.
+fn bans_of(channel: &[u8], bans: &[Ban]) -> usize
+    ensures { result ≡ length (bans_of channel.now bans.now) }
+{
+    bans.iter()
+        .filter(|ban| is_same(channel, ban.channel.as_bytes()))
+        .count()
 }
 
 // Creates a ban from copies of these texts; the mask must be a hostmask. The ban isn't sticky.

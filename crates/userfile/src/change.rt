@@ -1,255 +1,85 @@
-// One edit of the userfile.
-ghost use Rattle.std.specs.Prelude.{◌≡◌, IfOk};
+// One edit of the userfile, and who asks for it.
+ghost use Rattle.std.specs.Prelude.{◌≡◌, None, Some};
+ghost use Rattle.userfile.specs.Changes.{by_nobody, by_person};
 
+use crate::edit::Edit;
 use bytetext::{NoMemory, Text, TryCopy};
-use flagexpr::Flags;
+use rfccase::Casemapping;
 use std::alloc::Global;
 
-/// One edit of a userfile, as it is requested, sent and stored. Handles, masks and channels are compared by
-/// casemapping.
+/// The person who asks for a change.
 #[derive(Debug)]
-pub enum Change {
-    /// Adds a user after the others.
-    AddUser {
-        /// The new user's handle.
-        handle: Text,
-    },
-    /// Deletes a user.
-    DelUser {
-        /// The user's handle.
-        handle: Text,
-    },
-    /// Adds a hostmask after the user's other hostmasks.
-    AddHost {
-        /// The user's handle.
-        handle: Text,
-        /// The hostmask.
-        mask: Text,
-    },
-    /// Deletes a hostmask of a user.
-    DelHost {
-        /// The user's handle.
-        handle: Text,
-        /// The hostmask's text.
-        mask: Text,
-    },
-    /// Sets the flags that a user has everywhere.
-    SetGlobal {
-        /// The user's handle.
-        handle: Text,
-        /// The flags, which replace the old ones.
-        flags: Flags,
-    },
-    /// Sets a user's flags on a channel.
-    SetChan {
-        /// The user's handle.
-        handle: Text,
-        /// The channel.
-        channel: Text,
-        /// The flags, which replace the old ones; empty flags delete the channel's entry.
-        flags: Flags,
-    },
-    /// Sets a user's flags as a bot.
-    SetBot {
-        /// The user's handle.
-        handle: Text,
-        /// The flags, which replace the old ones.
-        flags: Flags,
-    },
-    /// Adds a ban after the others.
-    AddBan {
-        /// The channel, or the empty text for a ban of all channels.
-        channel: Text,
-        /// The hostmask.
-        mask: Text,
-        /// The handle of the ban's creator; a user with this handle need not exist.
-        creator: Text,
-        /// The second since 1970-01-01 UTC from which on the ban matches nobody; 0 for a ban that never ends.
-        expires: u64,
-        /// The comment, for the banned person to read.
-        comment: Text,
-    },
-    /// Deletes a ban.
-    DelBan {
-        /// The ban's channel, or the empty text for a ban of all channels.
-        channel: Text,
-        /// The ban's hostmask.
-        mask: Text,
-    },
-    /// Sets a user's info text.
-    SetInfo {
-        /// The user's handle.
-        handle: Text,
-        /// The text, which replaces the old one; the empty text for none.
-        info: Text,
-    },
-    /// Sets whether a ban is sticky.
-    SetSticky {
-        /// The ban's channel, or the empty text for a ban of all channels.
-        channel: Text,
-        /// The ban's hostmask.
-        mask: Text,
-        /// Whether the ban is sticky from now on.
-        on: bool,
-    },
+pub struct Asker {
+    /// The person, written as `nick!user@host`: at most 120 bytes, each above 32, and none of them `*` or `?`.
+    pub person: Text,
+    /// The casemapping of the server on which the person asked. The hostmasks of the userfile match the person by it.
+    pub casemapping: Casemapping,
+}
+
+// By hand, so that the drop is proved once, and not in each function that drops an asker.
+impl Drop for Asker {
+    fn drop(self) {
+        let Asker {
+            person: _,
+            casemapping: _,
+        } = self;
+    }
+}
+
+impl TryCopy for Asker {
+    fn copy(&self, alloc: Global) -> Result<Asker, NoMemory> {
+        let person = self.person.copy(alloc)?;
+        Ok(Asker {
+            person,
+            casemapping: self.casemapping,
+        })
+    }
+}
+
+/// One change of a userfile, as it is requested, sent and stored: an edit, and who asks for it.
+#[derive(Debug)]
+pub struct Change {
+    /// Who asks. Each userfile to which the change is applied judges the person's right to the edit by its records just
+    /// before the change. A change in nobody's name (`None`) has the right to every edit: an operator or the bot itself
+    /// asks for it.
+    pub by: Option<Asker>,
+    /// What the change edits.
+    pub edit: Edit,
+}
+
+impl Change {
+    /// Creates the change that makes `edit` in nobody's name. Does not allocate.
+    pub fn by_nobody(edit: Edit) -> Change
+        ensures { result ≡ by_nobody edit }
+    {
+        Change { by: None, edit }
+    }
+
+    /// Creates the change that makes `edit` in the name of `asker`. Does not allocate.
+    pub fn by_person(asker: Asker, edit: Edit) -> Change
+        ensures { result ≡ by_person asker edit }
+    {
+        Change {
+            by: Some(asker),
+            edit,
+        }
+    }
 }
 
 // By hand, so that the drop is proved once, and not in each function that drops a change.
 impl Drop for Change {
     fn drop(self) {
-        match self {
-            Change::AddUser { handle: _ } => {}
-            Change::DelUser { handle: _ } => {}
-            Change::AddHost { handle: _, mask: _ } => {}
-            Change::DelHost { handle: _, mask: _ } => {}
-            Change::SetGlobal {
-                handle: _,
-                flags: _,
-            } => {}
-            Change::SetChan {
-                handle: _,
-                channel: _,
-                flags: _,
-            } => {}
-            Change::SetBot {
-                handle: _,
-                flags: _,
-            } => {}
-            Change::AddBan {
-                channel: _,
-                mask: _,
-                creator: _,
-                expires: _,
-                comment: _,
-            } => {}
-            Change::DelBan {
-                channel: _,
-                mask: _,
-            } => {}
-            Change::SetInfo { handle: _, info: _ } => {}
-            Change::SetSticky {
-                channel: _,
-                mask: _,
-                on: _,
-            } => {}
-        }
+        let Change { by: _, edit: _ } = self;
     }
 }
 
 impl TryCopy for Change {
     fn copy(&self, alloc: Global) -> Result<Change, NoMemory> {
-        match self {
-            Change::AddUser { handle } => match handle.copy(alloc) {
-                Ok(handle) => Ok(Change::AddUser { handle }),
-                Err(NoMemory) => Err(NoMemory),
-            },
-            Change::DelUser { handle } => match handle.copy(alloc) {
-                Ok(handle) => Ok(Change::DelUser { handle }),
-                Err(NoMemory) => Err(NoMemory),
-            },
-            Change::AddHost { handle, mask } => match pair_of(alloc, handle, mask) {
-                Ok((handle, mask)) => Ok(Change::AddHost { handle, mask }),
-                Err(NoMemory) => Err(NoMemory),
-            },
-            Change::DelHost { handle, mask } => match pair_of(alloc, handle, mask) {
-                Ok((handle, mask)) => Ok(Change::DelHost { handle, mask }),
-                Err(NoMemory) => Err(NoMemory),
-            },
-            Change::SetGlobal { handle, flags } => set_global_copy(alloc, handle, *flags),
-            Change::SetChan {
-                handle,
-                channel,
-                flags,
-            } => set_chan_copy(alloc, handle, channel, *flags),
-            Change::SetBot { handle, flags } => set_bot_copy(alloc, handle, *flags),
-            Change::AddBan {
-                channel,
-                mask,
-                creator,
-                expires,
-                comment,
-            } => { ban_copy(alloc, channel, mask, creator, *expires, comment) }
-            Change::DelBan { channel, mask } => match pair_of(alloc, channel, mask) {
-                Ok((channel, mask)) => Ok(Change::DelBan { channel, mask }),
-                Err(NoMemory) => Err(NoMemory),
-            },
-            Change::SetInfo { handle, info } => match pair_of(alloc, handle, info) {
-                Ok((handle, info)) => Ok(Change::SetInfo { handle, info }),
-                Err(NoMemory) => Err(NoMemory),
-            },
-            Change::SetSticky { channel, mask, on } => set_sticky_copy(alloc, channel, mask, *on),
-        }
+        let by = match &self.by {
+            Some(asker) => Some(asker.copy(alloc)?),
+            None => None,
+        };
+        let edit = self.edit.copy(alloc)?;
+        Ok(Change { by, edit })
     }
-}
-
-// Copies of two texts.
-fn pair_of(alloc: Global, a: &Text, b: &Text) -> Result<(Text, Text), NoMemory>
-    ensures { IfOk result (λ pair. pair ≡ (a.now, b.now)) }
-{
-    let first = a.copy(alloc)?;
-    let second = b.copy(alloc)?;
-    Ok((first, second))
-}
-
-// A change that sets a user's flags everywhere, with a copy of the handle.
-fn set_global_copy(alloc: Global, handle: &Text, flags: Flags) -> Result<Change, NoMemory>
-    ensures { IfOk result (λ c. c ≡ Change.SetGlobal handle.now flags) }
-{
-    let handle = handle.copy(alloc)?;
-    Ok(Change::SetGlobal { handle, flags })
-}
-
-// A change that sets a user's flags on a channel, with copies of these texts.
-fn set_chan_copy(
-    alloc: Global,
-    handle: &Text,
-    channel: &Text,
-    flags: Flags,
-) -> Result<Change, NoMemory>
-    ensures { IfOk result (λ c. c ≡ Change.SetChan handle.now channel.now flags) }
-{
-    let (handle, channel) = pair_of(alloc, handle, channel)?;
-    Ok(Change::SetChan {
-        handle,
-        channel,
-        flags,
-    })
-}
-
-// A change that sets a user's flags as a bot, with a copy of the handle.
-fn set_bot_copy(alloc: Global, handle: &Text, flags: Flags) -> Result<Change, NoMemory>
-    ensures { IfOk result (λ c. c ≡ Change.SetBot handle.now flags) }
-{
-    let handle = handle.copy(alloc)?;
-    Ok(Change::SetBot { handle, flags })
-}
-
-// A change that adds a ban, with copies of these texts.
-fn ban_copy(
-    alloc: Global,
-    channel: &Text,
-    mask: &Text,
-    creator: &Text,
-    expires: u64,
-    comment: &Text,
-) -> Result<Change, NoMemory>
-    ensures { IfOk result (λ c. c ≡ Change.AddBan channel.now mask.now creator.now expires comment.now) }
-{
-    let (channel, mask) = pair_of(alloc, channel, mask)?;
-    let (creator, comment) = pair_of(alloc, creator, comment)?;
-    Ok(Change::AddBan {
-        channel,
-        mask,
-        creator,
-        expires,
-        comment,
-    })
-}
-
-// A change that sets whether a ban is sticky, with copies of these texts.
-fn set_sticky_copy(alloc: Global, channel: &Text, mask: &Text, on: bool) -> Result<Change, NoMemory>
-    ensures { IfOk result (λ c. c ≡ Change.SetSticky channel.now mask.now on) }
-{
-    let (channel, mask) = pair_of(alloc, channel, mask)?;
-    Ok(Change::SetSticky { channel, mask, on })
 }

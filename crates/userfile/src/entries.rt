@@ -3,7 +3,7 @@ ghost use Rattle.std.specs.Prelude.{◌≡◌, [], ◌∷◌, ◌++◌, not, tru
 ghost use Rattle.std.specs.Option.{option_copied};
 ghost use Rattle.rfccase.specs.Casemapping.{is_same};
 ghost use Rattle.userfile.specs.Apply.{new_user, with_mask};
-ghost use Rattle.userfile.specs.Edits.{edited, is_of_masks};
+ghost use Rattle.userfile.specs.UserEdits.{edited, is_of_masks};
 ghost use Rattle.userfile.specs.Index.{IsIndexOf};
 ghost use Rattle.userfile.specs.declared.index.TailIndex.{TailIndex};
 ghost use Rattle.userfile.specs.Held.{user_of, users_without, with_user};
@@ -11,11 +11,11 @@ ghost use Rattle.userfile.specs.Shapes.{is_handle};
 ghost use Rattle.userfile.specs.Keys.{IsKeyed};
 ghost use Rattle.indexmap.specs.IndexMap.{values};
 
-use crate::edits::{Edit, give_mask, make_edit};
 use crate::hostmask::Hostmask;
 use crate::limits::MAX_HANDLE;
 use crate::texts::is_same;
 use crate::user::User;
+use crate::user_edits::{UserEdit, give_mask, make_edit};
 use bytetext::{NoMemory, Text, TryCopy};
 use indexmap::IndexMap;
 use rfccase::{ShortFold, fold_text};
@@ -66,7 +66,7 @@ pub(crate) fn keep_other_users(users: &mut IndexMap<Vec<u8>, User>, handle: &[u8
 }
 
 // Makes an edit of the user with the handle.
-pub(crate) fn edit_user(users: &mut IndexMap<Vec<u8>, User>, handle: &[u8], edit: Edit<'_>)
+pub(crate) fn edit_user(users: &mut IndexMap<Vec<u8>, User>, handle: &[u8], edit: UserEdit<'_>)
     requires keyed { IsKeyed users.old.entries }
     ensures keyed { IsKeyed users.new.entries }
     ensures edited { values users.new ≡ with_user handle.now (edited edit.entry) (values users.old) }

@@ -5,15 +5,15 @@ use bytetext::Failure;
 use thiserror::Error;
 
 /// A refusal of a change, with its letter and number. The refusals are tested in this order: the change's own shape,
-/// then what the userfile holds, then its limits.
+/// then the right of the person who asks, then what the userfile holds, then its limits.
 #[derive(Clone, Copy, Debug, PartialEq, Eq, Error)]
 pub enum ChangeFault {
     /// U1: the handle, or a ban's creator, does not have 1 to 32 bytes, or holds a byte outside 33 to 126 or one of
     /// `* , : @`.
     #[error("a handle has 1 to 32 printable bytes, none of them a space or one of * , : @")]
     BadHandle,
-    /// U4: the mask is not a hostmask.
-    #[error("write the mask as nick!user@host, with at most 120 bytes, each above 32")]
+    /// U4: the mask is not a hostmask, or the person who asks is not written as `nick!user@host`.
+    #[error("write the mask as nick!user@host or $a:account, with at most 120 bytes, each above 32")]
     BadMask,
     /// U7: the channel name does not begin with `&`, `#`, `+` or `!`, has more than 100 bytes, or holds a space, a
     /// comma or control G.
@@ -43,6 +43,9 @@ pub enum ChangeFault {
     /// U11: a limit leaves no room for one more.
     #[error("there is no place for one more: delete one first")]
     Full,
+    /// U12: the person who asks has no right to the edit, by the records just before it.
+    #[error("you have no right to this change: ask an owner or a master to make it")]
+    NotAllowed,
 }
 
 impl ChangeFault {
@@ -65,6 +68,7 @@ impl ChangeFault {
             ChangeFault::BanExists => "U8",
             ChangeFault::NoSuchBan => "U9",
             ChangeFault::Full => "U11",
+            ChangeFault::NotAllowed => "U12",
         }
     }
 }

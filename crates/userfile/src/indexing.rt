@@ -11,12 +11,12 @@ ghost use Rattle.userfile.specs.declared.user.User.{User as user};
 ghost use Rattle.userfile.specs.Keys.{IsKeyed};
 ghost use Rattle.userfile.specs.Together.{repeats_handle};
 
-use crate::edits::Edit;
 use crate::entries::{edit_user, keep_other_users, push_mask};
 use crate::hostmask::Hostmask;
 use crate::index::{TailIndex, add_listing, keep_masks, listing_of, new_index, remove_user};
 use crate::limits::MAX_HANDLE;
 use crate::user::User;
+use crate::user_edits::UserEdit;
 use bytetext::NoMemory;
 use indexmap::IndexMap;
 use rfccase::ShortFold;
@@ -96,7 +96,7 @@ pub(crate) fn del_host(
     ensures edited { values users.new ≡ with_user handle.now (without_mask mask.now) (values users.old) }
 {
     let place = place_of(users, handle);
-    edit_user(users, handle, Edit::DelMask(mask));
+    edit_user(users, handle, UserEdit::DelMask(mask));
     if let Some(place) = place {
         tidy(users, index, place);
     }

@@ -7,6 +7,10 @@ pub const MAX_USERS: usize = 500;
 /// The most bans that a userfile holds.
 pub const MAX_BANS: usize = 200;
 
+/// The most bans of one channel that persons may add: if the channel has so many, only a change in nobody's name adds
+/// one more.
+pub const MAX_CHANNEL_BANS: usize = 100;
+
 /// The most hostmasks that a user has.
 pub const MAX_MASKS: usize = 16;
 

@@ -1,10 +1,10 @@
-// What a change needs, made in advance, so that making the change does not allocate.
+// What an edit needs, made in advance, so that making the edit does not allocate.
 ghost use Rattle.std.specs.Prelude.{◌≡◌, ◌≢◌, None, true, false, IfOk, IfErr, OnErr};
 ghost use Rattle.std.specs.Map.{values_of};
 ghost use Rattle.bytetext.specs.declared.failure.Failure.TheVariants.{NoMemory as no_memory};
 ghost use Rattle.indexmap.specs.IndexMap.{values};
-ghost use Rattle.userfile.specs.Apply.{refusal, changed, grows, with_channel};
-ghost use Rattle.userfile.specs.Edits.{with_channels};
+ghost use Rattle.userfile.specs.Apply.{edit_refusal, edit_made, edit_grows, with_channel};
+ghost use Rattle.userfile.specs.UserEdits.{with_channels};
 ghost use Rattle.userfile.specs.Held.{with_user};
 ghost use Rattle.userfile.specs.Index.{IsIndexOf};
 ghost use Rattle.userfile.specs.Keys.{IsKeyed, records_of};
@@ -13,25 +13,25 @@ ghost use Rattle.userfile.specs.Together.{repeats_handle};
 
 use crate::ban::Ban;
 use crate::bans::{ban_of, keep_other_bans, set_sticky};
-use crate::change::Change;
 use crate::channel_flags::ChannelEntries;
-use crate::edits::{Edit, hostmask_of};
+use crate::edit::Edit;
 use crate::entries::{add_user, edit_user, find_user};
 use crate::error::ChangeError;
 use crate::index::TailIndex;
 use crate::indexing::{add_host, del_host, del_user};
 use crate::user::User;
+use crate::user_edits::{UserEdit, hostmask_of};
 use bytetext::{NoMemory, Text, TryCopy};
 use flagexpr::Flags;
 use indexmap::IndexMap;
 use std::alloc::Global;
 
-/// What was made in advance for a change, by what the change does.
+/// What was made in advance for a change, by what its edit does.
 #[derive(Drop)]
 pub enum Plan {
-    /// Nothing: the change does not allocate.
+    /// Nothing: the edit does not allocate.
     Later,
-    /// The user, the hostmask or the ban that the change adds. It is among the others already, and removing it again
+    /// The user, the hostmask or the ban that the edit adds. It is among the others already, and removing it again
     /// does not allocate.
     Added,
     /// The channel entries that the user of a handle will have: the handle, and the entries.
@@ -40,35 +40,35 @@ pub enum Plan {
     Info(Text, Text),
 }
 
-// Makes in advance what a change needs; the change isn't refused.
+// Makes in advance what an edit needs; the edit isn't refused.
 pub(crate) fn plan_for(
     users: &mut IndexMap<Vec<u8>, User>,
     index: &mut TailIndex,
     bans: &mut Vec<Ban>,
     alloc: Global,
-    change: &Change,
+    edit: &Edit,
 ) -> Result<Plan, ChangeError>
     requires keyed { IsKeyed users.old.entries }
     requires index { IsIndexOf index.old (values_of users.old.entries) }
-    requires taken { refusal (records_of users.old.entries bans.old.items) change.now ≡ None }
+    requires taken { edit_refusal (records_of users.old.entries bans.old.items) edit.now ≡ None }
     ensures keyed { IsKeyed users.new.entries }
     ensures index { IsIndexOf index.new (values_of users.new.entries) }
-    ensures ready { IfOk result (λ plan. IsPlanFor plan change.now
+    ensures ready { IfOk result (λ plan. IsPlanFor plan edit.now
         (records_of users.old.entries bans.old.items) (records_of users.new.entries bans.new.items)) }
     ensures err { OnErr result (records_of users.new.entries bans.new.items ≡ records_of users.old.entries bans.old.items) }
-    ensures memory { IfErr result (λ e. (e ≡ no_memory) × (grows change.now ≡ true)) }
+    ensures memory { IfErr result (λ e. (e ≡ no_memory) × (edit_grows edit.now ≡ true)) }
 {
-    match change {
-        Change::AddUser { handle } => {
+    match edit {
+        Edit::AddUser { handle } => {
             add_user(users, alloc, handle)?;
             Ok(Plan::Added)
         }
-        Change::AddHost { handle, mask } => {
+        Edit::AddHost { handle, mask } => {
             let mask = hostmask_of(alloc, mask)?;
             add_host(users, index, alloc, handle.as_bytes(), mask)?;
             Ok(Plan::Added)
         }
-        Change::AddBan {
+        Edit::AddBan {
             channel,
             mask,
             creator,
@@ -78,7 +78,7 @@ pub(crate) fn plan_for(
             bans.push(ban_of(alloc, channel, mask, creator, *expires, comment)?)?;
             Ok(Plan::Added)
         }
-        Change::SetChan {
+        Edit::SetChan {
             handle,
             channel,
             flags,
@@ -89,19 +89,19 @@ pub(crate) fn plan_for(
             let entries = entries_with(users, alloc, handle.as_bytes(), channel, *flags)?;
             Ok(Plan::Channels(handle.copy(alloc)?, entries))
         }
-        Change::SetInfo { handle, info } => {
+        Edit::SetInfo { handle, info } => {
             if info.is_empty() {
                 return Ok(Plan::Later);
             }
             let info = info.copy(alloc)?;
             Ok(Plan::Info(handle.copy(alloc)?, info))
         }
-        Change::DelUser { .. } => Ok(Plan::Later),
-        Change::DelHost { .. } => Ok(Plan::Later),
-        Change::SetGlobal { .. } => Ok(Plan::Later),
-        Change::SetBot { .. } => Ok(Plan::Later),
-        Change::DelBan { .. } => Ok(Plan::Later),
-        Change::SetSticky { .. } => Ok(Plan::Later),
+        Edit::DelUser { .. } => Ok(Plan::Later),
+        Edit::DelHost { .. } => Ok(Plan::Later),
+        Edit::SetGlobal { .. } => Ok(Plan::Later),
+        Edit::SetBot { .. } => Ok(Plan::Later),
+        Edit::DelBan { .. } => Ok(Plan::Later),
+        Edit::SetSticky { .. } => Ok(Plan::Later),
     }
 }
 
@@ -124,30 +124,30 @@ fn entries_with(
     }
 }
 
-// Makes a change that does not allocate.
+// Makes an edit that does not allocate.
 pub(crate) fn take_in(
     users: &mut IndexMap<Vec<u8>, User>,
     index: &mut TailIndex,
     bans: &mut Vec<Ban>,
-    change: &Change,
+    edit: &Edit,
 )
     requires keyed { IsKeyed users.old.entries }
     requires apart { repeats_handle (values_of users.old.entries) ≡ false }
     requires index { IsIndexOf index.old (values_of users.old.entries) }
-    requires no_growth { grows change.now ≡ false }
+    requires no_growth { edit_grows edit.now ≡ false }
     ensures keyed { IsKeyed users.new.entries }
     ensures index { IsIndexOf index.new (values_of users.new.entries) }
-    ensures changed { records_of users.new.entries bans.new.items ≡ changed (records_of users.old.entries bans.old.items) change.now }
+    ensures changed { records_of users.new.entries bans.new.items ≡ edit_made (records_of users.old.entries bans.old.items) edit.now }
 {
-    match change {
-        Change::DelUser { handle } => del_user(users, index, handle.as_bytes()),
-        Change::DelHost { handle, mask } => {
+    match edit {
+        Edit::DelUser { handle } => del_user(users, index, handle.as_bytes()),
+        Edit::DelHost { handle, mask } => {
             del_host(users, index, handle.as_bytes(), mask.as_bytes());
         }
-        Change::SetGlobal { handle, flags } => {
-            edit_user(users, handle.as_bytes(), Edit::SetGlobal(*flags));
+        Edit::SetGlobal { handle, flags } => {
+            edit_user(users, handle.as_bytes(), UserEdit::SetGlobal(*flags));
         }
-        Change::SetChan {
+        Edit::SetChan {
             handle,
             channel,
             ..
@@ -155,21 +155,21 @@ pub(crate) fn take_in(
             edit_user(
                 users,
                 handle.as_bytes(),
-                Edit::DelChannel(channel.as_bytes()),
+                UserEdit::DelChannel(channel.as_bytes()),
             );
         }
-        Change::SetBot { handle, flags } => {
-            edit_user(users, handle.as_bytes(), Edit::SetBot(*flags));
+        Edit::SetBot { handle, flags } => {
+            edit_user(users, handle.as_bytes(), UserEdit::SetBot(*flags));
         }
-        Change::DelBan { channel, mask } => {
+        Edit::DelBan { channel, mask } => {
             keep_other_bans(bans, channel.as_bytes(), mask.as_bytes());
         }
         // Only an empty info text does not allocate.
-        Change::SetInfo { handle, .. } => {
+        Edit::SetInfo { handle, .. } => {
             let nothing = Text::empty(*users.allocator());
-            edit_user(users, handle.as_bytes(), Edit::SetInfo(nothing));
+            edit_user(users, handle.as_bytes(), UserEdit::SetInfo(nothing));
         }
-        Change::SetSticky { channel, mask, on } => {
+        Edit::SetSticky { channel, mask, on } => {
             set_sticky(
                 bans.as_mut_slice(),
                 channel.as_bytes(),
@@ -178,43 +178,43 @@ pub(crate) fn take_in(
             );
         }
         // These allocate.
-        Change::AddUser { .. } => {}
-        Change::AddHost { .. } => {}
-        Change::AddBan { .. } => {}
+        Edit::AddUser { .. } => {}
+        Edit::AddHost { .. } => {}
+        Edit::AddBan { .. } => {}
     }
 }
 
-// Removes what a change has added.
+// Removes what an edit has added.
 pub(crate) fn take_back(
     users: &mut IndexMap<Vec<u8>, User>,
     index: &mut TailIndex,
     bans: &mut Vec<Ban>,
-    change: &Change,
+    edit: &Edit,
 )
     requires keyed { IsKeyed users.old.entries }
     requires apart { repeats_handle (values_of users.old.entries) ≡ false }
     requires index { IsIndexOf index.old (values_of users.old.entries) }
-    requires added { adds change.now ≡ true }
+    requires added { adds edit.now ≡ true }
     ensures keyed { IsKeyed users.new.entries }
     ensures index { IsIndexOf index.new (values_of users.new.entries) }
-    ensures changed { records_of users.new.entries bans.new.items ≡ changed (records_of users.old.entries bans.old.items) (taken_back change.now) }
+    ensures changed { records_of users.new.entries bans.new.items ≡ edit_made (records_of users.old.entries bans.old.items) (taken_back edit.now) }
 {
-    match change {
-        Change::AddUser { handle } => del_user(users, index, handle.as_bytes()),
-        Change::AddHost { handle, mask } => {
+    match edit {
+        Edit::AddUser { handle } => del_user(users, index, handle.as_bytes()),
+        Edit::AddHost { handle, mask } => {
             del_host(users, index, handle.as_bytes(), mask.as_bytes());
         }
-        Change::AddBan { channel, mask, .. } => {
+        Edit::AddBan { channel, mask, .. } => {
             keep_other_bans(bans, channel.as_bytes(), mask.as_bytes());
         }
         // These add nothing.
-        Change::DelUser { .. } => {}
-        Change::DelHost { .. } => {}
-        Change::SetGlobal { .. } => {}
-        Change::SetChan { .. } => {}
-        Change::SetBot { .. } => {}
-        Change::DelBan { .. } => {}
-        Change::SetInfo { .. } => {}
-        Change::SetSticky { .. } => {}
+        Edit::DelUser { .. } => {}
+        Edit::DelHost { .. } => {}
+        Edit::SetGlobal { .. } => {}
+        Edit::SetChan { .. } => {}
+        Edit::SetBot { .. } => {}
+        Edit::DelBan { .. } => {}
+        Edit::SetInfo { .. } => {}
+        Edit::SetSticky { .. } => {}
     }
 }

@@ -1,28 +1,47 @@
 // Why a change is refused, whatever the userfile holds.
 ghost use Rattle.std.specs.Prelude.{◌≡◌};
-ghost use Rattle.userfile.specs.Apply.{fault_if, fault_unless, first_of_two, bad_shape};
+ghost use Rattle.userfile.specs.Apply.{fault_if, fault_unless, first_of_two, bad_asker, bad_edit, bad_shape};
+ghost use Rattle.std.specs.Option.{option_copied};
 ghost use Rattle.userfile.specs.Shapes.{is_handle, is_hostmask, is_ban_channel};
 ghost use Rattle.userfile.specs.declared.error.ChangeFault.TheVariants.{BadHandle, BadMask, BadChannel};
 
-use crate::change::Change;
+use crate::change::{Asker, Change};
+use crate::edit::Edit;
 use crate::error::ChangeFault;
-use crate::shapes::{is_ban_channel, is_comment, is_handle, is_hostmask, is_info};
+use crate::shapes::{is_ban_channel, is_comment, is_handle, is_hostmask, is_info, is_person};
 use rfccase::is_channel_name;
 
-/// Returns the refusal of `change` for its own shape, whatever a userfile holds, or `None` if the shape is good. Does
-/// not allocate.
+/// Returns the refusal of `change` for its own shape, whatever a userfile holds, or `None` if the shape is good. The
+/// shape of the person who asks comes first. Does not allocate.
 pub fn shape(change: &Change) -> Option<ChangeFault>
     ensures { result ≡ bad_shape change.now }
 {
-    match change {
-        Change::AddUser { handle }
-        | Change::DelUser { handle }
-        | Change::SetGlobal { handle, .. }
-        | Change::SetBot { handle, .. } => handle_fault(handle.as_bytes()),
-        Change::AddHost { handle, mask } | Change::DelHost { handle, mask } => {
+    first_of_two(asker_fault(change.by.as_ref()), edit_fault(&change.edit))
+}
+
+// The refusal for who asks.
+fn asker_fault(by: Option<&Asker>) -> Option<ChangeFault>
+    ensures { result ≡ bad_asker (option_copied by.entry) }
+{
+    match by {
+        Some(asker) => fault_unless(is_person(asker.person.as_bytes()), ChangeFault::BadMask),
+        None => None,
+    }
+}
+
+// The refusal of an edit for its own shape.
+fn edit_fault(edit: &Edit) -> Option<ChangeFault>
+    ensures { result ≡ bad_edit edit.now }
+{
+    match edit {
+        Edit::AddUser { handle }
+        | Edit::DelUser { handle }
+        | Edit::SetGlobal { handle, .. }
+        | Edit::SetBot { handle, .. } => handle_fault(handle.as_bytes()),
+        Edit::AddHost { handle, mask } | Edit::DelHost { handle, mask } => {
             first_of_two(handle_fault(handle.as_bytes()), mask_fault(mask.as_bytes()))
         }
-        Change::SetChan {
+        Edit::SetChan {
             handle,
             channel,
             ..
@@ -30,7 +49,7 @@ pub fn shape(change: &Change) -> Option<ChangeFault>
             handle_fault(handle.as_bytes()),
             fault_unless(is_channel_name(channel.as_bytes()), ChangeFault::BadChannel),
         ),
-        Change::AddBan {
+        Edit::AddBan {
             channel,
             mask,
             creator,
@@ -43,11 +62,11 @@ pub fn shape(change: &Change) -> Option<ChangeFault>
                 fault_unless(is_comment(comment.as_bytes()), ChangeFault::BadComment),
             ),
         ),
-        Change::SetInfo { handle, info } => first_of_two(
+        Edit::SetInfo { handle, info } => first_of_two(
             handle_fault(handle.as_bytes()),
             fault_unless(is_info(info.as_bytes()), ChangeFault::BadComment),
         ),
-        Change::DelBan { channel, mask } | Change::SetSticky { channel, mask, .. } => {
+        Edit::DelBan { channel, mask } | Edit::SetSticky { channel, mask, .. } => {
             ban_fault(channel.as_bytes(), mask.as_bytes())
         }
     }

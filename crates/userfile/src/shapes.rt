@@ -1,7 +1,7 @@
 // Which texts may stand in a change or a record.
-ghost use Rattle.std.specs.Prelude.{◌≡◌};
-ghost use Rattle.std.specs.List.{list_all};
-ghost use Rattle.userfile.specs.Shapes.{is_handle_byte, is_handle, is_ban_channel, is_hostmask, is_line_byte, is_comment, is_info};
+ghost use Rattle.std.specs.Prelude.{◌≡◌, ◌==◌, ◌&&◌, not};
+ghost use Rattle.std.specs.List.{list_all, list_any};
+ghost use Rattle.userfile.specs.Shapes.{is_handle_byte, is_handle, is_ban_channel, is_hostmask, is_person, is_line_byte, is_comment, is_info};
 
 use crate::limits::{MAX_COMMENT, MAX_HANDLE, MAX_INFO};
 use rfccase::is_channel_name;
@@ -41,6 +41,27 @@ pub fn is_hostmask(bytes: &[u8]) -> bool
     ensures { result ≡ is_hostmask bytes.now }
 {
     host_fault(bytes).is_none()
+}
+
+/// Returns whether `bytes` are a person, written as `nick!user@host`: a hostmask with a `!` and without the wildcards
+/// `*` and `?`.
+#[tactic(auto, unfolding(crate::specs::Shapes::is_person))]
+pub fn is_person(bytes: &[u8]) -> bool
+    ensures { result ≡ is_person bytes.now }
+{
+    is_hostmask(bytes) && has_exclamation_mark(bytes) && has_no_wildcard(bytes)
+}
+
+fn has_exclamation_mark(bytes: &[u8]) -> bool
+    ensures { result ≡ list_any (λ b. b == 33) bytes.now }
+{
+    bytes.iter().any(|byte| *byte == b'!')
+}
+
+fn has_no_wildcard(bytes: &[u8]) -> bool
+    ensures { result ≡ list_all (λ b. not (b == 42) && not (b == 63)) bytes.now }
+{
+    bytes.iter().all(|byte| *byte != b'*' && *byte != b'?')
 }
 
 /// Returns whether `bytes` may be a ban's comment: at most 100 bytes, none of them NUL, CR or LF.

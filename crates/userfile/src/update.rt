@@ -60,7 +60,7 @@ impl Update<'_, '_, Plan> {
             change,
             plan,
         } = self;
-        userfile.settle(change, plan);
+        userfile.settle(&change.edit, plan);
     }
 
     /// Rolls the change back: the records are as they were before [`ready`](Userfile::ready). Does not allocate. To
@@ -75,7 +75,7 @@ impl Update<'_, '_, Plan> {
             change,
             plan,
         } = self;
-        userfile.take_back(change, plan);
+        userfile.take_back(&change.edit, plan);
     }
 }
 
@@ -87,5 +87,5 @@ fn make(userfile: &mut Userfile, alloc: Global, change: &Change) -> Result<Plan,
     ensures err { OnErr result (userfile.new ≡ userfile.old) }
 {
     refuse(userfile.refusal_of(change))?;
-    userfile.plan(alloc, change)
+    userfile.plan(alloc, &change.edit)
 }

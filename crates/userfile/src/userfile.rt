@@ -1,8 +1,8 @@
 // The userfile.
 use crate::ban::Ban;
-use crate::bans::has_ban;
-use crate::change::Change;
-use crate::edits::{Edit, add_mask_fault, del_mask_fault, set_channel_fault};
+use crate::bans::{has_ban, has_ban_room};
+use crate::change::{Asker, Change};
+use crate::edit::Edit;
 use crate::entries::{edit_user, find_user};
 use crate::error::{ChangeError, ChangeFault};
 use crate::flags::PersonFlags;
@@ -13,8 +13,10 @@ use crate::limits::{MAX_BANS, MAX_USERS};
 use crate::persons::user_for;
 use crate::plan::{Plan, plan_for, take_back, take_in};
 use crate::refusals::{fault_if, fault_unless, first_of_two, shape};
+use crate::rights::{may_ask, one_owns_beside};
 use crate::together::records_fault;
 use crate::user::User;
+use crate::user_edits::{UserEdit, add_mask_fault, del_mask_fault, set_channel_fault};
 use bytetext::{NoMemory, TryCopy, copies_of, refuse};
 use indexmap::IndexMap;
 use rfccase::Casemapping;
@@ -47,11 +49,12 @@ impl Model for Userfile {
 
 impl Userfile {
     ghost use Rattle.std.specs.Prelude.{◌≡◌, ◌<◌, true, None, Err, IsTrue, IfOk, IfErr, OnErr, length, slice_get};
-    ghost use Rattle.std.specs.List.{list_all};
+    ghost use Rattle.std.specs.List.{list_all, list_any};
     ghost use Rattle.std.specs.Option.{option_copied};
     ghost use Rattle.userfile.specs.Together.{is_user, is_good_ban, AreSound, Gathers};
     ghost use Rattle.userfile.specs.Records.{no_records};
-    ghost use Rattle.userfile.specs.Apply.{Applies, refusal, not_taken, grows};
+    ghost use Rattle.userfile.specs.Apply.{Applies, edit_grows, edit_refusal, grows, is_within_share, not_allowed, not_taken, refusal};
+    ghost use Rattle.userfile.specs.Rights.{may, owns_beside};
     ghost use Rattle.userfile.specs.Plans.{IsPlanFor, Suits, before, after};
     ghost use Rattle.bytetext.specs.declared.failure.Failure.TheVariants.{NoMemory as no_memory};
     ghost use Rattle.userfile.specs.Held.{user_of};
@@ -213,38 +216,106 @@ impl Userfile {
     {
         match shape(change) {
             Some(fault) => Some(fault),
-            None => self.not_taken(change),
+            None => self.not_allowed(change),
         }
     }
 
     // Why a change of good shape is refused.
-    fn not_taken(&self, change: &Change) -> Option<ChangeFault>
-        ensures { result ≡ not_taken self.now change.now }
+    fn not_allowed(&self, change: &Change) -> Option<ChangeFault>
+        ensures { result ≡ not_allowed self.now change.now }
     {
-        match change {
-            Change::AddUser { handle } => first_of_two(
+        match &change.by {
+            Some(asker) => first_of_two(
+                fault_unless(self.may(asker, &change.edit), ChangeFault::NotAllowed),
+                first_of_two(
+                    self.not_taken(&change.edit),
+                    fault_unless(self.has_share(&change.edit), ChangeFault::Full),
+                ),
+            ),
+            None => self.not_taken(&change.edit),
+        }
+    }
+
+    /// Returns whether the person `asker` has the right to `edit`, by the users that the userfile holds now. It says
+    /// nothing about the edit's shape, and nothing about what else the userfile holds:
+    /// [`refusal_of`](Userfile::refusal_of) does. Does not allocate.
+    ///
+    /// | Edit | Who has the right |
+    /// |---|---|
+    /// | `AddUser`, `DelUser`, `AddHost`, `DelHost`, `SetChan`, `SetBot` | `m` or `n`; `n` if the user has `m` or `n` |
+    /// | `SetGlobal` | the same; `n` also if the new flags have `m` or `n` |
+    /// | `AddBan`, `DelBan` | `o`, `m` or `n`, everywhere or on the ban's channel |
+    /// | `SetSticky` | `m` or `n` |
+    /// | `SetInfo` | the user with the handle |
+    ///
+    /// Flags are those that a user has everywhere, except where the table says more. Nobody has the right to delete
+    /// the only user with `n`, or to take `n` from that user.
+    pub fn may(&self, asker: &Asker, edit: &Edit) -> bool
+        ensures { result ≡ may self.now.users asker.now edit.now }
+    {
+        let user = user_for(
+            asker.casemapping,
+            &self.users,
+            &self.index,
+            asker.person.as_bytes(),
+        );
+        may_ask(self, user, edit)
+    }
+
+    // Whether a user with another handle is an owner.
+    pub(crate) fn has_owner_beside(&self, handle: &[u8]) -> bool
+        ensures { result ≡ list_any (owns_beside handle.now) self.now.users }
+    {
+        one_owns_beside(&self.users, handle)
+    }
+
+    // Whether an edit leaves persons within their share of a limit.
+    fn has_share(&self, edit: &Edit) -> bool
+        ensures { result ≡ is_within_share self.now.bans edit.now }
+    {
+        match edit {
+            Edit::AddBan { channel, .. } => has_ban_room(channel.as_bytes(), self.bans.as_slice()),
+            Edit::AddUser { .. }
+            | Edit::DelUser { .. }
+            | Edit::AddHost { .. }
+            | Edit::DelHost { .. }
+            | Edit::SetGlobal { .. }
+            | Edit::SetChan { .. }
+            | Edit::SetBot { .. }
+            | Edit::DelBan { .. }
+            | Edit::SetInfo { .. }
+            | Edit::SetSticky { .. } => true,
+        }
+    }
+
+    // Why an edit of good shape is refused, whoever asks.
+    fn not_taken(&self, edit: &Edit) -> Option<ChangeFault>
+        ensures { result ≡ not_taken self.now edit.now }
+    {
+        match edit {
+            Edit::AddUser { handle } => first_of_two(
                 fault_if(
                     self.user(handle.as_bytes()).is_some(),
                     ChangeFault::UserExists,
                 ),
                 fault_unless(self.users.len() < MAX_USERS, ChangeFault::Full),
             ),
-            Change::DelUser { handle }
-            | Change::SetGlobal { handle, .. }
-            | Change::SetBot { handle, .. }
-            | Change::SetInfo { handle, .. } => fault_unless(
+            Edit::DelUser { handle }
+            | Edit::SetGlobal { handle, .. }
+            | Edit::SetBot { handle, .. }
+            | Edit::SetInfo { handle, .. } => fault_unless(
                 self.user(handle.as_bytes()).is_some(),
                 ChangeFault::NoSuchUser,
             ),
-            Change::AddHost { handle, mask } => match self.user(handle.as_bytes()) {
+            Edit::AddHost { handle, mask } => match self.user(handle.as_bytes()) {
                 Some(user) => add_mask_fault(mask.as_bytes(), user),
                 None => Some(ChangeFault::NoSuchUser),
             },
-            Change::DelHost { handle, mask } => match self.user(handle.as_bytes()) {
+            Edit::DelHost { handle, mask } => match self.user(handle.as_bytes()) {
                 Some(user) => del_mask_fault(mask.as_bytes(), user),
                 None => Some(ChangeFault::NoSuchUser),
             },
-            Change::SetChan {
+            Edit::SetChan {
                 handle,
                 channel,
                 flags,
@@ -252,18 +323,17 @@ impl Userfile {
                 Some(user) => set_channel_fault(channel.as_bytes(), *flags, user),
                 None => Some(ChangeFault::NoSuchUser),
             },
-            Change::AddBan { channel, mask, .. } => first_of_two(
+            Edit::AddBan { channel, mask, .. } => first_of_two(
                 fault_if(
                     has_ban(self.bans.as_slice(), channel.as_bytes(), mask.as_bytes()),
                     ChangeFault::BanExists,
                 ),
                 fault_unless(self.bans.len() < MAX_BANS, ChangeFault::Full),
             ),
-            Change::DelBan { channel, mask } | Change::SetSticky { channel, mask, .. } =>
-                fault_unless(
-                    has_ban(self.bans.as_slice(), channel.as_bytes(), mask.as_bytes()),
-                    ChangeFault::NoSuchBan,
-                ),
+            Edit::DelBan { channel, mask } | Edit::SetSticky { channel, mask, .. } => fault_unless(
+                has_ban(self.bans.as_slice(), channel.as_bytes(), mask.as_bytes()),
+                ChangeFault::NoSuchBan,
+            ),
         }
     }
 
@@ -280,51 +350,51 @@ impl Userfile {
         Ok(())
     }
 
-    // Makes in advance what a change needs; the change isn't refused.
-    pub(crate) fn plan(&mut self, alloc: Global, change: &Change) -> Result<Plan, ChangeError>
-        requires { refusal self.old change.now ≡ None }
-        ensures ready { IfOk result (λ plan. IsPlanFor plan change.now self.old self.new) }
+    // Makes in advance what an edit needs; the edit isn't refused.
+    pub(crate) fn plan(&mut self, alloc: Global, edit: &Edit) -> Result<Plan, ChangeError>
+        requires { edit_refusal self.old edit.now ≡ None }
+        ensures ready { IfOk result (λ plan. IsPlanFor plan edit.now self.old self.new) }
         ensures err { OnErr result (self.new ≡ self.old) }
-        ensures memory { IfErr result (λ e. (e ≡ no_memory) × (grows change.now ≡ true)) }
+        ensures memory { IfErr result (λ e. (e ≡ no_memory) × (edit_grows edit.now ≡ true)) }
     {
         plan_for(
             &mut self.users,
             &mut self.index,
             &mut self.bans,
             alloc,
-            change,
+            edit,
         )
     }
 
-    // Makes a change for which this plan was made.
-    pub(crate) fn settle(&mut self, change: &Change, plan: Plan)
-        requires { Suits plan change.now self.old }
-        ensures { self.new ≡ after plan change.now self.old }
+    // Makes an edit for which this plan was made.
+    pub(crate) fn settle(&mut self, edit: &Edit, plan: Plan)
+        requires { Suits plan edit.now self.old }
+        ensures { self.new ≡ after plan edit.now self.old }
     {
         match plan {
-            Plan::Later => take_in(&mut self.users, &mut self.index, &mut self.bans, change),
+            Plan::Later => take_in(&mut self.users, &mut self.index, &mut self.bans, edit),
             Plan::Added => {}
             Plan::Channels(handle, entries) => {
                 edit_user(
                     &mut self.users,
                     handle.as_bytes(),
-                    Edit::SetChannels(entries),
+                    UserEdit::SetChannels(entries),
                 );
             }
             Plan::Info(handle, info) => {
-                edit_user(&mut self.users, handle.as_bytes(), Edit::SetInfo(info));
+                edit_user(&mut self.users, handle.as_bytes(), UserEdit::SetInfo(info));
             }
         }
     }
 
-    // Removes what this plan has added for a change.
-    pub(crate) fn take_back(&mut self, change: &Change, plan: Plan)
-        requires { Suits plan change.now self.old }
-        ensures { self.new ≡ before plan change.now self.old }
+    // Removes what this plan has added for an edit.
+    pub(crate) fn take_back(&mut self, edit: &Edit, plan: Plan)
+        requires { Suits plan edit.now self.old }
+        ensures { self.new ≡ before plan edit.now self.old }
     {
         match plan {
             Plan::Later => {}
-            Plan::Added => take_back(&mut self.users, &mut self.index, &mut self.bans, change),
+            Plan::Added => take_back(&mut self.users, &mut self.index, &mut self.bans, edit),
             Plan::Channels(_, _) => {}
             Plan::Info(_, _) => {}
         }

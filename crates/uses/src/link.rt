@@ -6,7 +6,7 @@ use bytetext::Text;
 use disks::MemDisk;
 use sharelink::BotLink;
 use std::alloc::Global;
-use userfile::Change;
+use userfile::{Change, Edit};
 
 /// Returns the versions of a hub and of its leaf after a change that the hub accepts and sends to the leaf.
 pub fn share(alloc: Global) -> Result<(u32, u32), Error> {
@@ -22,7 +22,7 @@ fn told(
     leaf: &mut BotLink<MemDisk>,
 ) -> Result<(u32, u32), Error> {
     let handle = Text::from_slice(alloc, b"alice")?;
-    hub.ask(alloc, Change::AddUser { handle })?;
+    hub.ask(alloc, Change::by_nobody(Edit::AddUser { handle }))?;
     let answer = hub.pump(alloc)?;
     if let Some(outgoing) = answer.packets.as_slice().first() {
         leaf.receive(alloc, &outgoing.packet)?;

@@ -3,7 +3,7 @@ use anyhow::Error;
 use bytetext::Text;
 use rfccase::Casemapping;
 use std::alloc::Global;
-use userfile::{Change, Userfile};
+use userfile::{Change, Edit, Userfile};
 
 /// Returns the length of the handle of somebody who writes from a host, by the hostmask that decides, on a server that
 /// compares names as RFC 1459 does.
@@ -22,13 +22,13 @@ fn add_both(alloc: Global, userfile: &mut Userfile) -> Result<(), Error> {
 
 // Adds a user with one hostmask.
 fn add(alloc: Global, userfile: &mut Userfile, handle: &[u8], mask: &[u8]) -> Result<(), Error> {
-    let user = Change::AddUser {
+    let user = Change::by_nobody(Edit::AddUser {
         handle: Text::from_slice(alloc, handle)?,
-    };
+    });
     userfile.apply(alloc, &user)?;
-    let host = Change::AddHost {
+    let host = Change::by_nobody(Edit::AddHost {
         handle: Text::from_slice(alloc, handle)?,
         mask: Text::from_slice(alloc, mask)?,
-    };
+    });
     Ok(userfile.apply(alloc, &host)?)
 }

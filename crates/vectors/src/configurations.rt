@@ -2,7 +2,9 @@
 use bottimers::{Zone, civil, time_args};
 use bytetext::{Failure, NoMemory, Text};
 use caselines::{BAD_NUMBER, BAD_WORDS, CaseError, Sink, number};
-use settings::{Address, BindLine, ChannelSetting, LeafLine, PageSetting, Server, Settings};
+use settings::{
+    Address, BindLine, ChannelSetting, LeafLine, LeafRule, PageSetting, Server, Settings,
+};
 use std::alloc::Global;
 use tunnels::stunnel_text;
 
@@ -90,8 +92,8 @@ fn put_settings(alloc: Global, settings: &Settings, out: &mut Sink) -> Result<()
     }
     put_address(b" ; hub", settings.hub.as_ref(), out);
     put_address(b" ; listen", settings.listen.as_ref(), out);
-    for line in settings.reads.as_slice() {
-        put_reader(line, out);
+    for line in settings.limits.as_slice() {
+        put_limit(line, out);
     }
     put_rest(alloc, settings, out)
 }
@@ -187,10 +189,13 @@ fn put_channel(channel: &ChannelSetting, out: &mut Sink) {
     }
 }
 
-fn put_reader(line: &LeafLine, out: &mut Sink) {
+fn put_limit(line: &LeafLine, out: &mut Sink) {
     out.put(b" ; leaf ");
     out.number(u64::from(line.leaf));
-    out.put(b" reads");
+    out.put(match line.rule {
+        LeafRule::Reads => b" reads".as_slice(),
+        LeafRule::Persons => b" persons".as_slice(),
+    });
 }
 
 fn put_page(page: &PageSetting, out: &mut Sink) {

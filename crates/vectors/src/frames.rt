@@ -169,7 +169,7 @@ fn text_of(alloc: Global, word: &Text) -> Result<Text, CaseError>
     }
 }
 
-const FAULTS: [ChangeFault; 11] = [
+const FAULTS: [ChangeFault; 12] = [
     ChangeFault::BadHandle,
     ChangeFault::UserExists,
     ChangeFault::NoSuchUser,
@@ -181,6 +181,7 @@ const FAULTS: [ChangeFault; 11] = [
     ChangeFault::NoSuchBan,
     ChangeFault::BadComment,
     ChangeFault::Full,
+    ChangeFault::NotAllowed,
 ];
 
 fn fault_of(code: &[u8]) -> Result<ChangeFault, CaseError> {

@@ -154,6 +154,7 @@ fn show_answer(answer: &HubAnswer, out: &mut Sink) {
     out.put(match answer.may {
         LeafRights::Asks => b" asks".as_slice(),
         LeafRights::Reads => b" reads".as_slice(),
+        LeafRights::Persons => b" persons".as_slice(),
     });
 }
 
@@ -232,6 +233,7 @@ fn rights_of(word: &Text) -> Result<LeafRights, CaseError> {
     match word.as_bytes() {
         b"asks" => Ok(LeafRights::Asks),
         b"reads" => Ok(LeafRights::Reads),
+        b"persons" => Ok(LeafRights::Persons),
         _ => Err(BAD_WORDS),
     }
 }

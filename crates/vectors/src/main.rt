@@ -129,7 +129,7 @@
 //! A hub or a leaf hears all bytes that came and were not used so far. The answers, with ` ; ` between, are `more`, why
 //! it refuses, or how many of the bytes its line `used`, and what it `says`. The NET `-` is that of a leaf that keeps no
 //! net. In `judge` the place of the leaf's folder in the hub's book is `free`, `same`, `taken` or `barred`, and the MAY
-//! of the leaf is `asks` or `reads`. Of a key the code of the empty text is shown. In a HEARD, in the BYTES of a secret
+//! of the leaf is `asks`, `reads` or `persons`. Of a key the code of the empty text is shown. In a HEARD, in the BYTES of a secret
 //! and in the LINES of a book each `/` stands for a line feed.
 //!
 //! `register` is a registration with the account NAME, `-` for none. ALLOWED has a letter for each mechanism that is

@@ -1,6 +1,6 @@
 -- A mask as it was given, why a text is not a mask, and what making one returns.
-use Rattle.std.specs.Prelude.{◌≡◌, ℕ, Bool, ◌==◌, ◌&&◌, ◌||◌, nat_lt, if◌then◌else◌, List, length, Option, Some, None, Result, Ok, Err, codes}
-use Rattle.std.specs.List.{list_all, list_any, after_first}
+use Rattle.std.specs.Prelude.{◌≡◌, ℕ, Bool, ◌==◌, ◌&&◌, ◌||◌, nat_lt, not, if◌then◌else◌, List, length, drop, Option, Some, None, Result, Ok, Err, codes}
+use Rattle.std.specs.List.{list_all, list_any, after_first, starts_with}
 use Rattle.wildmask.specs.declared.items.MaskKind.{MaskKind}
 use Rattle.wildmask.specs.declared.items.MaskKind.TheVariants.{Bind, Host}
 use Rattle.wildmask.specs.declared.faults.MaskFault.{MaskFault}
@@ -47,9 +47,21 @@ is_match mask text = is_match_by Rfc1459 mask text
 
 -- ---- why a text is not a mask
 
--- each byte is above 32, and an @ follows the first !
+-- nick!user@host: each byte is above 32, and an @ follows the first !
+abbrev pub is_person_mask : List ℕ → Bool
+is_person_mask text = list_all (λ b. nat_lt 32 b) text && list_any (λ b. b == 64) (after_first (λ b. b == 33) text)
+
+-- a byte of an account's name in a mask: above 32, and none of ! @ * ?
+abbrev pub is_account_byte : ℕ → Bool
+is_account_byte b = nat_lt 32 b && not (b == 33 || b == 64 || b == 42 || b == 63)
+
+-- $a:NAME, the account NAME of the IRC network, as some servers write it; no nick!user@host is one
+abbrev pub is_account_mask : List ℕ → Bool
+is_account_mask text =
+    starts_with (λ a b. a == b) text (codes "$a:") && nat_lt 3 (length text) && list_all is_account_byte (drop 3 text)
+
 abbrev pub is_hostmask : List ℕ → Bool
-is_hostmask text = list_all (λ b. nat_lt 32 b) text && list_any (λ b. b == 64) (after_first (λ b. b == 33) text)
+is_hostmask text = is_person_mask text || is_account_mask text
 
 -- the first fault of a mask's text: it is empty, it has more than 120 bytes, or it should be a hostmask and is not one
 -- (our own choice; Eggdrop cuts a long mask)

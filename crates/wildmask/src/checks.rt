@@ -1,7 +1,7 @@
 // Which texts are masks.
 ghost use Rattle.std.specs.Prelude.{◌≡◌, ◌==◌, nat_lt, position};
 ghost use Rattle.std.specs.List.{list_all};
-ghost use Rattle.wildmask.specs.Masks.{fault_of, bind_fault, host_fault, is_hostmask};
+ghost use Rattle.wildmask.specs.Masks.{fault_of, bind_fault, host_fault, is_hostmask, is_person_mask, is_account_mask, is_account_byte};
 
 use crate::faults::MaskFault;
 use crate::items::MaskKind;
@@ -39,9 +39,15 @@ pub fn fault_of(kind: MaskKind, text: &[u8]) -> Option<MaskFault>
     }
 }
 
-// Whether each byte is above the space, and an `@` follows the first `!`.
 fn is_hostmask(text: &[u8]) -> bool
     ensures { result ≡ is_hostmask text.now }
+{
+    is_person_mask(text) || is_account_mask(text)
+}
+
+// Whether each byte is above the space, and an `@` follows the first `!`.
+fn is_person_mask(text: &[u8]) -> bool
+    ensures { result ≡ is_person_mask text.now }
 {
     let Some(bang) = first_bang(text) else {
         return false;
@@ -58,6 +64,25 @@ fn is_printable(text: &[u8]) -> bool
         good &= *byte > b' ';
     }
     good
+}
+
+// Whether the text is `$a:` and the name of an account, in which no byte has a meaning of its own.
+fn is_account_mask(text: &[u8]) -> bool
+    ensures { result ≡ is_account_mask text.now }
+{
+    text.starts_with(b"$a:") && text.len() > 3 && are_account_bytes(&text[3..])
+}
+
+fn are_account_bytes(name: &[u8]) -> bool
+    ensures { result ≡ list_all is_account_byte name.now }
+{
+    name.iter().all(|byte| is_account_byte(*byte))
+}
+
+fn is_account_byte(byte: u8) -> bool
+    ensures { result ≡ is_account_byte byte }
+{
+    byte > b' ' && !matches!(byte, b'!' | b'@' | b'*' | b'?')
 }
 
 fn first_bang(text: &[u8]) -> Option<usize>

@@ -14,8 +14,8 @@ pub enum MaskFault {
     /// M1: the text has more than 120 bytes.
     #[error("the mask is too long: write at most 120 bytes")]
     MaskTooLong,
-    /// M3: no `@` follows the first `!`, or a byte is a space or a control byte.
-    #[error("not a hostmask: write it as nick!user@host, without spaces or control bytes")]
+    /// M3: the text is neither `nick!user@host` nor `$a:account`, or a byte is a space or a control byte.
+    #[error("not a hostmask: write it as nick!user@host or $a:account, without spaces or control bytes")]
     NotAHostmask,
 }
 

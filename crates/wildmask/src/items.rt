@@ -35,6 +35,8 @@ pub fn next_item(kind: MaskKind, mask: &[u8]) -> Option<(Item, &[u8])>
 {
     match mask {
         [] => None,
+        // Most bytes are plain, so they are told first.
+        [byte, rest @ ..] if !is_special(*byte) => Some((Item::Literal(*byte), rest)),
         [b'\\', escaped, rest @ ..] if is_special(*escaped) => Some((
             Item::Literal(*escaped),
             rest,

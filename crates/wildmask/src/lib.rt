@@ -15,7 +15,9 @@
 //! RFC 2812 section 2.2 ([`Mask::matches`]), or those of a server's casemapping ([`Mask::matches_by`]); what matches by
 //! a server's matches by RFC 2812 too. The wildcards are Eggdrop's (its Tcl commands document, "bind"); the escape is
 //! this crate's own. [`Mask::bind`] and [`Mask::host`] make a [`Mask`], and reject a text that is not a mask.
-//! [`bind_fault`] and [`host_fault`] return the reason without allocating.
+//! [`bind_fault`] and [`host_fault`] return the reason without allocating. A hostmask is a mask of texts
+//! `nick!user@host`, or `$a:NAME`: the account `NAME` of the IRC network, as some servers write it, which matches none
+//! of those texts.
 //!
 //! ```text
 //! let mask = Mask::host(alloc, b"*!bo?@*.net")?;

@@ -68,11 +68,13 @@ impl Mask {
     }
 
     /// Creates a hostmask from `text`, to match texts `nick!user@host`: as [`Mask::bind`], but `%` and `~` are
-    /// literals.
+    /// literals. The text may also be `$a:NAME`, the account `NAME` of the IRC network, where no byte of `NAME` is one
+    /// of `! @ * ?`. Such a mask matches by the same rule, so it matches no `nick!user@host`.
     ///
     /// # Errors
-    /// M2 if the text is empty; then M1 if it has more than 120 bytes; then M3 if no `@` follows the first `!`, or a
-    /// byte is a space or below; then `NoMemory` if a copy of the text cannot be allocated.
+    /// M2 if the text is empty; then M1 if it has more than 120 bytes; then M3 if a byte is a space or below, or the text
+    /// has neither an `@` after its first `!` nor the form `$a:NAME`; then `NoMemory` if a copy of the text cannot be
+    /// allocated.
     pub fn host(alloc: Global, text: &[u8]) -> Result<Mask, MaskError>
         ensures { Makes Host text.now result }
     {
@@ -112,9 +114,9 @@ impl Mask {
     }
 
     /// Returns whether the mask matches all of `text`, by a server's casemapping, and adds one to `count` for each
-    /// comparison of an item with a byte. It compares the literals at the end first, from the last one backwards, and then moves a set of places
-    /// among the other items over the text once. So a mask of `m` items and a text of `n` bytes take at most
-    /// `(m + 1) * (n + 1)` comparisons.
+    /// comparison of an item with a byte. It compares the literals at the end first, from the last one backwards, and then
+    /// moves a set of places among the other items over the text once. So a mask of `m` items and a text of `n` bytes
+    /// take at most `(m + 1) * (n + 1)` comparisons.
     pub fn matches_counted(&self, mapping: Casemapping, text: &[u8], count: &mut Count) -> bool
         ensures matches { IsTrue result ↔ IsMatchBy mapping self.now text.now }
         ensures test { result ≡ is_match_by mapping self.now text.now }

@@ -20,3 +20,9 @@ returns-in-Third c =
     rw c.in-Third.is
     (some_found _ (alone record_at) c.args.count c.args.reader.now c.records-in-Third.result c.records-in-Third.ensures.value
     c.records-in-Third.ensures.memory)
+
+pub returns-in-Fourth : goal.returns-in-Fourth
+returns-in-Fourth c =
+    rw c.in-Fourth.is
+    (some_found _ (alone record_at) c.args.count c.args.reader.now c.records-in-Fourth.result c.records-in-Fourth.ensures.value
+    c.records-in-Fourth.ensures.memory)

@@ -14,5 +14,5 @@ returns c =
     let few : nat_le c.in_ok-count.count WINDOW ≡ true = grind (arith, nat_tests, c.if-count-gt-WINDOW.false) in
     rw c.in_ok-count.ensures.value
     (rw few
-    (some_found _ (alone request_at) c.in_ok-count.count c.byte.new.self c.so_many_requests.result c.so_many_requests.ensures.value
+    (some_found _ (alone (request_at c.args.layout)) c.in_ok-count.count c.byte.new.self c.so_many_requests.result c.so_many_requests.ensures.value
     c.so_many_requests.ensures.memory))

@@ -5,5 +5,5 @@ use Rattle.botjournal.proofs.requests.so_many_requests.Given as goal
 
 -- those so far and those that are left are all of them
 abbrev pub invariant-loop : goal.invariant-loop
-invariant-loop l = items_at (λ held bytes. request_at bytes) (l.count - l.counter) l.requests.items l.reader
-    ≡ items_at (λ held bytes. request_at bytes) l.count [] l.fn.reader
+invariant-loop l = items_at (λ held bytes. request_at l.layout bytes) (l.count - l.counter) l.requests.items l.reader
+    ≡ items_at (λ held bytes. request_at l.layout bytes) l.count [] l.fn.reader

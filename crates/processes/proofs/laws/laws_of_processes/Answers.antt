@@ -1,4 +1,5 @@
 use Rattle.protocol.specs.History.{start}
+use Rattle.protocol.proofs.Rights.{rights}
 use Rattle.processes.proofs.Running.{stands_at_version, run_goes, first_stands, run_same_records, run_never_back, stands_once}
 use Rattle.processes.proofs.Running.{run_begins_anew}
 use Rattle.processes.proofs.Calling.{run_same_calls, run_same_calls_ignoring_channels}
@@ -16,6 +17,18 @@ returns-clause-goes g c = λ w h deeds st run. (run_goes g.P.Promise.promised w 
 
 pub returns-clause-at_version : goal.returns-clause-at_version
 returns-clause-at_version g c = stands_at_version
+
+pub returns-clause-allowed : goal.returns-clause-allowed
+returns-clause-allowed g c = λ w h st. (rights h st.moment.sound).allowed
+
+pub returns-clause-ranks : goal.returns-clause-ranks
+returns-clause-ranks g c = λ w h st. (rights h st.moment.sound).ranks
+
+pub returns-clause-nobody_climbs : goal.returns-clause-nobody_climbs
+returns-clause-nobody_climbs g c = λ w h st. (rights h st.moment.sound).nobody_climbs
+
+pub returns-clause-nobody_becomes_owner : goal.returns-clause-nobody_becomes_owner
+returns-clause-nobody_becomes_owner g c = λ w h st. (rights h st.moment.sound).nobody_becomes_owner
 
 pub returns-clause-same_records : goal.returns-clause-same_records
 returns-clause-same_records g c = λ count w first more is run. run_same_records g.P.Promise.promised

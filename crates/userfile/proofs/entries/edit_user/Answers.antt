@@ -1,11 +1,11 @@
 use Rattle.std.proofs.Common.{◌∙◌, ap, sym, subst}
 use Rattle.std.specs.Map.{values_of, set_value}
 use Rattle.indexmap.specs.IndexMap.{values}
-use Rattle.userfile.specs.Edits.{edited}
+use Rattle.userfile.specs.UserEdits.{edited}
 use Rattle.userfile.specs.Index.{IsIndexOf}
 use Rattle.userfile.specs.Keys.{IsKeyed}
 use Rattle.userfile.proofs.EntryLemmas.{has_key, lookup-user_of, user_of-long, with_user-absent, IsKeyed-set_value, values_of-set_value}
-use Rattle.userfile.proofs.EditLemmas.{handle-edited}
+use Rattle.userfile.proofs.UserEditLemmas.{handle-edited}
 use Rattle.userfile.proofs.NameLemmas.{edited_same}
 use Rattle.userfile.specs.declared.user.User.{User}
 use Rattle.userfile.proofs.entries.edit_user.Goals as goal

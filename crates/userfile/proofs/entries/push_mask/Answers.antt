@@ -6,7 +6,7 @@ use Rattle.indexmap.specs.IndexMap.{values}
 use Rattle.userfile.specs.Apply.{with_mask}
 use Rattle.userfile.specs.Keys.{IsKeyed}
 use Rattle.userfile.proofs.EntryLemmas.{has_key, lookup-user_of, user_of-long, with_user-absent, IsKeyed-set_value, values_of-set_value}
-use Rattle.userfile.proofs.EditLemmas.{handle-with_mask}
+use Rattle.userfile.proofs.UserEditLemmas.{handle-with_mask}
 use Rattle.userfile.proofs.entries.push_mask.Goals as goal
 
 pub returns-in-Some-get_mut-clause-keyed : goal.returns-in-Some-get_mut-clause-keyed

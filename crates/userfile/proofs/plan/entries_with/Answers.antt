@@ -2,7 +2,7 @@ use Rattle.std.proofs.Common.{◌≡◌, Some, None, ◌∙◌, ap, sym}
 use Rattle.std.proofs.lemmas.Result.{IfOk-weaker}
 use Rattle.indexmap.specs.IndexMap.{values}
 use Rattle.userfile.specs.Apply.{with_channel}
-use Rattle.userfile.specs.Edits.{with_channels}
+use Rattle.userfile.specs.UserEdits.{with_channels}
 use Rattle.userfile.specs.Held.{user_of}
 use Rattle.userfile.proofs.EntryLemmas.{with_user-like, with_user-absent}
 use Rattle.userfile.proofs.plan.entries_with.Goals as goal

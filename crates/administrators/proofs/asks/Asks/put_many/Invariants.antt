@@ -1,5 +1,5 @@
 use Rattle.std.proofs.Common.{◌≡◌, ◌++◌, replicate}
-use Rattle.administrators.specs.declared.asks.Asker.TheVariants.{Nobody}
+use Rattle.administrators.specs.declared.asks.Recipient.TheVariants.{Nobody}
 use Rattle.administrators.proofs.asks.Asks.put_many.Given as goal
 
 -- so many are put

@@ -38,7 +38,7 @@ returns-clause-ok g c =
     let raw = sym c.has_raw_one.ensures ∙ c.if-has_raw_one.false in
     let known = ap (λ (b : Bot). b.welcomed) c.self.view_is in
     left_line old c.args.message.now calls c.carry_out.new.self c.put_own.new.self c.take_in.new.self c.put_timers.new.self
-    c.in_ok-timers.field-0.timers c.in_ok-wishes.wishes.items c.self.inside.welcomed raw c.in_ok-wishes.ensures.lines known
+    c.in_ok-timers.field-0.timers c.in_ok-wishes.wishes.items c.manner_of-manner.result c.self.inside.welcomed c.manner_of-manner.ensures raw c.in_ok-wishes.ensures.lines known
     c.in_ok-timers.ensures.timers c.in_ok-timers.ensures.ok c.in_ok-put_own.ensures.queues c.in_ok-take_in.ensures.ok c.put_timers.ensures
 
 pub returns-clause-faults : goal.returns-clause-faults
@@ -48,5 +48,5 @@ returns-clause-faults g c =
     let raw = sym c.has_raw_one.ensures ∙ c.if-has_raw_one.false in
     let known = ap (λ (b : Bot). b.welcomed) c.self.view_is in
     left_faults old c.args.message.now calls c.carry_out.new.self (faults_of (acting_of old) calls c.args.unbound.items)
-    c.in_ok-timers.field-0.faults c.put_own.new.faults c.in_ok-wishes.wishes.items c.self.inside.welcomed raw c.in_ok-wishes.ensures.lines known
+    c.in_ok-timers.field-0.faults c.put_own.new.faults c.in_ok-wishes.wishes.items c.manner_of-manner.result c.self.inside.welcomed c.manner_of-manner.ensures raw c.in_ok-wishes.ensures.lines known
     c.in_ok-timers.ensures.ok c.in_ok-timers.ensures.faults c.in_ok-put_own.ensures.faults

@@ -1,5 +1,5 @@
 use Rattle.botworld.proofs.Calls.{same_calls, same_calls_ignoring_channels}
-use Rattle.botworld.proofs.Runs.{same_later, same_at_once, same_always, at_version, always_at_version, none_back, never_back_always, promises_kept}
+use Rattle.botworld.proofs.Runs.{same_later, same_at_once, same_always, at_version, always_at_version, none_back, never_back_always, promises_kept, rights_kept}
 use Rattle.botworld.proofs.world.World.run.Goals as goal
 
 pub returns-clause-same_records : goal.returns-clause-same_records
@@ -31,3 +31,15 @@ returns-clause-same_calls g c past stands = same_calls _ _ past stands
 
 pub returns-clause-same_calls_ignoring_channels : goal.returns-clause-same_calls_ignoring_channels
 returns-clause-same_calls_ignoring_channels g c ignores past stands = same_calls_ignoring_channels _ _ past ignores stands
+
+pub returns-clause-allowed : goal.returns-clause-allowed
+returns-clause-allowed g c past stands = (rights_kept _ _ past stands).allowed
+
+pub returns-clause-ranks : goal.returns-clause-ranks
+returns-clause-ranks g c past stands = (rights_kept _ _ past stands).ranks
+
+pub returns-clause-nobody_climbs : goal.returns-clause-nobody_climbs
+returns-clause-nobody_climbs g c past stands = (rights_kept _ _ past stands).nobody_climbs
+
+pub returns-clause-nobody_becomes_owner : goal.returns-clause-nobody_becomes_owner
+returns-clause-nobody_becomes_owner g c past stands = (rights_kept _ _ past stands).nobody_becomes_owner

@@ -6,7 +6,7 @@ use Rattle.sharelink.proofs.hub_state.HubState.accept.Goals as goal
 pub returns : goal.returns
 returns c =
     folds hub_folded c.args.self.now _ _ (Accept (record { origin = c.args.origin; request = c.args.request; change = c.args.change.now }))
-    (sym c.may_accept.ensures ∙ c.if-not-may_accept.false)
+    (sym c.may_accept.ensures.may ∙ c.if-not-may_accept.false)
     (accepted-is c.args.self.now c.self.inside.floor c.self.inside.generation c.self.inside.tail.items c.apply_next.new.tail.items
     c.self.inside.userfile c.apply_next.new.userfile c.self.inside.replies.items c.put_reply.new.held.items c.new-entry.result
     (record { origin = c.args.origin; request = c.args.request; change = c.args.change.now }) c.version-number.result c.self.view_is

@@ -1,0 +1,66 @@
+-- What a disk holds before the gate that ends it, and what it would hold if that gate were open.
+--
+-- A crash closes the gate of the entry that was being written, and of no other one. So what more than that one entry
+-- stands after a closed gate wasn't left by a crash, if it is a journal's at all: the layers above can tell.
+use Rattle.std.specs.Prelude.{◌≡◌, ◌<◌, ℕ, ◌+◌, Option, None, Some, List, [], ◌∷◌, length, nat_lt, slice_set, if◌then◌else◌, Result, Ok, Err}
+use Rattle.bytetext.specs.declared.failure.Failure.{Failure}
+use Rattle.bytetext.specs.declared.failure.Failure.TheVariants.{Refused, NoMemory}
+use Rattle.disks.specs.State.{State, Rose}
+use Rattle.bytejournal.specs.declared.fault.JournalFault.{JournalFault}
+use Rattle.bytejournal.specs.declared.fault.JournalFault.TheVariants.{DiskFault, NotAJournal, Spent, GenerationsSpent}
+use Rattle.bytejournal.specs.declared.ending.Counted.{Counted}
+use Rattle.bytejournal.specs.declared.ending.IfOpen.{IfOpen}
+use Rattle.bytejournal.specs.declared.ending.Ending.{Ending}
+use Rattle.bytejournal.specs.Meaning.{Held, held}
+use Rattle.bytejournal.specs.Meaning.Held.{Shut, Broken, Open}
+
+-- how many bytes these entries take, each with its gate and its length
+abbrev pub size_of : List (List ℕ) → ℕ
+size_of [] = 0
+size_of (entry ∷ entries) = 5 + length entry + size_of entries
+
+-- The offset of the gate that ends a disk: its first one if that isn't open, and else the one after its base and
+-- entries. None if what follows the open first gate isn't a journal's.
+abbrev pub end_gate : Held → Option ℕ
+end_gate Shut = Some 0
+end_gate Broken = None
+end_gate (Open contents) = Some (14 + length contents.base + size_of contents.entries)
+
+-- what these bytes hold with the gate at this offset open, whatever it is: nothing can be read if it is missing
+abbrev pub with_open : List ℕ → Option ℕ → Held
+with_open bytes None = Broken
+with_open bytes (Some gate) = if nat_lt gate (length bytes) then held (slice_set bytes gate 1) else Broken
+
+-- what a disk with these bytes would hold if the gate that ends it were open
+abbrev pub held_open : List ℕ → Held
+held_open bytes = with_open bytes (end_gate (held bytes))
+
+-- what counts on a disk that holds this, beside another one
+abbrev pub counted : Held → Option Counted
+counted Shut = None
+counted Broken = None
+counted (Open contents) = Some (record { generation = contents.generation; entries = length contents.entries })
+
+-- the contents of a journal, if this is one's
+abbrev pub if_open : Held → Option IfOpen
+if_open Shut = None
+if_open Broken = None
+if_open (Open contents) = Some (record {
+  layout = contents.layout;
+  generation = contents.generation;
+  base = contents.base;
+  entries = contents.entries;
+})
+
+-- what stands on a disk with these bytes before and after the gate that ends it
+abbrev pub ending_of : List ℕ → Ending
+ending_of bytes = record { counted = counted (held bytes); if_open = if_open (held_open bytes) }
+
+-- reading what stands there, by cases on the result
+abbrev pub ReadsEnding : State → Result Ending (Failure JournalFault) → State → Type 0
+ReadsEnding old (Ok ending) new = ending ≡ ending_of old.seen
+ReadsEnding old (Err (Refused DiskFault)) new = Rose old.failed new.failed
+ReadsEnding old (Err (Refused NotAJournal)) new = ⊥
+ReadsEnding old (Err (Refused Spent)) new = ⊥
+ReadsEnding old (Err (Refused GenerationsSpent)) new = ⊥
+ReadsEnding old (Err NoMemory) new = 0 < length old.seen

@@ -1,0 +1,236 @@
+-- Each change that any proc requests is in the caller's name, or in nobody's and gives nothing.
+use Rattle.std.proofs.Common.{◌≡◌, ◌||◌, ◌&&◌, ◌==◌, ◌∷◌, ◌++◌, not, inl, inr, ℕ, zero, suc, List, [], length, take, Bool, true, false, refl, ap, sym, subst, codes, if◌then◌else◌, Option, Some, None}
+use Rattle.std.specs.List.{list_any, filter_map, flat_map}
+use Rattle.std.specs.Option.{option_map, option_to_list}
+use Rattle.bytetext.specs.Words.{after_word, first_word}
+use Rattle.userfile.specs.Changes.{by_nobody}
+use Rattle.userfile.specs.Shapes.{is_hostmask}
+use Rattle.userfile.specs.declared.ban.Ban.{Ban}
+use Rattle.userfile.specs.declared.change.Change.{Change}
+use Rattle.userfile.specs.declared.edit.Edit.TheVariants.{AddUser, DelBan}
+use Rattle.userfile.specs.declared.flags.PersonFlags.{PersonFlags}
+use Rattle.chanstate.specs.declared.member.Member.{Member}
+use Rattle.chanstate.specs.Views.{members_in}
+use Rattle.outqueue.specs.declared.queue.Queue.{Queue}
+use Rattle.outqueue.specs.declared.queue.Queue.TheVariants.{Help, Mode as mode_queue, Server}
+use Rattle.procs.specs.declared.action.Action.{Action}
+use Rattle.procs.specs.declared.action.Action.TheVariants.{Ask, SendBot}
+use Rattle.procs.specs.declared.call.Call.{Call}
+use Rattle.procs.specs.declared.limits.TheConstants.{MAX_ACTIONS}
+use Rattle.procs.specs.declared.reply.ProcReply.{ProcReply}
+use Rattle.procs.specs.Promises.{IsKept}
+use Rattle.procs.specs.Seen.{Seen}
+use Rattle.eggprocs.specs.declared.duties.Duty.TheVariants.{FirstOp}
+use Rattle.eggprocs.specs.declared.proc_name.ProcName.{ProcName}
+use Rattle.eggprocs.specs.declared.proc_name.ProcName.TheVariants as which
+use Rattle.eggprocs.specs.Args.{arg_at, nick_of, channel_of, said_of, last_of, mode_argument, timer_text, has_word, or_else}
+use Rattle.eggprocs.specs.Basics.{is_command, place_of, asked_by_tick, asked_by_tell, asked_by_echo_at}
+use Rattle.eggprocs.specs.Channel.{put, target_of, change_for, asked_for_newcomer}
+use Rattle.eggprocs.specs.Ends.{has_ended, lifts_on, is_left, lift_if, delete_if, ends_of, is_minute, all_ends}
+use Rattle.eggprocs.specs.Everyone.{is_own_join, gives_bot_op, change_of, mode_for}
+use Rattle.eggprocs.specs.Infos.{info_by, greeting}
+use Rattle.eggprocs.specs.Keeping.{is_change_here, is_change_by_others, mode_back, takes_op, gives_op, flags_named, op_again, op_undone, is_hit, is_spared, hits_guarded, hits_itself, kick_for}
+use Rattle.eggprocs.specs.Laws.{EachAsk, AsksOnly, IsNamedOrGivesNothing, is_ask}
+use Rattle.eggprocs.specs.Lines.{privmsg, topic, invite, mode, kick, who}
+use Rattle.eggprocs.specs.Looks.{may_look, is_wanted, line_of}
+use Rattle.eggprocs.specs.People.{told}
+use Rattle.eggprocs.specs.Procs.{name_of, which_named, duty_of, wanted_by, actions_by, actions_if, ours}
+use Rattle.eggprocs.specs.Rights.{has_op, has_bot, flags_by, is_bot_op, is_from_op, is_from_voice, is_join, is_op_of, is_timer}
+use Rattle.eggprocs.specs.Turns.{share_out}
+use Rattle.eggprocs.specs.Whereabouts.{whereabouts}
+use Rattle.eggprocs.proofs.AskLemmas.{ask_if, IsForEdits, AreForBans, no-asks, each-ask, each-other, each-if, share-asks, given-quiet, take-quiet, plus_user-wanted, minus_user-wanted, plus_host-wanted, minus_host-wanted, chattr-wanted, stick-wanted, unstick-wanted, info-wanted, ban-wanted, unban-wanted}
+use Rattle.eggprocs.proofs.LawLemmas.{whois-asks, bans-asks}
+
+-- ---- lists of actions
+
+-- a line if a test passes
+line-if : (is_so : Change → Type 0) (test : Bool) (queue : Queue) (line : List ℕ) → EachAsk is_so (if test then put queue line ∷ [] else [])
+line-if is_so true queue line = no-asks is_so (put queue line ∷ []) refl
+line-if is_so false queue line = no-asks is_so [] refl
+
+each-append : (is_so : Change → Type 0) (front back : List Action) → EachAsk is_so front → EachAsk is_so back → EachAsk is_so (front ++ back)
+each-append is_so [] back first rest place change at = rest place change at
+each-append is_so (action ∷ actions) back first rest zero change at = first zero change at
+each-append is_so (action ∷ actions) back first rest (suc place) change at =
+    each-append is_so actions back (λ k asked here. first (suc k) asked here) rest place change at
+
+each-take : (is_so : Change → Type 0) (n : ℕ) (actions : List Action) → EachAsk is_so actions → EachAsk is_so (take n actions)
+each-take is_so zero actions each place change at = no-asks is_so [] refl place change at
+each-take is_so (suc n) [] each place change at = no-asks is_so [] refl place change at
+each-take is_so (suc n) (action ∷ actions) each zero change at = each zero change at
+each-take is_so (suc n) (action ∷ actions) each (suc place) change at =
+    each-take is_so n actions (λ k asked here. each (suc k) asked here) place change at
+
+each-flat : {X : Type 0} (is_so : Change → Type 0) (h : X → List Action) → ((x : X) → EachAsk is_so (h x)) → (xs : List X) → EachAsk is_so (flat_map h xs)
+each-flat is_so h each [] = no-asks is_so [] refl
+each-flat is_so h each (x ∷ xs) = each-append is_so (h x) (flat_map h xs) (each x) (each-flat is_so h each xs)
+
+-- ---- in the caller's name
+
+edits-known : IsForEdits IsNamedOrGivesNothing
+edits-known call seen edit taken = inl refl
+
+bans-known : AreForBans IsNamedOrGivesNothing
+bans-known = record { adds = λ call seen may. inl refl; deletes = λ call seen may. inl refl }
+
+-- ---- in nobody's name
+
+user-known : (call : Call) (seen : Seen) (test : Bool) → EachAsk (IsNamedOrGivesNothing call seen) (if test then Ask (by_nobody (AddUser (last_of call.args))) ∷ [] else [])
+user-known call seen true =
+    each-ask (IsNamedOrGivesNothing call seen) (by_nobody (AddUser (last_of call.args))) [] (inr (refl, refl)) (no-asks (IsNamedOrGivesNothing call seen) [] refl)
+user-known call seen false = no-asks (IsNamedOrGivesNothing call seen) [] refl
+
+deletion-known : (call : Call) (seen : Seen) (ban : Ban) → EachAsk (IsNamedOrGivesNothing call seen) (Ask (by_nobody (DelBan ban.channel ban.mask)) ∷ [])
+deletion-known call seen ban =
+    each-ask (IsNamedOrGivesNothing call seen) (by_nobody (DelBan ban.channel ban.mask)) [] (inr (refl, refl)) (no-asks (IsNamedOrGivesNothing call seen) [] refl)
+
+end-known : (call : Call) (seen : Seen) (ban : Ban) (ended lifts deletes : Bool)
+    → EachAsk (IsNamedOrGivesNothing call seen) (if ended then option_to_list (lift_if lifts ban) ++ option_to_list (delete_if deletes ban) else [])
+end-known call seen ban false lifts deletes = no-asks (IsNamedOrGivesNothing call seen) [] refl
+end-known call seen ban true false false = no-asks (IsNamedOrGivesNothing call seen) [] refl
+end-known call seen ban true true false = line-if (IsNamedOrGivesNothing call seen) true mode_queue (mode ban.channel (codes "-b") ban.mask)
+end-known call seen ban true false true = deletion-known call seen ban
+end-known call seen ban true true true =
+    each-other (IsNamedOrGivesNothing call seen) (put mode_queue (mode ban.channel (codes "-b") ban.mask)) (Ask (by_nobody (DelBan ban.channel ban.mask)) ∷ []) refl
+    (deletion-known call seen ban)
+
+ends-known : (call : Call) (seen : Seen) (second : Option ℕ) → EachAsk (IsNamedOrGivesNothing call seen) (all_ends second seen)
+ends-known call seen None = no-asks (IsNamedOrGivesNothing call seen) [] refl
+ends-known call seen (Some second) =
+    each-take (IsNamedOrGivesNothing call seen) MAX_ACTIONS (flat_map (ends_of second seen) seen.sight.records.bans)
+    (each-flat (IsNamedOrGivesNothing call seen) (ends_of second seen)
+    (λ ban. end-known call seen ban (has_ended second ban) (lifts_on ban.channel seen) (lifts_on ban.channel seen || is_left second ban)) seen.sight.records.bans)
+
+-- ---- no change at all
+
+echo-known : (is_so : Change → Type 0) (call : Call) (place : Option ℕ) → EachAsk is_so (asked_by_echo_at call place)
+echo-known is_so call None = no-asks is_so [] refl
+echo-known is_so call (Some place) = no-asks is_so (asked_by_echo_at call (Some place)) refl
+
+newcomer-known : (is_so : Change → Type 0) (call : Call) (change : Option (List ℕ)) → EachAsk is_so (asked_for_newcomer call change)
+newcomer-known is_so call None = no-asks is_so [] refl
+newcomer-known is_so call (Some change) = no-asks is_so (asked_for_newcomer call (Some change)) refl
+
+again-known : (is_so : Change → Type 0) (call : Call) (flags : Option PersonFlags) → EachAsk is_so (op_again call flags)
+again-known is_so call None = no-asks is_so [] refl
+again-known is_so call (Some flags) = line-if is_so (has_op flags) mode_queue (mode (channel_of call) (codes "+o") (mode_argument call))
+
+undone-known : (is_so : Change → Type 0) (call : Call) (flags : Option PersonFlags) → EachAsk is_so (op_undone call flags)
+undone-known is_so call None = no-asks is_so [] refl
+undone-known is_so call (Some flags) =
+    each-if is_so (has_op flags || has_bot flags) [] (mode_back (codes "-o") call) (no-asks is_so [] refl) (no-asks is_so (mode_back (codes "-o") call) refl)
+
+mode-quiet : (call : Call) (member : Member) (change : Option (List ℕ)) (action : Action)
+    → option_map (λ text. put mode_queue (mode (channel_of call) text member.nick)) change ≡ Some action → is_ask action ≡ false
+mode-quiet call member None action is = cc
+mode-quiet call member (Some text) action is = sym (ap ask_if is)
+
+kick-quiet : (call : Call) (member : Member) (test : Bool) (action : Action)
+    → (if test then Some (put mode_queue (kick (channel_of call) member.nick (codes "banned"))) else None) ≡ Some action → is_ask action ≡ false
+kick-quiet call member false action is = cc
+kick-quiet call member true action is = sym (ap ask_if is)
+
+opall-known : (is_so : Change → Type 0) (call : Call) (seen : Seen) (joins gets : Bool) → EachAsk is_so
+    (if joins then put Server (who (channel_of call)) ∷ []
+    else if gets then take MAX_ACTIONS (filter_map (mode_for call seen) (members_in (channel_of call) seen.sight.channels))
+    else [])
+opall-known is_so call seen true gets = no-asks is_so (put Server (who (channel_of call)) ∷ []) refl
+opall-known is_so call seen false false = no-asks is_so [] refl
+opall-known is_so call seen false true =
+    let modes : List Action = filter_map (mode_for call seen) (members_in (channel_of call) seen.sight.channels) in
+    no-asks is_so (take MAX_ACTIONS modes) (take-quiet MAX_ACTIONS modes
+    (given-quiet (mode_for call seen) (λ member action is. mode-quiet call member (change_of call seen member) action is) (members_in (channel_of call) seen.sight.channels)))
+
+enforce-known : (is_so : Change → Type 0) (call : Call) (seen : Seen) (test : Bool) → EachAsk is_so
+    (if test then take MAX_ACTIONS (filter_map (kick_for (mode_argument call) call seen) (members_in (channel_of call) seen.sight.channels)) else [])
+enforce-known is_so call seen false = no-asks is_so [] refl
+enforce-known is_so call seen true =
+    let kicks : List Action = filter_map (kick_for (mode_argument call) call seen) (members_in (channel_of call) seen.sight.channels) in
+    no-asks is_so (take MAX_ACTIONS kicks) (take-quiet MAX_ACTIONS kicks
+    (given-quiet (kick_for (mode_argument call) call seen)
+    (λ member action is. kick-quiet call member (is_hit (mode_argument call) seen member && not (is_spared call seen member)) action is)
+    (members_in (channel_of call) seen.sight.channels)))
+
+guard-known : (is_so : Change → Type 0) (call : Call) (seen : Seen) (test itself : Bool) → EachAsk is_so
+    (if test then (if itself then mode_back (codes "-b") call else share_out FirstOp call seen (mode_back (codes "-b") call)) else [])
+guard-known is_so call seen false itself = no-asks is_so [] refl
+guard-known is_so call seen true true = no-asks is_so (mode_back (codes "-b") call) refl
+guard-known is_so call seen true false = share-asks is_so FirstOp call seen (mode_back (codes "-b") call) (no-asks is_so (mode_back (codes "-b") call) refl)
+
+-- ---- each proc
+
+wanted-known : (w : ProcName) (call : Call) (seen : Seen) → EachAsk (IsNamedOrGivesNothing call seen) (wanted_by w call seen)
+unfolding wanted_by
+wanted-known which.Quiet call seen = no-asks (IsNamedOrGivesNothing call seen) [] refl
+wanted-known which.Stop call seen = no-asks (IsNamedOrGivesNothing call seen) [] refl
+wanted-known which.AddUser call seen = user-known call seen (is_command call.kind)
+wanted-known which.Tick call seen = no-asks (IsNamedOrGivesNothing call seen) asked_by_tick refl
+wanted-known which.Tell call seen = tell-known (is_command call.kind)
+  where
+    tell-known : (test : Bool) → EachAsk (IsNamedOrGivesNothing call seen) (if test then SendBot (record { to = 0; text = last_of call.args }) ∷ [] else [])
+    tell-known true = no-asks (IsNamedOrGivesNothing call seen) (SendBot (record { to = 0; text = last_of call.args }) ∷ []) refl
+    tell-known false = no-asks (IsNamedOrGivesNothing call seen) [] refl
+wanted-known which.Echo call seen = echo-known (IsNamedOrGivesNothing call seen) call (place_of call.kind)
+wanted-known which.Op call seen = line-if (IsNamedOrGivesNothing call seen) (is_from_op call seen) mode_queue (mode (channel_of call) (codes "+o") (target_of call))
+wanted-known which.Deop call seen = line-if (IsNamedOrGivesNothing call seen) (is_from_op call seen) mode_queue (mode (channel_of call) (codes "-o") (target_of call))
+wanted-known which.Voice call seen = line-if (IsNamedOrGivesNothing call seen) (is_from_voice call seen) mode_queue (mode (channel_of call) (codes "+v") (target_of call))
+wanted-known which.Devoice call seen = line-if (IsNamedOrGivesNothing call seen) (is_from_voice call seen) mode_queue (mode (channel_of call) (codes "-v") (target_of call))
+wanted-known which.AutoOp call seen =
+    each-if (IsNamedOrGivesNothing call seen) (is_join call.kind && is_bot_op call seen) (asked_for_newcomer call (change_for (flags_by call seen))) []
+    (newcomer-known (IsNamedOrGivesNothing call seen) call (change_for (flags_by call seen))) (no-asks (IsNamedOrGivesNothing call seen) [] refl)
+wanted-known which.Kick call seen =
+    line-if (IsNamedOrGivesNothing call seen) (is_from_op call seen && has_word (said_of call)) mode_queue
+    (kick (channel_of call) (first_word (said_of call)) (or_else (after_word (said_of call)) (codes "request")))
+wanted-known which.Topic call seen =
+    line-if (IsNamedOrGivesNothing call seen) (is_from_op call seen && has_word (said_of call)) Server (topic (channel_of call) (said_of call))
+wanted-known which.Invite call seen =
+    line-if (IsNamedOrGivesNothing call seen) (is_from_op call seen && has_word (said_of call)) Server (invite (first_word (said_of call)) (channel_of call))
+wanted-known which.Ban call seen = ban-wanted IsNamedOrGivesNothing bans-known call seen
+wanted-known which.Unban call seen = unban-wanted IsNamedOrGivesNothing bans-known call seen
+wanted-known which.Lift call seen =
+    line-if (IsNamedOrGivesNothing call seen) (is_timer call.kind && (is_op_of (first_word (timer_text call)) seen && has_word (after_word (timer_text call))))
+    mode_queue (mode (first_word (timer_text call)) (codes "-b") (first_word (after_word (timer_text call))))
+wanted-known which.PlusUser call seen = plus_user-wanted IsNamedOrGivesNothing edits-known call seen
+wanted-known which.MinusUser call seen = minus_user-wanted IsNamedOrGivesNothing edits-known call seen
+wanted-known which.PlusHost call seen = plus_host-wanted IsNamedOrGivesNothing edits-known call seen
+wanted-known which.MinusHost call seen = minus_host-wanted IsNamedOrGivesNothing edits-known call seen
+wanted-known which.Chattr call seen = chattr-wanted IsNamedOrGivesNothing edits-known call seen
+wanted-known which.Whois call seen = no-asks (IsNamedOrGivesNothing call seen) (wanted_by which.Whois call seen) (whois-asks call seen)
+wanted-known which.Info call seen = info-wanted IsNamedOrGivesNothing edits-known call seen
+wanted-known which.Greet call seen =
+    line-if (IsNamedOrGivesNothing call seen) (is_join call.kind && not (length (info_by call seen) == 0)) Help
+    (privmsg (channel_of call) (greeting (nick_of call) (info_by call seen)))
+wanted-known which.Stick call seen = stick-wanted IsNamedOrGivesNothing edits-known call seen
+wanted-known which.Unstick call seen = unstick-wanted IsNamedOrGivesNothing edits-known call seen
+wanted-known which.Bans call seen = no-asks (IsNamedOrGivesNothing call seen) (wanted_by which.Bans call seen) (bans-asks call seen)
+wanted-known which.Seen call seen =
+    each-if (IsNamedOrGivesNothing call seen) (is_command call.kind) (told call (whereabouts call seen) ∷ []) []
+    (no-asks (IsNamedOrGivesNothing call seen) (told call (whereabouts call seen) ∷ []) refl) (no-asks (IsNamedOrGivesNothing call seen) [] refl)
+wanted-known which.OpAll call seen = opall-known (IsNamedOrGivesNothing call seen) call seen (is_own_join call seen) (gives_bot_op call seen)
+wanted-known which.ProtectOps call seen =
+    each-if (IsNamedOrGivesNothing call seen) (takes_op call seen) (op_again call (flags_named call seen)) []
+    (again-known (IsNamedOrGivesNothing call seen) call (flags_named call seen)) (no-asks (IsNamedOrGivesNothing call seen) [] refl)
+wanted-known which.Bitch call seen =
+    each-if (IsNamedOrGivesNothing call seen) (gives_op call seen) (op_undone call (flags_named call seen)) []
+    (undone-known (IsNamedOrGivesNothing call seen) call (flags_named call seen)) (no-asks (IsNamedOrGivesNothing call seen) [] refl)
+wanted-known which.Guard call seen =
+    guard-known (IsNamedOrGivesNothing call seen) call seen
+    ((is_change_by_others (codes "+b") call seen && is_hostmask (mode_argument call))
+    && list_any (hits_guarded (mode_argument call) call seen) (members_in (channel_of call) seen.sight.channels))
+    (hits_itself (mode_argument call) call seen)
+wanted-known which.EnforceBans call seen =
+    enforce-known (IsNamedOrGivesNothing call seen) call seen (is_change_here (codes "+b") call seen && is_hostmask (mode_argument call))
+wanted-known which.Later call seen =
+    line-if (IsNamedOrGivesNothing call seen) (may_look call seen && is_wanted (first_word (timer_text call)) (line_of call) seen) mode_queue (line_of call)
+wanted-known which.Expire call seen =
+    each-if (IsNamedOrGivesNothing call seen) (is_minute call.kind) (all_ends seen.second seen) [] (ends-known call seen seen.second)
+    (no-asks (IsNamedOrGivesNothing call seen) [] refl)
+
+-- whatever a proc of any name answers
+pub all-asks : (name : List ℕ) → AsksOnly IsNamedOrGivesNothing name
+unfolding actions_by
+all-asks name call seen reply kept = subst (EachAsk (IsNamedOrGivesNothing call seen)) (sym kept.actions) (by (which_named name))
+  where
+    by : (named : Option ProcName) → EachAsk (IsNamedOrGivesNothing call seen) (actions_if named call seen)
+    by None = no-asks (IsNamedOrGivesNothing call seen) [] refl
+    by (Some w) = share-asks (IsNamedOrGivesNothing call seen) (duty_of w) call seen (wanted_by w call seen) (wanted-known w call seen)
