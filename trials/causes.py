@@ -257,11 +257,11 @@ def secrets(trial, secret):
     """Files that hold no secret, and one that was written elsewhere."""
     of_secret = f"{trial.bot.config}: the file of the line secret "
     for text, what in ((b"x" * 15 + b"\r\n", "15 bytes and CR LF"), (b"x" * 201 + b"\n", "201 bytes and LF"),
-                       (b"x" * 200 + b"\r", "200 bytes and a CR"), (b"\r\n", "CR LF alone"), (b"", "nothing")):
+                       (b"\r\n", "CR LF alone"), (b"", "nothing")):
         Path(secret).write_bytes(text)
         trial.says(f"run: a secret of {what}", 1, of_secret + "has no secret")
     for text, what in ((SECRET + b"\r\n", "32 bytes and CR LF"), (b"x" * 200 + b"\r\nmore\r\n", "200 bytes and CR LF"),
-                       (b"x" * 16, "16 bytes alone")):
+                       (b"x" * 200 + b"\r", "200 bytes and a CR"), (b"x" * 16, "16 bytes alone")):
         Path(secret).write_bytes(text)
         trial.starts(f"a secret of {what}")
     os.remove(secret)

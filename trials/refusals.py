@@ -34,10 +34,9 @@ def configurations(tally, program, room):
         (right[:2], "a bot needs a line: server HOST PORT"),
         ([*right, "bot 1 of 2", link[1]], "a leaf needs a line: hub HOST PORT"),
         ([*right, "bot 1 of 2", link[0]], "a bot with others needs a line: secret FILE"),
-        ([*right, "bot 0 of 2", link[1]], "a hub with leaves needs a line: listen HOST PORT"),
+        ([*right, "bot 0 of 2", link[1]], "a hub with leaves needs a line: listen ADDRESS PORT"),
         ([*right, "bot 1 of 2", *link, "listen ::1 7100"], "a leaf has no line listen: take it out"),
         ([*right, link[0]], "a hub has no line hub: take it out"),
-        ([*right, "account egg /etc/egg"], ""),
         ([*right, "bind pub - echo"], "line 4: say bind TYPE FLAGS PROC MASK"),
         ([*right, "bind pub zz:z+ echo !echo"], "line 4: B"),
         ([*right, "bind pubb - echo !echo"], "line 4: "),
@@ -53,6 +52,11 @@ def configurations(tally, program, room):
         Path(config).write_text("\n".join(lines) + "\n", encoding="utf-8", newline="")
         for word in ("check", "run"):
             says(tally, f"{word}: {lines[-1]!r}", [program, word, config], 1, f"eggnet: {config}: {text}")
+    config = f"{room}/account.conf"
+    Path(config).write_text("\n".join([*right, f"account egg {room}/password"]) + "\n", encoding="utf-8")
+    says(tally, "check: an account without its file, which check doesn't read", [program, "check", config], 0, "")
+    says(tally, "run: an account without its file", [program, "run", config], 1,
+         f"eggnet: {config}: the file of the line account can't be read")
     config = f"{room}/secret.conf"
     for secret, text in ((None, "can't be read"), (b"too short\n", "has no secret"), (b"x" * 201, "has no secret")):
         Path(config).write_text("\n".join([*right, "bot 1 of 2", *link]) + "\n", encoding="utf-8")
@@ -85,7 +89,7 @@ def command_lines(tally, program, room):
     says(tally, "a word that is no UTF-8", [program, "tell", room, b"\xff\xfe"], 2, "eggnet: ")
     none = f"{room}/none"
     says(tally, "tell: a folder that is none", [program, "tell", none, "status"], 3, f"eggnet: no bot runs on {none}\n")
-    says(tally, "tell: a word that is none", [program, "tell", room, "bogus"], 1, "eggnet: begin with addban, ")
+    says(tally, "tell: a word that is none", [program, "tell", room, "bogus"], 1, "eggnet: begin with +chan, -chan, addban, ")
     says(tally, "tell: a line feed", [program, "tell", room, "say a\nb"], 1, "eggnet: say it in one line")
     says(tally, "tell: 601 bytes", [program, "tell", room, "say " + "x" * 597], 1, "eggnet: say at most 600 bytes")
     says(tally, "show: a folder that is none", [program, "show", none], 3, f"eggnet: {none} holds no bot")
