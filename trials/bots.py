@@ -280,6 +280,8 @@ class Bot:
         self.folder, self.config, self.log = f"{room}/{name}", f"{room}/{name}.conf", f"{room}/{name}.log"
         said = [f"data {self.folder}", f"nick {nick}"]
         said += [f"server {it.host} {it.port} {it.password}".rstrip() for it in servers]
+        if not any(it.startswith("flood-") for it in lines):
+            said += [f"flood-{kind} 0:0" for kind in ("msg", "ctcp", "chan")]  # the people of most trials say much
         Path(self.config).write_text("\n".join([*said, *lines]) + "\n", encoding="utf-8")
         self.process = None
 

@@ -7,8 +7,11 @@ PROGRAM is the program to try, else what EGGNET names, else ours. A hub and thre
 The hub is killed and its folder removed; the leaves are asked for more, and stopped. What `promote` and `start-over` refuse is
 tried by name. Then `promote --which` names the leaf with the highest version, `promote` makes the heir of it, and `start-over`
 moves all leaves. All are level at the heir within ten seconds, with the records of the promoted leaf, and new changes go through.
-A copy of the old hub that comes back is refused by the moved leaves. Last, `promote` and `start-over` are killed in their middle
+A copy of the old hub that comes back is refused by the moved leaves. Then `promote` and `start-over` are killed in their middle
 again and again: a second try ends well each time.
+
+Then a net of a hub and six leaves, each with several lines `hub` (trials/moving_leaves.py): the leaves move to the heir by
+themselves, and are killed in the middle of that. Last, the heir is handed over to a leaf under load.
 The last line is 'N well, M bad'; the status is 1 where any is bad.
 """
 import os
@@ -26,6 +29,7 @@ sys.dont_write_bytecode = True
 sys.path.insert(0, str(Path(__file__).resolve().parent / "links"))
 import journals
 from bots import Bot, Nowhere, Tally, comes, counts_of, end_all, free_port, program_of, ran
+from moving_leaves import TurningNet, hand_over, kills_of_moves, moves, return_of_the_old_hub
 from nets import SECRET, records_of, version_of
 
 LEAVES = 3
@@ -314,6 +318,14 @@ def main():
             kills(tally, field, rounds, net)
         finally:
             end_all(field.hub, *field.leaves)
+        turning = TurningNet(program, f"{room}/turning")
+        try:
+            base, net = moves(tally, turning)
+            return_of_the_old_hub(tally, turning)
+            kills_of_moves(tally, turning, base, net, rounds)
+            hand_over(tally, turning)
+        finally:
+            end_all(*turning.all())
     return tally.end()
 
 

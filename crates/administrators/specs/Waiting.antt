@@ -1,5 +1,5 @@
 -- Why a change that a proc asked for waits.
-use Rattle.std.specs.Prelude.{Bool, true, false, not, is_some, List, if◌then◌else◌}
+use Rattle.std.specs.Prelude.{ℕ, Bool, true, false, not, is_some, List, if◌then◌else◌, codes}
 use Rattle.std.specs.List.{list_any}
 use Rattle.procs.specs.declared.action.Action.{Action}
 use Rattle.procs.specs.declared.action.Action.TheVariants.{Ask, Timer, Utimer, KillTimer, SendBot, Put}
@@ -26,3 +26,10 @@ abbrev pub wait_for : HubTakes → List Action → ChangeWait
 wait_for All actions = Answer
 wait_for OfPersons actions = wait_of_persons actions
 wait_for Nothing actions = Reads
+
+-- what a notice says of a change that waits
+abbrev pub words_while : ChangeWait → List ℕ
+words_while Answer = codes "queued: the hub has not answered yet"
+words_while Persons =
+    codes "waits: this leaf may ask for persons alone, as its hub says, and this is in nobody's name"
+words_while Reads = codes "waits: this leaf may only read, as its hub says"

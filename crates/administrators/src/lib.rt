@@ -7,6 +7,7 @@
 //!   proc ask, or nobody who waits for an answer. The oldest change is answered first.
 //! - [`ChangeOutcome`] is what became of a change. [`answer_oldest`] says it to whoever asked: as the answer to a command
 //!   ([`change_answer`]), or in a notice.
+//! - [`tell_unanswered`] tells those whose changes nobody will answer.
 //! - [`LogEntry`] is a line of the bot's log, except those about servers and other bots. [`log_changes`] writes who asked
 //!   for which change, and [`changes_answer`] tells an admin of the changes that the journal holds.
 //!
@@ -34,6 +35,7 @@ mod requests;
 mod seconds;
 mod settling;
 mod told_changes;
+mod unanswered;
 
 pub use crate::admins::{AdminLine, Admins, MAX_ADMINS, MAX_UNSENT};
 pub use crate::answers::{
@@ -50,3 +52,4 @@ pub use crate::requests::requests_in;
 pub use crate::seconds::Seconds;
 pub use crate::settling::answer_oldest;
 pub use crate::told_changes::{MAX_TOLD, changes_answer};
+pub use crate::unanswered::tell_unanswered;

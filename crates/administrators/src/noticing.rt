@@ -1,7 +1,7 @@
 // Notices to a person about a change that their words asked for.
 ghost use Rattle.std.specs.Prelude.{◌≡◌, count_by};
 ghost use Rattle.std.specs.List.{list_any};
-ghost use Rattle.administrators.specs.Waiting.{is_nameless_ask, wait_for, wait_of_persons};
+ghost use Rattle.administrators.specs.Waiting.{is_nameless_ask, wait_for, wait_of_persons, words_while};
 
 use crate::asks::{Recipient, asker_in, asks_among};
 use crate::change_outcome::ChangeOutcome;
@@ -114,7 +114,9 @@ fn notice_to(
 }
 
 // What a notice says of a change that waits.
-fn words_while(wait: ChangeWait) -> &'static [u8] {
+fn words_while(wait: ChangeWait) -> &'static [u8]
+    ensures { result.now ≡ words_while wait }
+{
     match wait {
         ChangeWait::Answer => b"queued: the hub has not answered yet",
         ChangeWait::Persons =>
@@ -137,7 +139,7 @@ pub(crate) fn notice(
 }
 
 // Queues a notice to a person that says these words. Does nothing without a server, or if too many lines wait.
-fn put_notice(
+pub(crate) fn put_notice(
     alloc: Global,
     uplink: &mut IrcConnection,
     nick: &[u8],

@@ -64,7 +64,7 @@ fn config_of(
 /// those after `bot`.
 ///
 /// The bot is the hub if NUMBER is 0, and its leaf if it is 1. SETTING is `all`, `exclusive`, or
-/// `at-once` for a bot that sends at once. A step is one word:
+/// `at-once` for a bot that sends at once, and may end with `=NICK` for a bot of another name. A step is one word:
 /// - `bind KIND FLAGS PROC MASK` answers the bind's number;
 /// - `connect`, `line TEXT` and `clock MOMENT` answer each call as `BIND PROC KIND 'ARGUMENT'.. CODE`, then each line
 ///   that is sent as `out 'LINE'`, then each fault, and then `logged` or `not logged`;
@@ -112,8 +112,10 @@ fn take_all(
     Ok(())
 }
 
-/// Creates the bot `egg` of this `number`, with no channels; `setting` is the word `all`, `exclusive` or `at-once`.
+/// Creates a bot of this `number`, with no channels. `setting` is the word `all`, `exclusive` or `at-once`, and may end
+/// with `=NICK`; without that, the bot is named `egg`.
 pub fn bot_of(alloc: Global, number: u16, setting: &[u8]) -> Result<Bot<MemDisk>, CaseError> {
+    let (setting, nick) = cut(setting, b'=');
     let (exclusive, sends_at_once) = match setting {
         b"all" => (false, false),
         b"exclusive" => (true, false),
@@ -123,7 +125,7 @@ pub fn bot_of(alloc: Global, number: u16, setting: &[u8]) -> Result<Bot<MemDisk>
     let config = Config {
         number,
         leaves: 1,
-        nick: Text::from_slice(alloc, b"egg")?,
+        nick: Text::from_slice(alloc, if nick.is_empty() { b"egg" } else { nick })?,
         channels: Texts::empty(alloc),
         exclusive,
         sends_at_once,

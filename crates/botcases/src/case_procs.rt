@@ -1,4 +1,5 @@
-// The procs that a script's binds may call: `quiet`, `stop`, `adduser`, `echo`, `texts`, `look`, `later` and `never`.
+// The procs that a script's binds may call: `quiet`, `stop`, `adduser`, `echo`, `texts`, `look`, `later`, `never` and
+// `mode`.
 ghost use Rattle.std.specs.Prelude.{◌≡◌};
 ghost use Rattle.botcases.specs.Procs.{code_of};
 
@@ -42,6 +43,8 @@ enum Wish {
     Later,
     /// The end of such a utimer.
     Never,
+    /// That argument as a line for the mode queue.
+    Mode,
 }
 
 /// How often the bodies of a store have run.
@@ -86,6 +89,7 @@ impl Built {
             Wish::Look => looked(self.alloc, call, view),
             Wish::Later => later(self.alloc, last),
             Wish::Never => never(self.alloc, last),
+            Wish::Mode => mode(self.alloc, last),
         }
     }
 }
@@ -181,6 +185,15 @@ fn never(alloc: Global, text: &Text) -> Result<Actions, NoMemory> {
     Actions::one(alloc, Action::KillTimer(name))
 }
 
+// Puts `line` into the mode queue.
+fn mode(alloc: Global, line: &Text) -> Result<Actions, NoMemory> {
+    let wish = PutWish {
+        queue: Queue::Mode,
+        line: line.copy(alloc)?,
+    };
+    Actions::one(alloc, Action::Put(wish))
+}
+
 // Returns the channel on which something was said, or the nick that said it privately.
 fn target_of(call: &Call) -> Option<&Text> {
     match call.kind {
@@ -212,6 +225,7 @@ pub fn counted_store(alloc: Global, runs: &Runs) -> Result<ProcStore<Ours, Built
     add(alloc, &mut store, b"look", Code::Zero, Wish::Look, runs)?;
     add(alloc, &mut store, b"later", Code::Zero, Wish::Later, runs)?;
     add(alloc, &mut store, b"never", Code::Zero, Wish::Never, runs)?;
+    add(alloc, &mut store, b"mode", Code::Zero, Wish::Mode, runs)?;
     Ok(store)
 }
 

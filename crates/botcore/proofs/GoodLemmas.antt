@@ -16,7 +16,6 @@ use Rattle.ircline.specs.declared.line.Line.{Line as ReadLine}
 use Rattle.ircline.specs.declared.line.Line.TheVariants.{Message as a_message, Bad as a_bad_line}
 use Rattle.ircline.specs.declared.message.Message.{Message}
 use Rattle.outqueue.specs.declared.fault.QueueFault.{QueueFault}
-use Rattle.outqueue.specs.Refusals.{refusal as queue_refusal}
 use Rattle.protocol.specs.Packets.{Outgoing as Sent}
 use Rattle.protocol.specs.Packets.Packet.{BotText}
 use Rattle.protocol.specs.Notes.{Note as Meaning, LinkFault as Meant}
@@ -41,7 +40,7 @@ use Rattle.botcore.specs.declared.report.End.{End}
 use Rattle.botcore.specs.declared.report.End.TheVariants.{Done, Refused, NoMemory}
 use Rattle.botcore.specs.declared.report.Note.{Note}
 use Rattle.botcore.specs.declared.report.Report.{Report}
-use Rattle.botcore.specs.Acting.{Acting, acted, acted_all, asked_if, timer_of, made_unless, killed_if, sent_if, put_unless, actions_of}
+use Rattle.botcore.specs.Acting.{Acting, acted, acted_all, asked_if, timer_of, made_unless, killed_if, sent_if, put_fault, put_unless, actions_of}
 use Rattle.botcore.specs.Bots.{Bot, bot_setting}
 use Rattle.botcore.specs.Happenings.{Saying, saying_in}
 use Rattle.botcore.specs.Lines.{Finish, acting_of, acting_after, finish_text, finish_line, finish_reading}
@@ -133,7 +132,7 @@ act_good acting (KillTimer name) good = kill_good acting name (holds_named actin
 act_good acting (SendBot wish) good =
     send_good acting (told acting.link wish.to wish.text).sends (told acting.link wish.to wish.text).told
     (told_good acting.link.leaves acting.link.number acting.link.end wish.to wish.text) good
-act_good acting (Put wish) good = put_good acting wish (queue_refusal acting.queues wish.queue wish.line) good
+act_good acting (Put wish) good = put_good acting wish (put_fault acting wish) good
 
 acts_good : (acting : Acting) (actions : List Action) → AreGood acting.sent → AreGood (acted_all acting actions).sent
 acts_good acting [] good = good

@@ -1,9 +1,10 @@
 -- The greeting of a bot: no line of it is refused, and what waits of it.
-use Rattle.std.proofs.Common.{◌≡◌, ◌∙◌, ℕ, ◌+◌, ◌≤◌, ◌<◌, ◌==◌, nat_le, true, false, not, ◌&&◌, ◌||◌, Option, None, min}
+use Rattle.std.proofs.Common.{◌≡◌, ◌∙◌, ℕ, zero, suc, ◌+◌, ◌≤◌, ◌<◌, ◌==◌, nat_le, Bool, true, false, cond, if◌then◌else◌, filter, not, ◌&&◌, ◌||◌, Option, None, min}
 use Rattle.std.proofs.Common.{List, [], ◌∷◌, ◌++◌, length, take, codes, slice_index, refl, ap, sym, arith, length-append}
-use Rattle.std.proofs.lemmas.Bool.{and_parts, le-ltb, leb-true, lt-leb, ne_eqb}
+use Rattle.std.proofs.lemmas.Bool.{and_parts, or_parts, or_from, le-ltb, leb-true, lt-leb, ne_eqb}
 use Rattle.std.proofs.lemmas.List.{length-take}
 use Rattle.std.proofs.lemmas.List.Folds.{list_any-append}
+use Rattle.std.specs.Char.{is_ascii_alphanumeric}
 use Rattle.std.specs.List.{list_any, list_all}
 use Rattle.ircline.proofs.TextLemmas.{apart, none-all}
 use Rattle.outqueue.specs.declared.fault.QueueFault.{QueueFault}
@@ -13,11 +14,11 @@ use Rattle.outqueue.specs.declared.queues.Counts.{Counts}
 use Rattle.outqueue.specs.Refusals.{is_break, is_bad_line, refusal}
 use Rattle.outqueue.specs.Sending.{Sending, idle, waiting, sent, with_first, count_at}
 use Rattle.outqueue.proofs.Drains.{length-sent}
-use Rattle.botcore.specs.Automatic.{greeting, wish}
+use Rattle.botcore.specs.Automatic.{greeting, or_bot, user_name, user_of, wish}
 use Rattle.botcore.specs.Configs.{IsGood, is_nick, is_nick_byte}
 use Rattle.botcore.specs.Putting.{put_faults, queued, queued_unless, with_line_fault}
 use Rattle.botcore.specs.declared.config.Config.{Config}
-use Rattle.botcore.specs.declared.limits.TheConstants.{MAX_NICK}
+use Rattle.botcore.specs.declared.limits.TheConstants.{MAX_NICK, MAX_USER}
 use Rattle.botcore.specs.declared.manner.Manner.TheVariants.{InTurn}
 
 -- no line is refused -----------------------------------------------------------------------------------------------------
@@ -50,18 +51,58 @@ nick_good nick is =
     let all : length (codes "NICK " ++ (nick ++ [])) ≡ 5 + length (nick ++ []) = length-append (codes "NICK ") (nick ++ []) in
     good_line (codes "NICK " ++ (nick ++ [])) (omega arith) (omega arith) (no_breaks (codes "NICK ") (nick ++ []) refl (no_breaks nick [] parts.1 refl))
 
-user_good : (nick : List ℕ) → is_nick nick ≡ true → is_bad_line (codes "USER " ++ (nick ++ (codes " 0 * :" ++ (nick ++ [])))) ≡ false
-user_good nick is =
+-- a user name is as short as a nick, and has no break
+plain_byte : (b : ℕ) → is_ascii_alphanumeric b ≡ true → is_break b ≡ false
+plain_byte b is =
+    rw (apart is_ascii_alphanumeric 0 b is refl, apart is_ascii_alphanumeric 10 b is refl, apart is_ascii_alphanumeric 13 b is refl) refl
+
+no_break-take : (n : ℕ) (xs : List ℕ) → list_any is_break xs ≡ false → list_any is_break (take n xs) ≡ false
+no_break-take zero xs none = refl
+no_break-take (suc n) [] none = refl
+no_break-take (suc n) (x ∷ xs) none =
+    let parts = or_parts (is_break x) (list_any is_break xs) none in
+    or_from (is_break x) (list_any is_break (take n xs)) parts.0 (no_break-take n xs parts.1)
+
+no_break-next : (x : ℕ) (rest : List ℕ) → list_any is_break rest ≡ false
+    → (plain : Bool) → is_ascii_alphanumeric x ≡ plain → list_any is_break (cond plain (x ∷ rest) rest) ≡ false
+no_break-next x rest none true is = or_from (is_break x) (list_any is_break rest) (plain_byte x is) none
+no_break-next x rest none false is = none
+
+no_break-plain : (xs : List ℕ) → list_any is_break (filter is_ascii_alphanumeric xs) ≡ false
+no_break-plain [] = refl
+no_break-plain (x ∷ xs) =
+    no_break-next x (filter is_ascii_alphanumeric xs) (no_break-plain xs) (is_ascii_alphanumeric x) refl
+
+or_bot-parts : (bytes : List ℕ) → length bytes ≤ MAX_NICK → list_any is_break bytes ≡ false
+    → (length (or_bot bytes) ≤ MAX_NICK) × (list_any is_break (or_bot bytes) ≡ false)
+or_bot-parts [] short none = (omega arith, refl)
+or_bot-parts (b ∷ bytes) short none = (short, none)
+
+user_parts : (config : Config) → is_nick config.nick ≡ true
+    → (length (user_name config) ≤ MAX_NICK) × (list_any is_break (user_name config) ≡ false)
+user_parts config is = by config.sends_at_once
+  where
+    by : (at_once : Bool) → (length (if at_once then user_of config.nick else config.nick) ≤ MAX_NICK)
+        × (list_any is_break (if at_once then user_of config.nick else config.nick) ≡ false)
+    by true =
+        let plain = filter is_ascii_alphanumeric config.nick in
+        let len : length (take MAX_USER plain) ≡ min MAX_USER (length plain) = length-take MAX_USER plain in
+        or_bot-parts (take MAX_USER plain) (omega arith) (no_break-take MAX_USER plain (no_break-plain config.nick))
+    by false = nick_parts config.nick is
+
+user_good : (user nick : List ℕ) → length user ≤ MAX_NICK → list_any is_break user ≡ false → is_nick nick ≡ true
+    → is_bad_line (codes "USER " ++ (user ++ (codes " 0 * :" ++ (nick ++ [])))) ≡ false
+user_good user nick small unbroken is =
     let parts = nick_parts nick is in
     let short = parts.0 in
     let name = codes " 0 * :" ++ (nick ++ []) in
     let len : length (nick ++ []) ≡ length nick + 0 = length-append nick [] in
     let name_len : length name ≡ 6 + length (nick ++ []) = length-append (codes " 0 * :") (nick ++ []) in
-    let rest_len : length (nick ++ name) ≡ length nick + length name = length-append nick name in
-    let all : length (codes "USER " ++ (nick ++ name)) ≡ 5 + length (nick ++ name) = length-append (codes "USER ") (nick ++ name) in
-    good_line (codes "USER " ++ (nick ++ name)) (omega arith) (omega arith)
-    (no_breaks (codes "USER ") (nick ++ name) refl
-    (no_breaks nick name parts.1 (no_breaks (codes " 0 * :") (nick ++ []) refl (no_breaks nick [] parts.1 refl))))
+    let rest_len : length (user ++ name) ≡ length user + length name = length-append user name in
+    let all : length (codes "USER " ++ (user ++ name)) ≡ 5 + length (user ++ name) = length-append (codes "USER ") (user ++ name) in
+    good_line (codes "USER " ++ (user ++ name)) (omega arith) (omega arith)
+    (no_breaks (codes "USER ") (user ++ name) refl
+    (no_breaks user name unbroken (no_breaks (codes " 0 * :") (nick ++ []) refl (no_breaks nick [] parts.1 refl))))
 
 -- a good line is put into a queue that is not full
 not_refused : (q : Sending) (line : List ℕ) → is_bad_line line ≡ false → length q.mode < MAX_LINES → refusal q Mode line ≡ None
@@ -72,10 +113,12 @@ not_refused q line good few = rw (good, lt-leb MAX_LINES (length q.mode) few) re
 pub greeting_put : (config : Config) → IsGood config → put_faults InTurn idle (greeting config) ≡ []
 greeting_put config good =
     let nick_wish = wish Mode (codes "NICK " ∷ config.nick ∷ []) in
-    let user_wish = wish Mode (codes "USER " ∷ config.nick ∷ codes " 0 * :" ∷ config.nick ∷ []) in
+    let user_wish = wish Mode (codes "USER " ∷ user_name config ∷ codes " 0 * :" ∷ config.nick ∷ []) in
     let queues : Sending = record idle { mode = nick_wish.line ∷ [] } in
     let nick : refusal idle Mode nick_wish.line ≡ None = not_refused idle nick_wish.line (nick_good config.nick good.nick) (omega arith) in
-    let user : refusal queues Mode user_wish.line ≡ None = not_refused queues user_wish.line (user_good config.nick good.nick) (omega arith) in
+    let parts = user_parts config good.nick in
+    let user : refusal queues Mode user_wish.line ≡ None =
+    not_refused queues user_wish.line (user_good (user_name config) config.nick parts.0 parts.1 good.nick) (omega arith) in
     ap (λ (o : Option QueueFault). with_line_fault o (put_faults InTurn (queued InTurn idle nick_wish) (user_wish ∷ []))) nick
     ∙ ap (λ (o : Option QueueFault). put_faults InTurn (queued_unless o InTurn idle nick_wish) (user_wish ∷ [])) nick
     ∙ ap (λ (o : Option QueueFault). with_line_fault o []) user

@@ -16,3 +16,4 @@ pub mod RunningLemmas
 pub mod SilentLemmas
 pub mod StickyLemmas
 pub mod StillLemmas
+pub mod SharingLemmas

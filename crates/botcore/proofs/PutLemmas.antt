@@ -1,5 +1,5 @@
 -- What puts leave of queues, and how it is taken back.
-use Rattle.std.proofs.Common.{◌≡◌, ◌∙◌, ℕ, ◌-◌, Result, Ok, Err, List, [], ◌∷◌, ◌++◌, length, take, refl, ap, sym, subst, append_assoc}
+use Rattle.std.proofs.Common.{◌≡◌, ◌∙◌, ℕ, ◌-◌, Bool, true, false, cond, Result, Ok, Err, List, [], ◌∷◌, ◌++◌, length, take, refl, ap, sym, subst, append_assoc}
 use Rattle.std.proofs.lemmas.List.{append-nil}
 use Rattle.std.proofs.Math.Seq.{take-append_seam}
 use Rattle.bytetext.specs.declared.failure.Failure.{Failure}
@@ -8,6 +8,7 @@ use Rattle.outqueue.specs.declared.fault.QueueFault.{QueueFault}
 use Rattle.outqueue.specs.declared.queue.Queue.{Queue}
 use Rattle.outqueue.specs.declared.queue.Queue.TheVariants.{Mode, Server, Help}
 use Rattle.outqueue.specs.declared.queues.Counts.{Counts}
+use Rattle.outqueue.specs.Once.{stands, put_once, PutsOnce}
 use Rattle.outqueue.specs.Refusals.{put_last, put_prompt, Puts, PutsPrompt}
 use Rattle.outqueue.specs.Sending.{Sending, Room, no_room, counts_of, with_first}
 use Rattle.procs.specs.declared.action.PutWish.{PutWish}
@@ -81,6 +82,21 @@ pub HasMoreLines_puts : {T : Type 0} (old new : Sending) (queue : Queue) (line :
 HasMoreLines_puts old new queue line (Ok done) puts = HasMoreLines_last old new queue line puts.1
 HasMoreLines_puts old new queue line (Err (Refused fault)) puts = HasMoreLines_same old new puts.1
 HasMoreLines_puts old new queue line (Err NoMemory) puts = HasMoreLines_same old new puts.1
+
+-- a line that stands already leaves no line more
+once_more : (old : Sending) (queue : Queue) (line : List ℕ) → HasMoreLines old (put_once old queue line)
+unfolding put_once
+once_more old queue line = by (stands old queue line)
+  where
+    by : (stands_already : Bool) → HasMoreLines old (cond stands_already old (put_last old queue line))
+    by true = HasMoreLines_same old old refl
+    by false = line_more old queue line
+
+pub HasMoreLines_once : {T : Type 0} (old new : Sending) (queue : Queue) (line : List ℕ) (result : Result T (Failure QueueFault))
+    → PutsOnce old queue line result new → HasMoreLines old new
+HasMoreLines_once old new queue line (Ok done) puts = subst (HasMoreLines old) (sym puts.1) (once_more old queue line)
+HasMoreLines_once old new queue line (Err (Refused fault)) puts = HasMoreLines_same old new puts.1
+HasMoreLines_once old new queue line (Err NoMemory) puts = HasMoreLines_same old new puts.2
 
 pub HasMoreLines_prompt : {T : Type 0} (old new : Sending) (line : List ℕ) (result : Result T (Failure QueueFault))
     → PutsPrompt old line result new → HasMoreLines old new

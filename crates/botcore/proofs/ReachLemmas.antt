@@ -11,10 +11,9 @@ use Rattle.procs.specs.declared.action.PutWish.{PutWish}
 use Rattle.procs.specs.declared.action.TimerName.{TimerName}
 use Rattle.procs.specs.declared.action.TimerWish.{TimerWish}
 use Rattle.outqueue.specs.declared.fault.QueueFault.{QueueFault}
-use Rattle.outqueue.specs.Refusals.{refusal}
 use Rattle.sharelink.specs.declared.answer.Outgoing.{Outgoing}
 use Rattle.sharelink.specs.declared.error.LinkFault.{LinkFault}
-use Rattle.botcore.specs.Acting.{Acting, acted, acted_all, asked_if, made_unless, timer_made, timer_of, killed_if, sent_if, put_unless}
+use Rattle.botcore.specs.Acting.{Acting, acted, acted_all, asked_if, made_unless, timer_made, timer_of, killed_if, sent_if, put_fault, put_unless}
 use Rattle.protocol.specs.Notes.{Note as Meaning, LinkFault as Meant}
 use Rattle.protocol.specs.Ends.{End}
 use Rattle.sharelink.specs.BotLinks.{BotEnd, asked}
@@ -61,7 +60,7 @@ acted_keeps a (timer_wished wish) reached = timer_keeps Minutes a wish reached
 acted_keeps a (Utimer wish) reached = timer_keeps Seconds a wish reached
 acted_keeps a (KillTimer name) reached = killed_keeps (holds_named a.timers name.proc name.text) a name reached
 acted_keeps a (SendBot wish) reached = sent_keeps (link_text a.link wish.to wish.text (length a.sent)) a reached
-acted_keeps a (Put wish) reached = put_keeps (refusal a.queues wish.queue wish.line) a wish reached
+acted_keeps a (Put wish) reached = put_keeps (put_fault a wish) a wish reached
 
 acted_all_keeps : (a : Acting) (xs : List Action) → IsReached a.timers.last a.last → Keeps a (acted_all a xs)
 acted_all_keeps a [] reached = (refl, reached)

@@ -11,7 +11,6 @@ use Rattle.bottimers.specs.declared.timer.TimerKind.TheVariants.{Minutes, Second
 use Rattle.bottimers.specs.Held.{Held, add_fault, with_timer, holds_named, without_named}
 use Rattle.procs.specs.declared.action.Action.{Action}
 use Rattle.outqueue.specs.declared.fault.QueueFault.{QueueFault}
-use Rattle.outqueue.specs.Refusals.{refusal, put_last}
 use Rattle.outqueue.specs.Sending.{Sending}
 use Rattle.procs.specs.declared.action.Action.TheVariants.{Ask, Timer as timer_wished, Utimer, KillTimer, SendBot, Put}
 use Rattle.procs.specs.declared.action.PutWish.{PutWish}
@@ -29,16 +28,19 @@ use Rattle.botcore.specs.declared.fault.StepFault.{StepFault}
 use Rattle.botcore.specs.declared.fault.StepFault.TheVariants.{Unbound as unbound_fault, Action as action_fault}
 use Rattle.procs.specs.declared.made_call.MadeCall.{MadeCall}
 use Rattle.procs.specs.declared.made_call.Unbound.{Unbound}
+use Rattle.botcore.specs.declared.manner.Manner.{Manner}
 use Rattle.botcore.specs.Links.{fault_told, link_text}
+use Rattle.botcore.specs.Putting.{placed, refusal_in}
 
 -- what actions change: the link, the timers, the texts to send, and the queues of lines for the server; new timers are
--- made at the last second
+-- made at the last second, and lines are queued in this manner
 pub record Acting : Type 0 where
   pub link : BotEnd
   pub timers : Held
   pub last : Option ℕ
   pub sent : List Outgoing
   pub queues : Sending
+  pub manner : Manner
 
 -- what an action leaves, and whether it is refused
 pub record Acted : Type 0 where
@@ -91,10 +93,14 @@ abbrev pub sent_if : Result (List Outgoing) LinkFault → Acting → Acted
 sent_if (Ok packets) old = done_to (record old { sent = old.sent ++ packets })
 sent_if (Err fault) old = refused_to old (link_fault fault)
 
--- a line is appended to its queue, unless the queue refuses it
+-- a line is put in this manner, unless it is refused
 abbrev pub put_unless : Option QueueFault → Acting → PutWish → Acted
 put_unless (Some fault) old wish = refused_to old (queue_fault fault)
-put_unless None old wish = done_to (record old { queues = put_last old.queues wish.queue wish.line })
+put_unless None old wish = done_to (record old { queues = placed old.manner old.queues wish })
+
+-- why the line is refused
+abbrev pub put_fault : Acting → PutWish → Option QueueFault
+put_fault old wish = refusal_in old.manner old.queues wish
 
 abbrev pub acted : Acting → Action → Acted
 acted old (Ask change) = asked_to old (asked old.link change)
@@ -102,7 +108,7 @@ acted old (timer_wished wish) = timer_made Minutes old wish
 acted old (Utimer wish) = timer_made Seconds old wish
 acted old (KillTimer name) = killed_if (holds_named old.timers name.proc name.text) old name
 acted old (SendBot wish) = sent_if (link_text old.link wish.to wish.text (length old.sent)) old
-acted old (Put wish) = put_unless (refusal old.queues wish.queue wish.line) old wish
+acted old (Put wish) = put_unless (put_fault old wish) old wish
 
 -- ---- all actions
 

@@ -6,8 +6,9 @@
 -- nick, nor the casemapping. The lines of other messages read nothing of the channels.
 --
 -- Nicks, channels, and the masks of bans are compared by the casemapping that the server has announced.
-use Rattle.std.specs.Prelude.{ℕ, ◌==◌, nat_lt, Bool, true, false, not, ◌&&◌, List, [], ◌∷◌, length, map, slice_get}
+use Rattle.std.specs.Prelude.{ℕ, ◌==◌, nat_lt, Bool, true, false, not, ◌&&◌, List, [], ◌∷◌, length, map, filter, take, slice_get}
 use Rattle.std.specs.Prelude.{if◌then◌else◌, codes, drop, Option, Some, None, unwrap_or}
+use Rattle.std.specs.Char.{is_ascii_alphanumeric}
 use Rattle.std.specs.List.{concat, filter_map, flat_map}
 use Rattle.std.specs.Option.{option_to_list}
 use Rattle.rfccase.specs.declared.casemappings.Casemapping.{Casemapping}
@@ -32,9 +33,10 @@ use Rattle.procs.specs.declared.action.PutWish.{PutWish}
 use Rattle.botcore.specs.declared.config.Config.{Config}
 use Rattle.botcore.specs.declared.manner.Manner.{Manner}
 use Rattle.botcore.specs.declared.manner.Manner.TheVariants.{InTurn, Prompt}
+use Rattle.botcore.specs.Putting.{usual}
 use Rattle.botcore.specs.declared.watched_command.WatchedCommand.{WatchedCommand}
 use Rattle.botcore.specs.declared.watched_command.WatchedCommand.TheVariants as cue
-use Rattle.botcore.specs.declared.limits.TheConstants.{MAX_NICK}
+use Rattle.botcore.specs.declared.limits.TheConstants.{MAX_NICK, MAX_USER}
 
 -- a line of these pieces, for this queue
 abbrev pub wish : Queue → List (List ℕ) → PutWish
@@ -47,11 +49,24 @@ if_there (Some text) wishes = wishes text
 
 -- ---- connect
 
+-- these bytes, or `bot` if there are none
+abbrev pub or_bot : List ℕ → List ℕ
+or_bot [] = codes "bot"
+or_bot (byte ∷ bytes) = byte ∷ bytes
+
+-- the first letters and digits of a nick: servers refuse a user name with other bytes
+abbrev pub user_of : List ℕ → List ℕ
+user_of nick = or_bot (take MAX_USER (filter is_ascii_alphanumeric nick))
+
+-- a bot that doesn't send at once has its nick as its user name
+abbrev pub user_name : Config → List ℕ
+user_name config = if config.sends_at_once then user_of config.nick else config.nick
+
 -- it registers under the nick of its configuration (RFC 2812 sections 3.1.2 and 3.1.3)
 abbrev pub greeting : Config → List PutWish
 greeting config =
     wish Mode (codes "NICK " ∷ config.nick ∷ []) ∷
-    wish Mode (codes "USER " ∷ config.nick ∷ codes " 0 * :" ∷ config.nick ∷ []) ∷
+    wish Mode (codes "USER " ∷ user_name config ∷ codes " 0 * :" ∷ config.nick ∷ []) ∷
     []
 
 -- ---- the server welcomes the bot, needs another nick, or checks that the bot is still connected
@@ -217,16 +232,17 @@ abbrev pub automatic_lines : Config → ChanState → List Ban → Option ℕ �
 automatic_lines config s bans last welcomed message =
     lines_by (cue_of message.command) config s bans last welcomed message
 
--- How a bot queues its lines for a command: each in its own queue. But a bot that sends at once puts its answer to a PING
--- before all queues, so that a server that waits for the answer doesn't drop the bot for the lines that wait there.
+-- How a bot queues its lines for a command: each in its own queue, and once if it sends at once. But a bot that sends at
+-- once puts its answer to a PING before all queues, so that a server that waits for the answer doesn't drop the bot for
+-- the lines that wait there.
 abbrev pub manner_by : WatchedCommand → Bool → Manner
 manner_by cue.Ping true = Prompt
 manner_by cue.Ping false = InTurn
-manner_by cue.Join at_once = InTurn
-manner_by cue.Mode at_once = InTurn
-manner_by cue.RplWelcome at_once = InTurn
-manner_by cue.ErrNicknameInUse at_once = InTurn
-manner_by cue.Other at_once = InTurn
+manner_by cue.Join at_once = usual at_once
+manner_by cue.Mode at_once = usual at_once
+manner_by cue.RplWelcome at_once = usual at_once
+manner_by cue.ErrNicknameInUse at_once = usual at_once
+manner_by cue.Other at_once = usual at_once
 
 abbrev pub manner_of : Config → Message → Manner
 manner_of config message = manner_by (cue_of message.command) config.sends_at_once

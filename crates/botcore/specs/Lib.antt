@@ -15,5 +15,6 @@ pub mod Quiet
 pub mod Reports
 pub mod Rising
 pub mod ServerLines
+pub mod Sharing
 pub mod Shown
 pub mod Steps

@@ -13,11 +13,18 @@ use Rattle.botcore.specs.Bots.{Bot}
 use Rattle.procs.specs.Dispatching.{has_raw_one}
 use Rattle.botcore.specs.Links.{link_records}
 use Rattle.procs.specs.Made.{entry_of}
-use Rattle.botcore.specs.Putting.{put_all, put_faults}
+use Rattle.botcore.specs.Putting.{put_all, put_faults, usual}
 
 -- before the first action
 abbrev pub acting_of : Bot → Acting
-acting_of bot = record { link = bot.link; timers = bot.timers; last = bot.clock; sent = []; queues = bot.queues }
+acting_of bot = record {
+  link = bot.link;
+  timers = bot.timers;
+  last = bot.clock;
+  sent = [];
+  queues = bot.queues;
+  manner = usual bot.config.sends_at_once;
+}
 
 -- the bot after actions
 abbrev pub left_by : Bot → Acting → Bot

@@ -7,6 +7,7 @@ use Rattle.userfile.specs.declared.change.Change.{Change}
 use Rattle.procs.specs.declared.action.Action.{Action}
 use Rattle.sharelink.specs.declared.answer.Outgoing.{Outgoing}
 use Rattle.botcore.specs.declared.fault.StepFault.{StepFault}
+use Rattle.botcore.specs.declared.manner.Manner.{Manner}
 use Rattle.sharelink.specs.BotLinks.{BotEnd, keeps_asks}
 use Rattle.botcore.specs.Acting.{Acting, Acted, acted_all, with_fault, action_faults}
 use Rattle.botcore.specs.Bots.{Bot}
@@ -19,12 +20,20 @@ pub record Progress : Type 0 where
   pub last : Option ℕ
   pub sent : List Outgoing
   pub queues : Sending
+  pub manner : Manner
   pub faults : List StepFault
 
 -- all that actions change
 abbrev pub acting_at : BotEnd → Progress → Acting
 acting_at link doing =
-    record { link = link; timers = doing.timers; last = doing.last; sent = doing.sent; queues = doing.queues }
+    record {
+      link = link;
+      timers = doing.timers;
+      last = doing.last;
+      sent = doing.sent;
+      queues = doing.queues;
+      manner = doing.manner;
+    }
 
 -- one action left this, and its refusal is appended to the faults
 pub record Leaves (old : Progress) (acted : Acted) (link : BotEnd) (new : Progress) : Type 0 where

@@ -1,27 +1,35 @@
--- What becomes of lines that a bot queues by itself: each is put last in its queue, or after the answers to PING, unless
--- it is refused there.
-use Rattle.std.specs.Prelude.{◌≡◌, ℕ, List, [], ◌∷◌, ◌++◌, Option, Some, None, Result, Ok, Err}
+-- What becomes of lines that a bot queues: each is put last in its queue, once if the bot sends at once, or after the
+-- answers to PING, unless it is refused there.
+use Rattle.std.specs.Prelude.{◌≡◌, ℕ, Bool, true, false, List, [], ◌∷◌, ◌++◌, Option, Some, None, Result, Ok, Err}
 use Rattle.bytetext.specs.declared.failure.Failure.{Failure}
 use Rattle.bytetext.specs.declared.failure.Failure.TheVariants.{Refused, NoMemory}
 use Rattle.outqueue.specs.declared.fault.QueueFault.{QueueFault}
+use Rattle.outqueue.specs.Once.{once_refusal, put_once}
 use Rattle.outqueue.specs.Refusals.{refusal, put_last, prompt_refusal, put_prompt}
 use Rattle.outqueue.specs.Sending.{Sending, no_room}
 use Rattle.procs.specs.declared.action.PutWish.{PutWish}
 use Rattle.botcore.specs.declared.fault.StepFault.{StepFault}
 use Rattle.botcore.specs.declared.fault.StepFault.TheVariants.{Line as line_fault}
 use Rattle.botcore.specs.declared.manner.Manner.{Manner}
-use Rattle.botcore.specs.declared.manner.Manner.TheVariants.{InTurn, Prompt}
+use Rattle.botcore.specs.declared.manner.Manner.TheVariants.{InTurn, Once, Prompt}
 
 -- ---- one line
+
+-- how a bot queues a line that is no answer to PING: once if it sends at once
+abbrev pub usual : Bool → Manner
+usual true = Once
+usual false = InTurn
 
 -- why it is refused
 abbrev pub refusal_in : Manner → Sending → PutWish → Option QueueFault
 refusal_in InTurn queues wish = refusal queues wish.queue wish.line
+refusal_in Once queues wish = once_refusal queues wish.queue wish.line
 refusal_in Prompt queues wish = prompt_refusal queues wish.line
 
 -- where it waits, if it isn't refused
 abbrev pub placed : Manner → Sending → PutWish → Sending
 placed InTurn queues wish = put_last queues wish.queue wish.line
+placed Once queues wish = put_once queues wish.queue wish.line
 placed Prompt queues wish = put_prompt queues wish.line
 
 abbrev pub queued_unless : Option QueueFault → Manner → Sending → PutWish → Sending

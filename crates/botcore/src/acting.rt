@@ -1,6 +1,8 @@
 // Carries out the actions of calls.
 
 use crate::fault::{ActionFault, StepFault};
+use crate::manner::Manner;
+use crate::putting::put_in;
 use crate::report::Faults;
 use bottimers::{TimerKind, Timers};
 use bytetext::{Failure, NoMemory, Seq, TryCopy};
@@ -23,6 +25,8 @@ pub(crate) struct Doing {
     pub(crate) sent: Outgoings,
     // The lines for the server.
     pub(crate) queues: Queues,
+    // How lines are queued.
+    pub(crate) manner: Manner,
     // What went wrong.
     pub(crate) faults: Faults,
 }
@@ -35,7 +39,14 @@ impl Model for Doing {
 
     ghost Value = { Progress };
 
-    ghost view = { λ d. record { timers = d.timers; last = d.last; sent = d.sent; queues = d.queues; faults = d.faults } };
+    ghost view = { λ d. record {
+      timers = d.timers;
+      last = d.last;
+      sent = d.sent;
+      queues = d.queues;
+      manner = d.manner;
+      faults = d.faults;
+    } };
 
     ghost invariant = { λ d. IsNotBelow d.timers.last d.last × (length d.sent ≤ MAX_TEXTS) };
 }
@@ -45,10 +56,9 @@ impl Doing {
     ghost use Rattle.bottimers.specs.Held.{IsNotBelow, holds_named};
     ghost use Rattle.botcore.specs.declared.fault.StepFault.TheVariants.{Action as action_fault};
     ghost use Rattle.sharelink.specs.BotLinks.{BotEnd, asked};
-    ghost use Rattle.botcore.specs.Acting.{acted, actions_of, asked_to, killed_if, put_unless, sent_if, timer_made};
+    ghost use Rattle.botcore.specs.Acting.{acted, actions_of, asked_to, killed_if, put_fault, put_unless, sent_if, timer_made};
     ghost use Rattle.botcore.specs.Links.{link_text};
     ghost use Rattle.botcore.specs.Putting.{HasMoreLines};
-    ghost use Rattle.outqueue.specs.Refusals.{refusal};
     ghost use Rattle.botcore.specs.Progress.{HasMoreAsks, Leaves, LeavesAll, acting_at};
 
     // Creates the state before the first action. Does not allocate.
@@ -57,16 +67,25 @@ impl Doing {
         timers: Timers,
         last: Option<u64>,
         queues: Queues,
+        manner: Manner,
         faults: Faults,
     ) -> Doing
         requires { IsNotBelow timers.last last }
-        ensures { result ≡ record { timers = timers; last = last; sent = []; queues = queues; faults = faults } }
+        ensures { result ≡ record {
+          timers = timers;
+          last = last;
+          sent = [];
+          queues = queues;
+          manner = manner;
+          faults = faults;
+        } }
     {
         Doing {
             timers,
             last,
             sent: Seq::empty(alloc),
             queues,
+            manner,
             faults,
         }
     }
@@ -206,14 +225,14 @@ impl Doing {
     }
 
     // Queues a line, or records why not.
-    #[tactic(auto, using(crate::proofs::PutLemmas::HasMoreLines_same, crate::proofs::PutLemmas::HasMoreLines_last))]
+    #[tactic(auto, using(crate::proofs::PutLemmas::HasMoreLines_same))]
     fn put(&mut self, alloc: Global, wish: &PutWish) -> Result<(), NoMemory>
         ensures done { OnOk result ((link : BotEnd) → Leaves self.old (put_unless
-            (refusal self.old.queues wish.now.queue wish.now.line) (acting_at link self.old) wish.now) link self.new) }
+            (put_fault (acting_at link self.old) wish.now) (acting_at link self.old) wish.now) link self.new) }
         ensures lines { HasMoreLines self.old.queues self.new.queues }
     {
-        let line = wish.line.copy(alloc)?;
-        match self.queues.put(wish.queue, line) {
+        let wish = wish.copy(alloc)?;
+        match put_in(&mut self.queues, self.manner, wish) {
             Ok(()) => Ok(()),
             Err(Failure::Refused(fault)) => self.tell(ActionFault::Queue(fault)),
             Err(Failure::NoMemory) => Err(NoMemory),

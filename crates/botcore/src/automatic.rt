@@ -9,6 +9,7 @@ use crate::joining::on_join;
 use crate::limits::MAX_NICK;
 use crate::manner::Manner;
 use crate::sticky::on_mode;
+use crate::user::user_name;
 use crate::watched_command::{WatchedCommand, cue_of};
 use crate::wish::{alone, wish};
 use bytetext::{NoMemory, Text};
@@ -97,7 +98,7 @@ fn manner_by(cue: WatchedCommand, at_once: bool) -> Manner
         | WatchedCommand::Mode
         | WatchedCommand::RplWelcome
         | WatchedCommand::ErrNicknameInUse
-        | WatchedCommand::Other => Manner::InTurn,
+        | WatchedCommand::Other => Manner::usual(at_once),
     }
 }
 
@@ -127,9 +128,14 @@ pub(crate) fn greeting(alloc: Global, config: &Config) -> Result<Vec<PutWish>, N
     ensures { IfOk result (λ wishes. wishes.items ≡ greeting config.now) }
 {
     let nick = config.nick.as_bytes();
+    let user = user_name(alloc, config)?;
     let mut wishes = Vec::new(alloc);
     wishes.push(wish(alloc, Queue::Mode, &[b"NICK ", nick])?)?;
-    wishes.push(wish(alloc, Queue::Mode, &[b"USER ", nick, b" 0 * :", nick])?)?;
+    wishes.push(wish(
+        alloc,
+        Queue::Mode,
+        &[b"USER ", user.as_bytes(), b" 0 * :", nick],
+    )?)?;
     Ok(wishes)
 }
 

@@ -8,7 +8,7 @@ ghost use Rattle.userfile.specs.declared.ban.Ban.{Ban};
 ghost use Rattle.chanstate.specs.declared.state.ChanState.{ChanState};
 ghost use Rattle.chanstate.specs.Steps.{after};
 ghost use Rattle.botcore.specs.declared.config.Config.{Config};
-ghost use Rattle.botcore.specs.declared.manner.Manner.TheVariants.{InTurn};
+ghost use Rattle.botcore.specs.declared.manner.Manner.TheVariants.{InTurn, Once};
 ghost use Rattle.botcore.specs.declared.watched_command.WatchedCommand.TheVariants.{Mode, Ping};
 ghost use Rattle.botcore.specs.Automatic.{automatic_lines, cue_of, manner_of, pong};
 ghost use Rattle.botcore.specs.Putting.{put_all};
@@ -23,8 +23,8 @@ pub fn laws_of_automatic_lines()
 {}
 
 /// States laws and does nothing. If a bot sends at once, it queues for a PING one PONG, which waits for earlier PONGs alone:
-/// for no line of a queue, unless 500 PONGs wait or the PONG is too long for a line. If it doesn't send at once, all its
-/// lines wait in their queues.
+/// for no line of a queue, unless 500 PONGs wait or the PONG is too long for a line. Its other lines stand once. If it doesn't
+/// send at once, all its lines wait in their queues.
 pub fn laws_of_answers()
     ensures at_once { (config : Config) (s : ChanState) (bans : List Ban) (last : Option ℕ) (welcomed : Bool)
         (message : Message) (text : List ℕ) (queues : Sending) → config.sends_at_once ≡ true
@@ -32,6 +32,8 @@ pub fn laws_of_answers()
         → prompt_refusal queues (canonical (pong text)) ≡ None
         → put_all (manner_of config message) queues (automatic_lines config s bans last welcomed message)
         ≡ put_prompt queues (canonical (pong text)) }
+    ensures once { (config : Config) (message : Message) → config.sends_at_once ≡ true
+        → cue_of message.command ≢ Ping → manner_of config message ≡ Once }
     ensures in_turn { (config : Config) (message : Message) → config.sends_at_once ≡ false
         → manner_of config message ≡ InTurn }
 {}

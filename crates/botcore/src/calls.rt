@@ -6,6 +6,7 @@ ghost use Rattle.botcore.specs.Acting.{actions_of};
 use crate::acting::Doing;
 use crate::bot::Bot;
 use crate::fault::StepFault;
+use crate::manner::Manner;
 use crate::report::Faults;
 use bottimers::Timers;
 use bytetext::{NoMemory, Seq, Texts, TryCopy};
@@ -100,7 +101,8 @@ impl<D: Disk> Bot<D> {
         }
         let timers = self.timers.copy(alloc)?;
         let queues = self.queues.take(alloc)?;
-        let mut doing = Doing::new(alloc, timers, self.clock.last(), queues, faults);
+        let manner = Manner::usual(self.config.sends_at_once);
+        let mut doing = Doing::new(alloc, timers, self.clock.last(), queues, manner, faults);
         let done = doing.act_for(alloc, &mut self.link, calls);
         self.queues.set(doing.queues);
         done?;

@@ -28,6 +28,9 @@ pub struct Config {
     /// Whether a text for which a `msgm` or `pubm` proc was called is not an event for `msg` or `pub` binds.
     pub exclusive: bool,
     /// Whether lines leave at any reading of the clock that the pace allows, and not only at one of a new second.
+    /// Answers to PING then wait for no queue, other lines are queued by
+    /// [`Queues::put_once`](outqueue::Queues::put_once), and the user name is the first 10 letters and digits of the nick,
+    /// or `bot` if it has none.
     pub sends_at_once: bool,
     /// How far its clock is ahead of UTC.
     pub zone: Zone,

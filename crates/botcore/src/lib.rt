@@ -46,8 +46,10 @@ mod reading;
 mod report;
 mod running;
 mod server_lines;
+mod sharing;
 mod step;
 mod sticky;
+mod user;
 mod watched_command;
 mod wish;
 
@@ -59,3 +61,4 @@ pub use crate::fault::{ActionFault, BotError, BotFault, Refusal, StepFault};
 pub use crate::limits::MAX_NICK;
 pub use crate::making::UnopenedBot;
 pub use crate::report::{End, Faults, Note, Report};
+pub use crate::sharing::laws_of_sharing;

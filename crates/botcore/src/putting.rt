@@ -46,13 +46,14 @@ fn put_one(
 }
 
 // Queues a line in this manner.
-#[tactic(auto, using(crate::proofs::PutLemmas::HasMoreLines_puts, crate::proofs::PutLemmas::HasMoreLines_prompt))]
-fn put_in(queues: &mut Queues, manner: Manner, wish: PutWish) -> Result<(), PutError>
+#[tactic(auto, using(crate::proofs::PutLemmas::HasMoreLines_puts, crate::proofs::PutLemmas::HasMoreLines_once, crate::proofs::PutLemmas::HasMoreLines_prompt))]
+pub(crate) fn put_in(queues: &mut Queues, manner: Manner, wish: PutWish) -> Result<(), PutError>
     ensures puts { PutsIn manner queues.old wish result queues.new }
     ensures kept { HasMoreLines queues.old queues.new }
 {
     match manner {
         Manner::InTurn => queues.put(wish.queue, wish.line),
+        Manner::Once => queues.put_once(wish.queue, wish.line),
         Manner::Prompt => queues.put_prompt(wish.line),
     }
 }

@@ -1,6 +1,6 @@
 -- A turn in which changes are asked for, and turns one after another.
-use Rattle.std.proofs.Common.{◌≡◌, ℕ, zero, suc, Bool, true, false, not, List, Option, refl, sym, subst}
-use Rattle.std.specs.List.{AllByRecursion}
+use Rattle.std.proofs.Common.{◌≡◌, ℕ, zero, suc, Bool, true, false, not, cond, List, [], ◌∷◌, Option, refl, sym, subst}
+use Rattle.std.specs.List.{AllByRecursion, filter}
 use Rattle.sharewire.specs.declared.packet.Packet.{Packet}
 use Rattle.userfile.specs.declared.change.Change.{Change}
 use Rattle.procs.specs.Promises.{Promised}
@@ -10,6 +10,8 @@ use Rattle.turns.specs.declared.turn.Told.{Told}
 use Rattle.turns.specs.Turns.{Turns}
 use Rattle.net.specs.Connections.{Talk}
 use Rattle.administrators.specs.declared.change_outcome.ChangeOutcome.{ChangeOutcome}
+use Rattle.peers.specs.Picking.{is_request}
+use Rattle.peers.specs.Tells.{granted}
 use Rattle.upkeep.specs.Spaces.{admitted}
 use Rattle.botrun.specs.Outcomes.{outcome_of}
 use Rattle.botrun.specs.Passing.{told_of}
@@ -97,3 +99,23 @@ all_admitted Holds has_room waiting packets is all =
     by : (room : Bool) → AllByRecursion Holds (admitted room waiting)
     by true = all
     by false = tt
+
+-- the same of those that are taken while a hub may be handed over
+pub all_taken : (Holds : Packet → Type 0) (hands_over : Bool) (waiting packets : List Packet) → packets ≡ granted hands_over waiting
+    → AllByRecursion Holds waiting → AllByRecursion Holds packets
+all_taken Holds hands_over waiting packets is all =
+    subst (λ (p : List Packet). AllByRecursion Holds p) (sym is) (by hands_over)
+  where
+    one : (test : Bool) (packet : Packet) (rest : List Packet) → Holds packet → AllByRecursion Holds rest
+        → AllByRecursion Holds (cond test (packet ∷ rest) rest)
+    one true packet rest holds more = (holds, more)
+    one false packet rest holds more = more
+
+    some : (packets : List Packet) → AllByRecursion Holds packets → AllByRecursion Holds (filter (λ packet. not (is_request packet)) packets)
+    some [] holds = tt
+    some (packet ∷ packets) holds =
+        one (not (is_request packet)) packet (filter (λ packet. not (is_request packet)) packets) holds.0 (some packets holds.1)
+
+    by : (held : Bool) → AllByRecursion Holds (granted held waiting)
+    by true = some waiting all
+    by false = all

@@ -5,3 +5,4 @@ pub mod Passing
 pub mod Renewals
 pub mod Taking
 pub mod Watched
+pub mod Trusting

@@ -9,7 +9,7 @@ use Rattle.turns.specs.declared.turn.Told.{Told}
 use Rattle.turns.specs.Turns.{Turns}
 use Rattle.administrators.specs.declared.change_outcome.ChangeOutcome.{ChangeOutcome}
 use Rattle.peers.specs.declared.links.Links.{Links}
-use Rattle.peers.specs.Tells.{TakesPackets}
+use Rattle.peers.specs.Tells.{TakesPackets, granted}
 use Rattle.net.specs.Connections.{Talk}
 use Rattle.upkeep.specs.Spaces.{admitted}
 use Rattle.botrun.specs.Outcomes.{outcome_of}
@@ -64,15 +64,15 @@ pub record GoesOn (promised : Promised)
   pub turns : TakesQuietTurns count promised names old held new after
 
 -- A turn takes exactly these bytes from the server, and the packets that are taken from these connections: none of them
--- if there is no room. The bot goes on from that turn by turns in which nothing is heard.
+-- if there is no room, and no request among them while the hub is being handed over. The bot goes on from that turn by turns in which nothing is heard.
 pub record Hears (promised : Promised) (names : List (List ℕ)) (old : Bot) (held bytes : List ℕ)
-    (has_room : Bool) (links : Links) (new : Bot) (after : List ℕ) : Type 0 where
+    (has_room hands_over : Bool) (links : Links) (new : Bot) (after : List ℕ) : Type 0 where
   pub heard : Heard
   pub same : heard.bytes.items ≡ bytes
   pub waiting : List Packet
   pub left : Links
   pub taken : TakesPackets links waiting left
-  pub packets : heard.packets.items ≡ admitted has_room waiting
+  pub packets : heard.packets.items ≡ admitted has_room (granted hands_over waiting)
   pub told : Told
   pub mid : Bot
   pub between : List ℕ

@@ -3,7 +3,7 @@ ghost use Rattle.std.specs.Prelude.{◌≡◌, ◌<◌, ◌∷◌, [], IfOk, IfS
 ghost use Rattle.bytetext.specs.declared.moment.TheConstants.{MOMENTS_END};
 ghost use Rattle.watching.specs.Acts.{Forgets, MayBegin, NumbersAbove};
 ghost use Rattle.watching.specs.Following.{Allows, HasBegun, IsAt, IsReported, IsSettled, IsUp, IsWatched, Lets};
-ghost use Rattle.botrun.specs.Renewals.{HasNoRecords};
+ghost use Rattle.botrun.specs.Renewals.{HasNoRecords, LeavesAsTold, RenewsWithout};
 ghost use Rattle.upkeep.specs.Stations.{IsKnownWhereWanted, IsLinkedAs};
 ghost use Rattle.botrun.specs.Watched.{station_of};
 
@@ -29,15 +29,33 @@ use std::rt::Files;
 use std::time::Clock;
 use turns::watched_step;
 use upkeep::{
-    Bases, Reloading, RunError, account_of, check, door_of, folder_of, forget_journal, links_of,
-    log_of, page_of, secret_of, space_of, uplink_of, wait, warn,
+    Bases, FloodWatch, Reloading, RunError, account_of, check, door_of, folder_of, forget_journal,
+    links_of, log_of, page_of, secret_of, space_of, uplink_of, wait, warn,
 };
 use watching::Watcher;
+
+/// Why a bot's process has ended without an error.
+#[derive(Clone, Copy, Debug, PartialEq, Eq)]
+pub enum RunEnd {
+    /// An admin asked for it, or a hub was handed over.
+    Ended,
+    /// The bot is a leaf whose hub is the heir of its net: put its journal aside, and run it again, as a new leaf.
+    Moves,
+}
+
+// Why a bot makes no more turns.
+#[derive(Clone, Copy)]
+enum LifeEnd {
+    // The leaf has to begin again, with requests numbered above this number.
+    BeginsAbove(u32),
+    // The whole process has ended.
+    Whole(RunEnd),
+}
 
 // The most events that one wait reports.
 const EVENTS: usize = 64;
 
-/// Runs the bot of `settings` until an admin ends it. Its binds call the procs of `store`. If an admin says so, it reads
+/// Runs the bot of `settings` until an admin ends it, or it has to leave its net. Its binds call the procs of `store`. If an admin says so, it reads
 /// `file` again, the file of these settings, and takes all of it or nothing.
 ///
 /// # Errors
@@ -65,7 +83,7 @@ pub fn run<R, P: Promise, B: Run, W: Watcher>(
     settings: &mut Settings,
     file: &str,
     watcher: &mut W,
-) -> Result<(), RunError>
+) -> Result<RunEnd, RunError>
 where
     R: AllocGlobal + Net + Clock + Files<File = File> + Print + RandomSource,
     requires unwatched { W.past watcher.old ≡ [] }
@@ -82,8 +100,7 @@ where
     ended
 }
 
-// Takes the folder, and runs the bot there until an admin ends it. A leaf that has to begin again begins there with a new
-// journal.
+// Takes the folder, and runs the bot there until it ends. A leaf that has to begin again begins there with a new journal.
 fn run_logged<R, P: Promise, B: Run, W: Watcher>(
     rt: &R,
     log: &mut Log,
@@ -92,7 +109,7 @@ fn run_logged<R, P: Promise, B: Run, W: Watcher>(
     file: &str,
     secret: Option<Secret>,
     watcher: &mut W,
-) -> Result<(), RunError>
+) -> Result<RunEnd, RunError>
 where
     R: AllocGlobal + Net + Clock + Files<File = File> + Print + RandomSource,
     requires some { 0 < length settings.old.servers }
@@ -124,17 +141,17 @@ where
             settings,
             watcher,
         )? {
-            Some(above) => {
+            LifeEnd::BeginsAbove(above) => {
                 folder = give_up(rt, process, watcher)?;
                 last = above;
             }
-            None => {
+            LifeEnd::Whole(end) => {
                 let _gone = process.folder.clear_control(rt);
-                break;
+                return Ok(end);
             }
         }
     }
-    Ok(())
+    Ok(RunEnd::Ended)
 }
 
 // Ends the connections of a bot without records, and forgets its journal.
@@ -153,8 +170,7 @@ fn give_up<R: AllocGlobal + Files<File = File>, W: Watcher>(
     Ok(folder)
 }
 
-// Makes turns until an admin ends the bot. Serves the page and writes the log at the end of each turn. If a leaf has to
-// begin again, returns the number above which its requests are to be numbered.
+// Makes turns until the bot ends, or has to begin again. Serves the page and writes the log at the end of each turn.
 fn make_turns<R, P: Promise, B: Run, W: Watcher>(
     rt: &R,
     log: &mut Log,
@@ -165,7 +181,7 @@ fn make_turns<R, P: Promise, B: Run, W: Watcher>(
     store: &ProcStore<P, B>,
     settings: &mut Settings,
     watcher: &mut W,
-) -> Result<Option<u32>, RunError>
+) -> Result<LifeEnd, RunError>
 where
     R: AllocGlobal + Net + Clock + Files<File = File> + Print + RandomSource,
     requires up { IsUp P.promised store.now (station_of settings.old) W.may (W.past watcher.old) process.old.bot
@@ -174,7 +190,9 @@ where
     ensures station { settings.new.station ≡ settings.old.station }
     ensures some { 0 < length settings.old.servers → 0 < length settings.new.servers }
     // A bot with records never begins again.
-    ensures again { IfOk result (λ above. IfSome above (λ _. HasNoRecords process.new.bot)) }
+    ensures again { IfOk result (λ end. RenewsWithout end process.new.bot) }
+    // A leaf leaves its net only as it was told.
+    ensures moves { IfOk result (λ end. LeavesAsTold end process.new.others.mail.links) }
     ensures at { IfOk result (λ _.
         IsAt P.promised store.now (station_of settings.new) W.may (W.past watcher.new) process.new.bot) }
 {
@@ -193,15 +211,16 @@ where
             Turned::Busy | Turned::Rests => {}
             Turned::BeginsAbove(last) => {
                 log.note(seconds.wall, &LogEntry::BeginsAbove(last));
-                return Ok(Some(last));
+                return Ok(LifeEnd::BeginsAbove(last));
             }
+            Turned::Moves => return Ok(LifeEnd::Whole(RunEnd::Moves)),
             Turned::Ended => {
                 log.note(seconds.wall, &LogEntry::Ended);
                 break;
             }
         }
     }
-    Ok(None)
+    Ok(LifeEnd::Whole(RunEnd::Ended))
 }
 
 // Creates the process of the bot in a folder. It is not connected to anybody yet. If the folder holds no journal, a
@@ -245,6 +264,7 @@ where
         bot,
         lines: LineReader::new(rt.alloc()),
         uplink,
+        floods: FloodWatch::new(rt.alloc(), settings.floods)?,
         admins,
         others: Others::new(rt.alloc(), links),
         bases,
@@ -253,6 +273,7 @@ where
         space,
         until: None,
         reloading: Reloading::new(rt.alloc(), file)?,
+        obeyed: None,
     })
 }
 

@@ -18,7 +18,7 @@ use recordtext::put_records;
 use settings::{BindWords, Settings};
 use std::alloc::Global;
 use turns::watched_step;
-use upkeep::{RunError, no_bind_answer};
+use upkeep::{RunError, no_bind_answer, status_json, status_of, tell_changes};
 use userfile::Change;
 use watching::Watcher;
 
@@ -65,6 +65,47 @@ impl Process {
             ChangeOutcome::Nothing => Ok(Vec::from_slice(rt.alloc(), b"compacted\n")?),
             outcome => Ok(change_answer(rt.alloc(), outcome)?),
         }
+    }
+
+    // The accepted changes that the journal holds, from number `from` on.
+    pub(crate) fn changes(
+        &self,
+        alloc: Global,
+        settings: &Settings,
+        from: u32,
+    ) -> Result<Vec<u8>, RunError> {
+        let (held, version) = (self.bot.accepted(), self.bot.version());
+        Ok(tell_changes(alloc, settings, held, version, from)?)
+    }
+
+    // The bot's status.
+    pub(crate) fn status(
+        &self,
+        alloc: Global,
+        settings: &Settings,
+        now: u64,
+    ) -> Result<Vec<u8>, RunError> {
+        let (version, nick) = (self.bot.version(), self.bot.own_nick());
+        let (links, asks) = (&self.others.mail.links, &self.others.asks);
+        let (uplink, admins, floods) = (&self.uplink, &self.admins, &self.floods);
+        Ok(status_of(
+            alloc, version, nick, uplink, links, asks, admins, floods, settings, now,
+        )?)
+    }
+
+    // The bot's status, as a line of JSON.
+    pub(crate) fn status_json(
+        &self,
+        alloc: Global,
+        settings: &Settings,
+        now: u64,
+    ) -> Result<Vec<u8>, RunError> {
+        let (version, nick) = (self.bot.version(), self.bot.own_nick());
+        let (links, asks) = (&self.others.mail.links, &self.others.asks);
+        let (uplink, admins, floods) = (&self.uplink, &self.admins, &self.floods);
+        Ok(status_json(
+            alloc, version, nick, uplink, links, asks, admins, floods, settings, now,
+        )?)
     }
 }
 

@@ -38,6 +38,17 @@
 //! how many of them it has replied to. The leaf then begins again in the same folder, with a journal whose requests are
 //! numbered above them, so no reply of the past is taken for one of its own. Only a leaf that has no records yet does so.
 //!
+//! # A leaf that moves
+//!
+//! If the hub that a leaf finds is the heir of its net, and shows the right code, the leaf leaves its net: [`run`] returns
+//! [`RunEnd::Moves`]. Put the leaf's journal aside then, and call [`run`] again: it begins as a new leaf of the heir's net.
+//!
+//! # A hub that is handed over
+//!
+//! If an admin says `handover N` at a hub, it takes no change any more: it refuses those of admins, takes no requests of
+//! its leaves, and lets the changes of its own procs wait. Once leaf N has shown that it is at the hub's version, the hub
+//! ends. If that takes longer than 50 seconds, the hub takes changes again.
+//!
 //! # A hub in doubt
 //!
 //! If a leaf has records that the hub lacks, or other records at the hub's version, the hub may be an older copy of
@@ -81,6 +92,7 @@ mod answering;
 mod binding;
 mod bot_process;
 mod deeds;
+mod handing_over;
 mod looking;
 mod obeying;
 mod others;
@@ -95,8 +107,9 @@ mod reloading;
 mod starting;
 mod steps;
 mod sum_logging;
+mod trusting;
 
-pub use crate::bot_process::run;
+pub use crate::bot_process::{RunEnd, run};
 pub use administrators::{MAX_ADMINS, MAX_UNSENT};
 pub use recordsums::sum_of;
 pub use upkeep::{AccountFault, RunError, Subject, check, file_bytes};

@@ -17,10 +17,7 @@ use settings::Settings;
 use std::fs::File;
 use std::net::Net;
 use std::rt::Files;
-use upkeep::{
-    RunError, backup, die, join, jump, part, refusal, renew, reopen, say, status_json, status_of,
-    tell_changes, trust,
-};
+use upkeep::{RunError, backup, die, join, jump, part, refusal, renew, reopen, say, trust};
 use watching::Watcher;
 
 // The most commands of each admin that one turn executes. The changes of a turn go to each other bot in one write,
@@ -87,10 +84,13 @@ impl Process {
             if let Some(command) = self.admins.take_command(rt.alloc(), place)? {
                 // At a leaf, changes are answered later, since the hub accepts them.
                 self.others.asks.asker = if is_leaf { Some(command.number) } else { None };
+                self.obeyed = Some(command.number);
                 let line = command.line.as_slice();
                 let answer = self.obey(rt, log, store, settings, line, now, watcher)?;
                 self.others.asks.asker = None;
-                self.admins.tell(command.number, answer.as_slice())?;
+                if self.obeyed.is_some() {
+                    self.admins.tell(command.number, answer.as_slice())?;
+                }
                 obeyed = true;
             }
         }
@@ -122,7 +122,9 @@ impl Process {
             Err(Failure::NoMemory) => return Err(RunError::NoMemory),
         };
         log_command(log, &command, line, now);
-        if let Some(refusal) = refusal(alloc, &self.others.mail.links, &self.space, &command)? {
+        let hands_over = self.others.hands_over();
+        let links = &self.others.mail.links;
+        if let Some(refusal) = refusal(alloc, links, &self.space, hands_over, &command)? {
             return Ok(refusal);
         }
         self.execute(rt, log, store, settings, command, now, watcher)
@@ -153,46 +155,9 @@ impl Process {
             }
             AdminCommand::Show => show(alloc, &self.bot, settings),
             AdminCommand::ShowJson => Ok(show_json(alloc, &self.bot, settings)?),
-            AdminCommand::Changes(from) => {
-                let (held, version) = (self.bot.accepted(), self.bot.version());
-                Ok(tell_changes(alloc, settings, held, version, from)?)
-            }
-            AdminCommand::Status => {
-                let (version, nick, uplink) = (
-                    self.bot.version(),
-                    self.bot.own_nick(),
-                    &self.uplink,
-                );
-                let (links, asks) = (&self.others.mail.links, &self.others.asks);
-                Ok(status_of(
-                    alloc,
-                    version,
-                    nick,
-                    uplink,
-                    links,
-                    asks,
-                    &self.admins,
-                    settings,
-                )?)
-            }
-            AdminCommand::StatusJson => {
-                let (version, nick, uplink) = (
-                    self.bot.version(),
-                    self.bot.own_nick(),
-                    &self.uplink,
-                );
-                let (links, asks) = (&self.others.mail.links, &self.others.asks);
-                Ok(status_json(
-                    alloc,
-                    version,
-                    nick,
-                    uplink,
-                    links,
-                    asks,
-                    &self.admins,
-                    settings,
-                )?)
-            }
+            AdminCommand::Changes(from) => self.changes(alloc, settings, from),
+            AdminCommand::Status => self.status(alloc, settings, now),
+            AdminCommand::StatusJson => self.status_json(alloc, settings, now),
             AdminCommand::Bind(words) => bind(alloc, &mut self.bot, store, &words, watcher),
             AdminCommand::Unbind(words) => unbind(alloc, &mut self.bot, store, words, watcher),
             AdminCommand::Say(line) => say(alloc, &mut self.uplink, line),
@@ -203,6 +168,7 @@ impl Process {
                 renew(rt, log, &self.folder, links, settings, leaf, now)
             }
             AdminCommand::Trust => trust(rt, &self.folder, &mut self.others.mail.links, settings),
+            AdminCommand::HandOver(leaf) => self.begin_hand_over(rt, log, settings, leaf, now),
             AdminCommand::Reload => {
                 let (bot, uplink) = (&mut self.bot, &mut self.uplink);
                 let reloading = &mut self.reloading;
@@ -216,6 +182,7 @@ impl Process {
             }
             AdminCommand::Join(words) => join(alloc, &mut self.uplink, words, settings, now),
             AdminCommand::Part(channel) => part(alloc, &mut self.uplink, &channel),
+            AdminCommand::Unignore(key) => Ok(self.floods.forgive(alloc, &key, now)?),
             AdminCommand::Die(text) => {
                 let until = &mut self.until;
                 die(rt, log, &mut self.uplink, until, settings, &text, now)
@@ -250,6 +217,7 @@ fn log_command(log: &mut Log, command: &AdminCommand, line: &[u8], now: u64) {
         | AdminCommand::Jump
         | AdminCommand::Renew(_)
         | AdminCommand::Trust
+        | AdminCommand::HandOver(_)
         | AdminCommand::Reload
         | AdminCommand::Reopen
         | AdminCommand::Backup(_)
@@ -260,6 +228,7 @@ fn log_command(log: &mut Log, command: &AdminCommand, line: &[u8], now: u64) {
             },
         )
         | AdminCommand::Part(_)
+        | AdminCommand::Unignore(_)
         | AdminCommand::Die(_) => log.note(now, &LogEntry::Asked(line)),
     }
 }

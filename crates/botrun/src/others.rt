@@ -1,5 +1,5 @@
 // The other bots, and who asked for the changes that wait at a leaf.
-ghost use Rattle.std.specs.Prelude.{◌≡◌, []};
+ghost use Rattle.std.specs.Prelude.{◌≡◌, [], None, is_some};
 
 use administrators::Asks;
 use bytetext::NoMemory;
@@ -7,18 +7,25 @@ use peers::{Links, Mail};
 use sharelink::Outgoing;
 use sharewire::Packet;
 use std::alloc::Global;
+use upkeep::HandOver;
 use watching::Mailbox;
 
 // The connections to the other bots, and who asked for the changes that wait here.
 pub(crate) struct Others {
     pub(crate) mail: Mail,
     pub(crate) asks: Asks,
+    // At a hub that is being handed over: to whom.
+    pub(crate) handing: Option<HandOver>,
 }
 
 // Written by hand, so that the drop is proved once, and not in each function that drops one.
 impl Drop for Others {
     fn drop(self) {
-        let Others { mail: _, asks: _ } = self;
+        let Others {
+            mail: _,
+            asks: _,
+            handing: _,
+        } = self;
     }
 }
 
@@ -28,16 +35,31 @@ impl Others {
         ensures links { result.mail.links ≡ links }
         ensures told { result.mail.account.told ≡ [] }
         ensures nobody { result.asks.askers.items ≡ [] }
+        ensures stays { result.handing ≡ None }
     {
         Others {
             mail: Mail::new(links),
             asks: Asks::new(alloc),
+            handing: None,
         }
     }
 
-    // Whether the bot is to pump at second `now`: never at a hub in doubt, so the changes that its procs asked for wait.
+    // Whether the bot is a hub that is being handed over.
+    pub(crate) fn hands_over(&self) -> bool
+        ensures { result ≡ is_some self.now.handing }
+    {
+        self.handing.is_some()
+    }
+
+    // Whether the bot is a hub that accepts no change now: it is in doubt, or being handed over.
+    pub(crate) fn accepts_none(&self) -> bool {
+        self.hands_over() || self.mail.links.doubt().is_some()
+    }
+
+    // Whether the bot is to pump at second `now`: never at a hub that accepts no change, so the changes that its procs asked
+    // for wait.
     pub(crate) fn is_pump_due(&self, now: u64) -> bool {
-        self.mail.links.doubt().is_none() && self.mail.links.is_pump_due(now)
+        !self.accepts_none() && self.mail.links.is_pump_due(now)
     }
 }
 

@@ -53,7 +53,7 @@ pub(crate) fn pass<R: AllocGlobal, W: Watcher>(
 {
     let is_leaf = others.mail.links.is_leaf();
     // Whether a change that is asked for is decided on later.
-    let waits = is_leaf || others.mail.links.doubt().is_some();
+    let waits = is_leaf || others.accepts_none();
     let takes = hub_takes(&others.mail.links);
     let mut rest = told.reports.as_slice();
     while let Some((report, behind)) = rest.split_first() {

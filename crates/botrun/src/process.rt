@@ -1,8 +1,9 @@
 // One turn of a bot's process.
-ghost use Rattle.std.specs.Prelude.{◌<◌, IfOk, IfSome};
+ghost use Rattle.std.specs.Prelude.{◌≡◌, ◌<◌, true, IfOk, IfSome};
+ghost use Rattle.peers.specs.Moving.{is_to_move};
 ghost use Rattle.bytetext.specs.declared.moment.TheConstants.{MOMENTS_END};
 ghost use Rattle.watching.specs.Following.{IsAt, IsEven, IsUp};
-ghost use Rattle.botrun.specs.Renewals.{BeginsWithout, HasNoRecords};
+ghost use Rattle.botrun.specs.Renewals.{BeginsWithout, HasNoRecords, MovesAsTold};
 ghost use Rattle.botrun.specs.Watched.{ByEnd, station_of};
 
 use crate::others::Others;
@@ -23,8 +24,8 @@ use std::net::Net;
 use std::random::RandomSource;
 use std::rt::Files;
 use upkeep::{
-    Bases, Reloading, RunError, Space, connect, enter_new_leaves, keep_new_doubt, keep_new_net,
-    send,
+    Bases, FloodWatch, Reloading, RunError, Space, connect, enter_new_leaves, keep_new_doubt,
+    keep_new_net, leave_net, send,
 };
 use watching::Watcher;
 
@@ -34,6 +35,8 @@ pub(crate) struct Process {
     pub(crate) bot: Bot<FileDisk>,
     pub(crate) lines: LineReader,
     pub(crate) uplink: IrcConnection,
+    // Who floods the bot.
+    pub(crate) floods: FloodWatch,
     pub(crate) admins: Admins,
     pub(crate) others: Others,
     // When the journal is rewritten.
@@ -47,6 +50,8 @@ pub(crate) struct Process {
     pub(crate) until: Option<u64>,
     // The configuration file, and what was read of it again.
     pub(crate) reloading: Reloading,
+    // The number of the admin whose command is being executed, unless the answer comes later.
+    pub(crate) obeyed: Option<u64>,
 }
 
 // Written by hand, so that the drop is proved once, and not in each function that drops one.
@@ -57,6 +62,7 @@ impl Drop for Process {
             bot: _,
             lines: _,
             uplink: _,
+            floods: _,
             admins: _,
             others: _,
             bases: _,
@@ -65,6 +71,7 @@ impl Drop for Process {
             space: _,
             until: _,
             reloading: _,
+            obeyed: _,
         } = self;
     }
 }
@@ -91,6 +98,8 @@ pub(crate) enum Turned {
     Rests,
     // The bot is a leaf whose journal has to be made again, so that its requests are numbered above this number.
     BeginsAbove(u32),
+    // The bot is a leaf whose hub is the heir of its net: it has to begin again as a new leaf of the hub's net.
+    Moves,
     // The process has ended, as an admin asked.
     Ended,
 }
@@ -98,7 +107,7 @@ pub(crate) enum Turned {
 impl Process {
     // Makes a turn: connects what is lost and due, reads, steps, writes, closes the connections that are over, and logs
     // the sum of the records if that is due. `watch` names the sockets that may have something to read. A leaf that has
-    // to begin again ends the turn once it has read.
+    // to begin again ends the turn once it has read, as one that leaves its net does.
     pub(crate) fn turn<R, P: Promise, B: Run, W: Watcher>(
         &mut self,
         rt: &R,
@@ -116,6 +125,7 @@ impl Process {
             self.old.others.mail.account.told }
         // A bot with records goes on.
         ensures again { IfOk result (λ turned. BeginsWithout turned self.new.bot) }
+        ensures moves { IfOk result (λ turned. MovesAsTold turned self.new.others.mail.links) }
         // After the turn the bot has been told the time, unless it has to begin again.
         ensures up { IfOk result (λ turned. ByEnd turned
             (IsUp P.promised store.now (station_of settings.now) W.may (W.past watcher.new) self.new.bot
@@ -139,12 +149,18 @@ impl Process {
         if let Some(last) = self.to_begin_after() {
             return Ok(Turned::BeginsAbove(last));
         }
+        if self.is_to_move() {
+            let (asks, admins) = (&mut self.others.asks, &mut self.admins);
+            leave_net(rt, log, asks, admins, &mut self.uplink, settings, now)?;
+            return Ok(Turned::Moves);
+        }
         let links = &mut self.others.mail.links;
         keep_new_doubt(rt, log, &self.folder, &mut self.space, links, now)?;
         keep_new_net(rt, log, &self.folder, &mut self.space, links, now)?;
         enter_new_leaves(rt, log, &self.folder, &self.space, links, now)?;
         is_busy |= self.hear(rt, log, store, settings, connected, now, watcher)?;
         is_busy |= self.obey_all(rt, log, store, settings, now, watcher)?;
+        self.hand_over(rt, log, settings, now)?;
         let (uplink, links) = (&mut self.uplink, &mut self.others.mail.links);
         is_busy |= send(rt, log, uplink, &mut self.admins, links, settings, now)?;
         stay_up(&self.bot)?;
@@ -168,6 +184,13 @@ impl Process {
         self.others.mail.links.to_begin_after()
     }
 
+    // Whether the bot is a leaf that has to leave its net, unless the process is to end.
+    fn is_to_move(&self) -> bool
+        ensures { result ≡ true → is_to_move self.now.others.mail.links ≡ true }
+    {
+        self.until.is_none() && self.others.mail.links.is_to_move()
+    }
+
     // Ends all connections, and returns the bot's folder.
     pub(crate) fn into_folder(self) -> BotFolder {
         let Process {
@@ -175,6 +198,7 @@ impl Process {
             bot: _,
             lines: _,
             uplink: _,
+            floods: _,
             admins: _,
             others: _,
             bases: _,
@@ -183,6 +207,7 @@ impl Process {
             space: _,
             until: _,
             reloading: _,
+            obeyed: _,
         } = self;
         folder
     }

@@ -1,7 +1,10 @@
 // The steps of a bot in one turn of its process.
-ghost use Rattle.std.specs.Prelude.{◌<◌, IfOk, OnOk};
+ghost use Rattle.std.specs.Prelude.{◌<◌, IfOk, OnOk, is_some};
 ghost use Rattle.bytetext.specs.declared.moment.TheConstants.{MOMENTS_END};
 ghost use Rattle.serverlink.specs.Talks.{heard_in, talk_in};
+ghost use Rattle.floods.specs.Sifting.{sifted};
+ghost use Rattle.upkeep.specs.Flooding.{begun_with};
+ghost use Rattle.botrun.specs.Trusting.{trusts};
 ghost use Rattle.watching.specs.Following.{IsEven, IsUp};
 ghost use Rattle.botrun.specs.Taking.{GoesOn, Hears, TakesChanges};
 ghost use Rattle.botrun.specs.Watched.{station_of};
@@ -10,6 +13,7 @@ use crate::looking::look_at_all;
 use crate::outcome::outcome_of;
 use crate::passing::pass;
 use crate::process::Process;
+use crate::trusting::sift;
 use administrators::{ChangeOutcome, LogEntry};
 use botcore::Bot;
 use bytetext::{NoMemory, Text, TryCopy};
@@ -20,7 +24,7 @@ use settings::Settings;
 use sharelink::MAX_ASKS;
 use std::alloc::Global;
 use turns::{Heard, take_turn, watched_packets};
-use upkeep::RunError;
+use upkeep::{RunError, taken_requests};
 use userfile::Change;
 use watching::Watcher;
 
@@ -28,7 +32,7 @@ impl Process {
     // Has the bot take what its server and the other bots sent, in one turn. Then the connection to the server looks at
     // the server's lines, before the bot's lines are queued. Then the bot takes all that waits, and the journal is
     // rewritten if that is due. If there is no room, the bot takes nothing of the other bots; procs may still change
-    // records, so the journal is lent the space that is set aside. Returns whether there may be more at once: another bot
+    // records, so the journal is lent the space that is set aside. A hub that is being handed over takes no request. Returns whether there may be more at once: another bot
     // sent something, or a hello got due.
     pub(crate) fn hear<R: AllocGlobal, P: Promise, B: Run, W: Watcher>(
         &mut self,
@@ -43,20 +47,27 @@ impl Process {
         requires moment { now < MOMENTS_END }
         requires even { IsEven P.promised store.now (station_of settings.now) W.may (W.past watcher.old) self.old.bot
             self.old.others.mail.account.told }
-        // The first turn takes all that was read from the server, and packets that wait: none if there is no room. The
-        // bot goes on from it by turns in which it hears nothing.
+        // The first turn takes the lines that pass the sieve, of those that were read from the server, and packets that
+        // wait: none if there is no room, and no request while the hub is being handed over. The bot goes on from it by
+        // turns in which it hears nothing.
         ensures hears { OnOk result (Hears P.promised store.now self.old.bot self.old.lines
-            (heard_in (talk_in self.old.uplink.session)) self.old.space.room self.old.others.mail.links
-            self.new.bot self.new.lines) }
+            (sifted (trusts self.old.bot) now (begun_with settings.now.floods connected self.old.floods)
+            (heard_in (talk_in self.old.uplink.session))) self.old.space.room (is_some self.old.others.handing)
+            self.old.others.mail.links self.new.bot self.new.lines) }
         ensures up { OnOk result
             (IsUp P.promised store.now (station_of settings.now) W.may (W.past watcher.new) self.new.bot
             self.new.others.mail.account.told) }
     {
         let alloc = rt.alloc();
-        let bytes = self.uplink.take_heard(alloc);
+        let heard = self.uplink.take_heard(alloc);
+        let sent = heard.as_slice();
+        let (floods, bot) = (&mut self.floods, &self.bot);
+        let bytes = sift(alloc, log, floods, bot, settings, connected, sent, now)?;
+        let hands_over = self.others.hands_over();
         let waiting = watched_packets(alloc, &self.bot, store, &mut self.others, watcher)?;
         let said = !waiting.is_empty();
-        let packets = self.space.admit(alloc, waiting);
+        let granted = taken_requests(waiting, hands_over);
+        let packets = self.space.admit(alloc, granted);
         let pumps = self.others.is_pump_due(now);
         let nick = nick_before(alloc, &self.bot, connected)?;
         let changes = Vec::new(alloc);
@@ -86,7 +97,7 @@ impl Process {
         Ok(said || (!pumps && self.others.is_pump_due(now)))
     }
 
-    // Unless the bot is a leaf, or a hub in doubt, pumps until nothing waits, or the link refuses. `first` is the outcome
+    // Unless the bot is a leaf, or a hub that accepts no change, pumps until nothing waits, or the link refuses. `first` is the outcome
     // of the turn before.
     fn pump<R: AllocGlobal, P: Promise, B: Run, W: Watcher>(
         &mut self,
@@ -105,7 +116,7 @@ impl Process {
             (IsUp P.promised store.now (station_of settings.now) W.may (W.past watcher.new) self.new.bot
             self.new.others.mail.account.told) }
     {
-        let most = if self.others.mail.links.is_leaf() || self.others.mail.links.doubt().is_some() {
+        let most = if self.others.mail.links.is_leaf() || self.others.accepts_none() {
             0
         } else {
             MAX_ASKS

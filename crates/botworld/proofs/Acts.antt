@@ -11,7 +11,6 @@ use Rattle.procs.specs.declared.action.Action.TheVariants.{Ask as ask_wished, Ti
 use Rattle.procs.specs.declared.action.PutWish.{PutWish}
 use Rattle.procs.specs.declared.action.TimerName.{TimerName}
 use Rattle.outqueue.specs.declared.fault.QueueFault.{QueueFault}
-use Rattle.outqueue.specs.Refusals.{refusal as queue_refusal}
 use Rattle.userfile.specs.Apply.{bad_shape}
 use Rattle.userfile.specs.declared.change.Change.{Change as UserChange}
 use Rattle.userfile.specs.declared.error.ChangeFault.{ChangeFault}
@@ -36,7 +35,7 @@ use Rattle.sharelink.specs.Calls.{outgoings_of}
 use Rattle.protocol.specs.Ends.{End as LinkEnd, AtHub, AtLeaf, of_hub, of_leaf, end_did}
 use Rattle.protocol.specs.Nets.{IsMoment, RowFollows}
 use Rattle.sharelink.specs.BotLinks.{BotEnd, asked, told}
-use Rattle.botcore.specs.Acting.{Acting, acted, acted_all, asked_if, timer_of, made_unless, killed_if, sent_if, put_unless}
+use Rattle.botcore.specs.Acting.{Acting, acted, acted_all, asked_if, timer_of, made_unless, killed_if, sent_if, put_fault, put_unless}
 use Rattle.botcore.specs.Links.{packet_told, outgoing_told, text_sent}
 use Rattle.botworld.proofs.BotEnds.{IsQuiet, refused_is_quiet, queued_is_quiet, relayed_is_quiet, IsAmong, did_row, set-same, set-set, posted-append}
 use Rattle.botworld.proofs.Lists.{slice_get-set-same}
@@ -266,7 +265,7 @@ module _ (h : History) (all : List LinkEnd) (sent : List Sent) (place : ℕ) (ol
   act_goes acting (Utimer wish) goes = timer_goes acting (timer_of acting Seconds wish) (add_fault acting.timers wish.interval acting.last) goes
   act_goes acting (KillTimer name) goes = kill_goes acting name (holds_named acting.timers name.proc name.text) goes
   act_goes acting (SendBot wish) goes = send_goes acting wish.to wish.text (told acting.link wish.to wish.text).told refl goes
-  act_goes acting (Put wish) goes = put_goes acting wish (queue_refusal acting.queues wish.queue wish.line) goes
+  act_goes acting (Put wish) goes = put_goes acting wish (put_fault acting wish) goes
 
   pub acts_go : (acting : Acting) (actions : List Action) → ActsGo h all sent place old acting
       → ActsGo h all sent place old (acted_all acting actions)

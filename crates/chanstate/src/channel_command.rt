@@ -74,6 +74,10 @@ impl ChannelCommand {
 pub fn read_verb(command: &[u8]) -> ChannelCommand
     ensures { result ≡ verb_of command.now }
 {
+    // Most lines are talk, so no other command is compared with theirs.
+    if command == ChannelCommand::Privmsg.word() {
+        return ChannelCommand::Privmsg;
+    }
     find_verb(command).unwrap_or(ChannelCommand::Other)
 }
 

@@ -81,7 +81,7 @@ const ARGUMENTS: usize = 5;
 pub fn joined(alloc: Global, front: &[u8], between: u8, back: &[u8]) -> Result<Text, NoMemory>
     ensures { IfOk result (λ t. t ≡ front.now ++ between ∷ back.now) }
 {
-    let mut bytes = Vec::new(alloc);
+    let mut bytes = Vec::with_capacity(alloc, front.len() + 1 + back.len())?;
     bytes.extend_from_slice(front)?;
     bytes.push(between)?;
     bytes.extend_from_slice(back)?;

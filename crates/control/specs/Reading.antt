@@ -80,6 +80,16 @@ renew_said [] = Err (Form word.Renew)
 renew_said (number ∷ []) = renewed (number_from 0 number)
 renew_said (number ∷ w ∷ words) = Err (Form word.Renew)
 
+-- handover N: digits, of a number from 1
+abbrev pub handed_over : Option ℕ → Result AdminCommand CommandAdvice
+handed_over None = Err (Form word.HandOver)
+handed_over (Some leaf) = if leaf == 0 then Err (Form word.HandOver) else Ok (command.HandOver leaf)
+
+abbrev pub handover_said : List (List ℕ) → Result AdminCommand CommandAdvice
+handover_said [] = Err (Form word.HandOver)
+handover_said (number ∷ []) = handed_over (number_from 0 number)
+handover_said (number ∷ w ∷ words) = Err (Form word.HandOver)
+
 -- changes FROM: the number of a change, from 1
 abbrev pub changes_from : Option ℕ → Result AdminCommand CommandAdvice
 changes_from None = Err (Form word.Changes)
@@ -148,6 +158,12 @@ part_said [] = Err (Form word.DelChan)
 part_said (name ∷ []) = if is_channel_name name then Ok (command.Part name) else Err (Form word.DelChan)
 part_said (name ∷ w ∷ words) = Err (Form word.DelChan)
 
+-- unignore USER@HOST
+abbrev pub unignore_said : List (List ℕ) → Result AdminCommand CommandAdvice
+unignore_said [] = Err (Form word.Unignore)
+unignore_said (key ∷ []) = if is_empty key then Err (Form word.Unignore) else Ok (command.Unignore key)
+unignore_said (key ∷ w ∷ words) = Err (Form word.Unignore)
+
 -- ---- a line
 
 abbrev pub said_of : Option CommandWord → List ℕ → List (List ℕ) → Result AdminCommand CommandAdvice
@@ -168,6 +184,7 @@ said_of (Some word.DelHost) spelling words = change_said word.DelHost spelling w
 said_of (Some word.DelUser) spelling words = change_said word.DelUser spelling words
 said_of (Some word.Die) spelling words = die_said words
 said_of (Some word.Global) spelling words = change_said word.Global spelling words
+said_of (Some word.HandOver) spelling words = handover_said words
 said_of (Some word.Info) spelling words = change_said word.Info spelling words
 said_of (Some word.Jump) spelling words = alone word.Jump words command.Jump
 said_of (Some word.Reload) spelling words = alone word.Reload words command.Reload
@@ -179,6 +196,7 @@ said_of (Some word.Status) spelling words = status_said words
 said_of (Some word.Sticky) spelling words = change_said word.Sticky spelling words
 said_of (Some word.Trust) spelling words = alone word.Trust words command.Trust
 said_of (Some word.Unbind) spelling words = unbind_said words
+said_of (Some word.Unignore) spelling words = unignore_said words
 
 -- the first word says what is asked for
 abbrev pub command_by_words : List (List ℕ) → Result AdminCommand CommandAdvice

@@ -3,7 +3,7 @@ use Rattle.std.specs.Prelude.{ℕ, List, [], ◌∷◌, Option, find, codes}
 use Rattle.std.specs.Str.{bytes_eq}
 use Rattle.control.specs.declared.command_word.CommandWord.{CommandWord}
 use Rattle.control.specs.declared.command_word.CommandWord.TheVariants.{AddChan, DelChan, AddBan, AddHost, AddUser, Backup, Bind, Bot, Chan, Changes, Compact}
-use Rattle.control.specs.declared.command_word.CommandWord.TheVariants.{DelBan, DelHost, DelUser, Die, Global, Info, Jump, Reload, Renew, Reopen, Say, Show, Status, Sticky, Trust, Unbind}
+use Rattle.control.specs.declared.command_word.CommandWord.TheVariants.{DelBan, DelHost, DelUser, Die, Global, HandOver, Info, Jump, Reload, Renew, Reopen, Say, Show, Status, Sticky, Trust, Unbind, Unignore}
 
 abbrev pub spelling_of : CommandWord → List ℕ
 spelling_of AddChan = codes "+chan"
@@ -22,6 +22,7 @@ spelling_of DelHost = codes "delhost"
 spelling_of DelUser = codes "deluser"
 spelling_of Die = codes "die"
 spelling_of Global = codes "global"
+spelling_of HandOver = codes "handover"
 spelling_of Info = codes "info"
 spelling_of Jump = codes "jump"
 spelling_of Reload = codes "reload"
@@ -33,12 +34,13 @@ spelling_of Status = codes "status"
 spelling_of Sticky = codes "sticky"
 spelling_of Trust = codes "trust-this-copy"
 spelling_of Unbind = codes "unbind"
+spelling_of Unignore = codes "unignore"
 
 abbrev pub all_words : List CommandWord
 all_words =
     AddChan ∷ DelChan ∷ AddBan ∷ AddHost ∷ AddUser ∷ Backup ∷ Bind ∷ Bot ∷ Chan ∷ Changes ∷ Compact ∷ DelBan ∷ DelHost ∷
-    DelUser ∷ Die ∷ Global ∷ Info ∷ Jump ∷ Reload ∷ Renew ∷ Reopen ∷ Say ∷
-    Show ∷ Status ∷ Sticky ∷ Trust ∷ Unbind ∷ []
+    DelUser ∷ Die ∷ Global ∷ HandOver ∷ Info ∷ Jump ∷ Reload ∷ Renew ∷ Reopen ∷ Say ∷
+    Show ∷ Status ∷ Sticky ∷ Trust ∷ Unbind ∷ Unignore ∷ []
 
 -- the word with this spelling: no two are spelled alike
 abbrev pub word_named : List ℕ → Option CommandWord

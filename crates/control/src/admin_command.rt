@@ -33,6 +33,9 @@ pub enum AdminCommand {
     Renew(u16),
     /// At a hub: to count its own records as the net's, though a leaf has shown newer or other ones.
     Trust,
+    /// At a hub: to take no change any more, and to end once the leaf of this number, from 1, has all that it accepted.
+    /// Nothing has checked that the net has such a leaf.
+    HandOver(u16),
     /// To read the configuration file again.
     Reload,
     /// To open the log's file again.
@@ -43,6 +46,8 @@ pub enum AdminCommand {
     Join(ChannelWords),
     /// To leave the channel of this name, until the bot ends.
     Part(Text),
+    /// To ignore the person of this key, `user@host`, no longer.
+    Unignore(Text),
     /// To end, and to send the server this text, which may be empty.
     Die(Text),
 }

@@ -29,8 +29,8 @@ impl Display for CommandAdvice {
             ),
             CommandAdvice::Unknown => f.write_str(
                 "begin with +chan, -chan, addban, addhost, adduser, backup, bind, bot, chan, changes, compact, delban, delhost, \
-                 deluser, die, global, info, jump, reload, renew, reopen, say, show, status, sticky, trust-this-copy or \
-                 unbind",
+                 deluser, die, global, handover, info, jump, reload, renew, reopen, say, show, status, sticky, \
+                 trust-this-copy, unbind or unignore",
             ),
             CommandAdvice::Form(word) => f.write_str(form_of(word)),
         }
@@ -61,6 +61,7 @@ fn form_of(word: CommandWord) -> &'static str {
         CommandWord::DelUser => "say deluser HANDLE, as in deluser alice",
         CommandWord::Die => "say die, and what the server is told after it, as in die back soon",
         CommandWord::Global => "say global HANDLE FLAGS, as in global alice o",
+        CommandWord::HandOver => "say handover N, with N a leaf's number from 1, as in handover 3",
         CommandWord::Info => "say info HANDLE TEXT, as in info alice I keep the eggs",
         CommandWord::Jump => "say jump alone",
         CommandWord::Reload => "say reload alone",
@@ -73,5 +74,7 @@ fn form_of(word: CommandWord) -> &'static str {
             "say sticky CHANNEL MASK N, with N 1 or 0, as in sticky #egg *!*@spam.example 1",
         CommandWord::Trust => "say trust-this-copy alone",
         CommandWord::Unbind => "say unbind TYPE PROC MASK, as in unbind pub echo !echo",
+        CommandWord::Unignore =>
+            "say unignore USER@HOST, as status shows it, as in unignore ann@host.example",
     }
 }

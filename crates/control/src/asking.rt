@@ -105,11 +105,13 @@ fn is_die(command: &AdminCommand) -> bool {
         | AdminCommand::Jump
         | AdminCommand::Renew(_)
         | AdminCommand::Trust
+        | AdminCommand::HandOver(_)
         | AdminCommand::Reload
         | AdminCommand::Reopen
         | AdminCommand::Backup(_)
         | AdminCommand::Join(_)
-        | AdminCommand::Part(_) => false,
+        | AdminCommand::Part(_)
+        | AdminCommand::Unignore(_) => false,
     }
 }
 

@@ -37,6 +37,8 @@ pub enum CommandWord {
     Die,
     /// A user's global flags are set.
     Global,
+    /// A leaf is to take the hub's place.
+    HandOver,
     /// A user's info line is set.
     Info,
     /// The bot leaves its server for the next.
@@ -59,10 +61,12 @@ pub enum CommandWord {
     Trust,
     /// A bind is removed.
     Unbind,
+    /// A person is ignored no longer.
+    Unignore,
 }
 
 // Every word.
-const ALL: [CommandWord; 27] = [
+const ALL: [CommandWord; 29] = [
     CommandWord::AddChan,
     CommandWord::DelChan,
     CommandWord::AddBan,
@@ -79,6 +83,7 @@ const ALL: [CommandWord; 27] = [
     CommandWord::DelUser,
     CommandWord::Die,
     CommandWord::Global,
+    CommandWord::HandOver,
     CommandWord::Info,
     CommandWord::Jump,
     CommandWord::Reload,
@@ -90,6 +95,7 @@ const ALL: [CommandWord; 27] = [
     CommandWord::Sticky,
     CommandWord::Trust,
     CommandWord::Unbind,
+    CommandWord::Unignore,
 ];
 
 impl CommandWord {
@@ -114,6 +120,7 @@ impl CommandWord {
             CommandWord::DelUser => "deluser",
             CommandWord::Die => "die",
             CommandWord::Global => "global",
+            CommandWord::HandOver => "handover",
             CommandWord::Info => "info",
             CommandWord::Jump => "jump",
             CommandWord::Reload => "reload",
@@ -125,6 +132,7 @@ impl CommandWord {
             CommandWord::Sticky => "sticky",
             CommandWord::Trust => "trust-this-copy",
             CommandWord::Unbind => "unbind",
+            CommandWord::Unignore => "unignore",
         }
     }
 

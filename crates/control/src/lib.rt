@@ -26,12 +26,14 @@
 //! | `compact` | rewrites the journal |
 //! | `jump` | leaves this server for the next |
 //! | `renew` number | a hub: disconnects this leaf, and lets it come back from another folder |
+//! | `handover` number | a hub: takes no change any more, and ends once this leaf has all that it accepted |
 //! | `trust-this-copy` | a hub: counts its records as the net's, though a leaf has shown newer or other ones |
 //! | `reload` | reads its configuration file again, and takes all of it or nothing |
 //! | `reopen` | opens its log's file again |
 //! | `backup FOLDER` | copies its journal into a new folder; FOLDER is a path from `/` |
 //! | `+chan` channel key | joins the channel, until the bot ends; the key may be left out |
 //! | `-chan` channel | leaves the channel, until the bot ends |
+//! | `unignore` user@host | ignores this person no longer |
 //! | `die TEXT` | ends, and sends the server the TEXT, which may be left out |
 //!
 //! [`AdminCommand::read`] returns what a line asks for, or what to say instead. Only the bot, when it is asked, decides

@@ -3,8 +3,8 @@ ghost use Rattle.std.specs.Prelude.{◌≡◌, ◌∷◌, map, IfOk};
 ghost use Rattle.std.specs.List.{list_all, list_any};
 ghost use Rattle.recordtext.specs.Words.{number_below};
 ghost use Rattle.control.specs.Reading.{Answers, alone, backup_said, bind_said, bound, changes_from, changes_said, command_by_words, die_said};
-ghost use Rattle.control.specs.Reading.{die_text, folder_named, is_absolute, is_bare, is_key, is_key_byte, join_said, joined, part_said};
-ghost use Rattle.control.specs.Reading.{renew_said, renewed, said, say_said, show_said, status_said, unbind_said, unbound};
+ghost use Rattle.control.specs.Reading.{die_text, folder_named, handed_over, handover_said, is_absolute, is_bare, is_key, is_key_byte, join_said, joined, part_said};
+ghost use Rattle.control.specs.Reading.{renew_said, renewed, said, say_said, show_said, status_said, unbind_said, unbound, unignore_said};
 
 use crate::admin_command::{AdminCommand, ChannelWords, UnbindWords};
 use crate::advice::{CommandAdvice, CommandError};
@@ -92,6 +92,7 @@ fn command_by_words(alloc: Global, words: &[&[u8]]) -> Result<AdminCommand, Comm
         CommandWord::Changes => changes_said(words),
         CommandWord::Compact => alone(word, words, AdminCommand::Compact),
         CommandWord::Die => die_said(alloc, words),
+        CommandWord::HandOver => handover_said(words),
         CommandWord::Jump => alone(word, words, AdminCommand::Jump),
         CommandWord::Reload => alone(word, words, AdminCommand::Reload),
         CommandWord::Renew => renew_said(words),
@@ -101,6 +102,7 @@ fn command_by_words(alloc: Global, words: &[&[u8]]) -> Result<AdminCommand, Comm
         CommandWord::Status => status_said(words),
         CommandWord::Trust => alone(word, words, AdminCommand::Trust),
         CommandWord::Unbind => unbind_said(alloc, words),
+        CommandWord::Unignore => unignore_said(alloc, words),
     }
 }
 
@@ -209,6 +211,16 @@ fn part_said(alloc: Global, words: &[&[u8]]) -> Result<AdminCommand, CommandErro
     }
 }
 
+// USER@HOST
+fn unignore_said(alloc: Global, words: &[&[u8]]) -> Result<AdminCommand, CommandError>
+    ensures { Answers (unignore_said (map (λ word. word.now) words.now)) result }
+{
+    match words {
+        [key] if !key.is_empty() => { Ok(AdminCommand::Unignore(Text::from_slice(alloc, key)?)) }
+        [] | [_] | [_, _, ..] => Err(Failure::Refused(CommandAdvice::Form(CommandWord::Unignore))),
+    }
+}
+
 // Whether a word can stand as a key in a JOIN, which is no list of keys and no text at the line's end.
 fn is_key(word: &[u8]) -> bool
     ensures { result ≡ is_key word.now }
@@ -277,6 +289,26 @@ fn renewed(number: Option<u16>) -> Result<AdminCommand, CommandError>
     match number {
         Some(0) | None => Err(Failure::Refused(CommandAdvice::Form(CommandWord::Renew))),
         Some(leaf) => Ok(AdminCommand::Renew(leaf)),
+    }
+}
+
+// The number of the leaf that is to take the hub's place.
+fn handover_said(words: &[&[u8]]) -> Result<AdminCommand, CommandError>
+    ensures { Answers (handover_said (map (λ word. word.now) words.now)) result }
+{
+    match words {
+        [number] => handed_over(value_of_digits(number)),
+        [] | [_, _, ..] => Err(Failure::Refused(CommandAdvice::Form(CommandWord::HandOver))),
+    }
+}
+
+// The leaf of this number, if it is from 1.
+fn handed_over(number: Option<u16>) -> Result<AdminCommand, CommandError>
+    ensures { Answers (handed_over number) result }
+{
+    match number {
+        Some(0) | None => Err(Failure::Refused(CommandAdvice::Form(CommandWord::HandOver))),
+        Some(leaf) => Ok(AdminCommand::HandOver(leaf)),
     }
 }
 

@@ -42,19 +42,21 @@ fn connect<R: AllocGlobal + Net + Clock + Files<File = File> + RandomSource>(
     rt: &R,
     target: Target<'_>,
 ) -> Result<Verdict, Failure<Bad>> {
-    let mut watch = match Watch::new(rt, 16) {
-        Ok(watch) => watch,
-        Err(error) => return Err(untried(&error)),
-    };
-    let Dialled { socket, way } = begin(rt, &mut watch, target)?;
-    let Way::Tcp(address) = way else {
-        return Ok(Verdict::Fine(Fine::Tunnel));
-    };
-    let mut socket = socket;
-    match outcome_of(rt, &mut watch, &mut socket)? {
-        Attempt::Made => Ok(Verdict::Fine(Fine::Answers(address))),
-        Attempt::Failed => Err(Failure::Refused(Bad::Refuses(address))),
-        Attempt::Pending => Err(Failure::Refused(Bad::Silent(address))),
+    match Watch::new(rt, 16) {
+        Ok(mut watch) => connect_by(rt, &mut watch, target),
+        Err(error) => Err(untried(&error)),
+    }
+}
+
+fn connect_by<R: AllocGlobal + Net + Clock + Files<File = File> + RandomSource>(
+    rt: &R,
+    watch: &mut Watch,
+    target: Target<'_>,
+) -> Result<Verdict, Failure<Bad>> {
+    let mut dialling = Dialling::new(0, LONGEST_WAIT, 1);
+    match begin(rt, watch, &mut dialling, target) {
+        Ok(Dialled { mut socket, way }) => verdict_of(rt, watch, &mut socket, way),
+        Err(fault) => Err(fault),
     }
 }
 
@@ -62,20 +64,16 @@ fn connect<R: AllocGlobal + Net + Clock + Files<File = File> + RandomSource>(
 fn begin<R: AllocGlobal + Net + Clock + Files<File = File> + RandomSource>(
     rt: &R,
     watch: &mut Watch,
+    dialling: &mut Dialling,
     target: Target<'_>,
 ) -> Result<Dialled, Failure<Bad>> {
-    let mut dialling = Dialling::new(0, LONGEST_WAIT, 1);
     let end = milliseconds(rt)?.saturating_add(LIMIT);
     for _ in 0..u64::MAX {
         let now = milliseconds(rt)?;
-        let steady = now / 1_000;
-        match dial(&mut dialling, rt, watch.registry(), TOKENS, target, steady) {
+        match dial(dialling, rt, watch.registry(), TOKENS, target, now / 1_000) {
             Ok(Some(dialled)) => return Ok(dialled),
             Ok(None) => {}
-            Err(Failure::Refused(fault)) => {
-                return Err(Failure::Refused(bad_of(fault)));
-            }
-            Err(Failure::NoMemory) => return Err(Failure::NoMemory),
+            Err(fault) => return Err(unbegun(fault)),
         }
         if now >= end {
             break;
@@ -86,12 +84,36 @@ fn begin<R: AllocGlobal + Net + Clock + Files<File = File> + RandomSource>(
 }
 
 // Why no connection can even begin.
+fn unbegun(fault: Failure<DialFault>) -> Failure<Bad> {
+    match fault {
+        Failure::Refused(fault) => Failure::Refused(bad_of(fault)),
+        Failure::NoMemory => Failure::NoMemory,
+    }
+}
+
 fn bad_of(fault: DialFault) -> Bad {
     match fault {
         DialFault::Unreached => Bad::NoWay,
         DialFault::NoTunnel => Bad::NoTunnel,
         DialFault::TunnelBusy => Bad::TunnelBusy,
         DialFault::Unreadable | DialFault::Unknown | DialFault::Unanswered => Bad::Host(fault),
+    }
+}
+
+// What it means that a connection begins this way: whether somebody answers at the host, or nothing more for a tunnel.
+fn verdict_of<R: Clock>(
+    rt: &R,
+    watch: &mut Watch,
+    socket: &mut AnySocket,
+    way: Way,
+) -> Result<Verdict, Failure<Bad>> {
+    let Way::Tcp(address) = way else {
+        return Ok(Verdict::Fine(Fine::Tunnel));
+    };
+    match outcome_of(rt, watch, socket)? {
+        Attempt::Made => Ok(Verdict::Fine(Fine::Answers(address))),
+        Attempt::Failed => Err(Failure::Refused(Bad::Refuses(address))),
+        Attempt::Pending => Err(Failure::Refused(Bad::Silent(address))),
     }
 }
 

@@ -17,16 +17,19 @@ pub(crate) fn door_verdict<R: AllocGlobal + Net>(
     let Some(at) = literal(address.host.as_bytes(), address.port) else {
         return Ok(Verdict::Bad(Bad::NotHere));
     };
-    let watch = match Watch::new(rt, 4) {
-        Ok(watch) => watch,
+    match Watch::new(rt, 4) {
+        Ok(watch) => Ok(verdict_of_door(TcpDoor::open(rt, watch.registry(), TOKEN, at))),
         Err(error) => match error.kind() {
-            ErrorKind::OutOfMemory => return Err(NoMemory),
-            _ => return Ok(Verdict::Bad(Bad::Untried)),
+            ErrorKind::OutOfMemory => Err(NoMemory),
+            _ => Ok(Verdict::Bad(Bad::Untried)),
         },
-    };
-    match TcpDoor::open(rt, watch.registry(), TOKEN, at) {
-        Ok(_door) => Ok(Verdict::Fine(Fine::Door)),
-        Err(DoorFault::NotHere) => Ok(Verdict::Bad(Bad::NotHere)),
-        Err(fault) => Ok(Verdict::Bad(Bad::Door(fault))),
+    }
+}
+
+fn verdict_of_door(opened: Result<TcpDoor, DoorFault>) -> Verdict {
+    match opened {
+        Ok(_door) => Verdict::Fine(Fine::Door),
+        Err(DoorFault::NotHere) => Verdict::Bad(Bad::NotHere),
+        Err(fault) => Verdict::Bad(Bad::Door(fault)),
     }
 }

@@ -12,7 +12,8 @@ use crate::subject::Subject;
 use crate::user::User;
 use crate::verdict::{Bad, Note, Verdict};
 use botfolder::FolderFault;
-use settings::Settings;
+use bytetext::NoMemory;
+use settings::{Settings, Station};
 use std::fs::File;
 use std::net::Net;
 use std::random::RandomSource;
@@ -34,25 +35,24 @@ pub fn examine<R: Print + AllocGlobal + Net + Clock + Files<File = File> + Rando
     settings: &Settings,
 ) -> Result<u8, DoctorFault> {
     let mut report = Report::new(rt.alloc());
-    let verdict = config_verdict(settings, open_mode(rt, file));
-    report.tell(rt, Subject::Config(file.as_bytes()), verdict)?;
-    let runs = look_at_data(rt, &mut report, settings)?;
-    report.tell(rt, Subject::Files, files_verdict(rt, settings.station)?)?;
-    let is_alone = settings.station.leaves == 0;
-    match &settings.secret {
-        Some(name) if !is_alone => {
-            look_at_secret(rt, &mut report, name.as_bytes(), settings.station.number)?;
-        }
-        Some(_) | None => {}
-    }
-    if let Some(account) = &settings.account {
-        look_at_password(rt, &mut report, account.file.as_bytes())?;
-    }
-    look_at_servers(rt, &mut report, settings)?;
-    if !is_alone {
-        look_at_net(rt, &mut report, settings, runs)?;
-    }
-    Ok(report.status())
+    look_at_all(rt, &mut report, file, settings);
+    report.status()
+}
+
+fn look_at_all<R: Print + AllocGlobal + Net + Clock + Files<File = File> + RandomSource>(
+    rt: &R,
+    report: &mut Report,
+    file: &str,
+    settings: &Settings,
+) {
+    let config = config_verdict(settings, open_mode(rt, file));
+    report.tell(rt, Subject::Config(file.as_bytes()), config);
+    let runs = look_at_data(rt, report, settings);
+    report.tell_found(rt, Subject::Files, files_verdict(rt, settings.station));
+    look_at_passwords(rt, report, settings);
+    look_at_servers(rt, report, settings);
+    look_at_hubs(rt, report, settings);
+    look_at_door(rt, report, settings, runs);
 }
 
 // Looks at the folder, and at the journal in it. Returns whether a bot runs on it.
@@ -60,21 +60,56 @@ fn look_at_data<R: Print + AllocGlobal + Files<File = File>>(
     rt: &R,
     report: &mut Report,
     settings: &Settings,
-) -> Result<bool, DoctorFault> {
+) -> bool {
     let name = settings.folder.as_bytes();
     let Ok(path) = str::from_utf8(name) else {
         let fault = Bad::Folder(FolderFault::Unusable);
-        report.tell(rt, Subject::Folder(name), Verdict::Bad(fault))?;
-        return Ok(false);
+        report.tell(rt, Subject::Folder(name), Verdict::Bad(fault));
+        return false;
     };
-    let user = User::of_process(rt)?;
-    if !look_at_folder(rt, report, path, user.as_ref())? {
-        return Ok(false);
+    let exists = match User::of_process(rt) {
+        Ok(user) => look_at_folder(rt, report, path, user.as_ref()),
+        Err(NoMemory) => {
+            report.lack_memory();
+            false
+        }
+    };
+    exists && look_at_journal(rt, report, path, settings.station)
+}
+
+// Looks at the journal in the folder at `path`. Returns whether a bot runs on it.
+fn look_at_journal<R: Print + AllocGlobal + Files<File = File>>(
+    rt: &R,
+    report: &mut Report,
+    path: &str,
+    station: Station,
+) -> bool {
+    let folder = Subject::Folder(path.as_bytes());
+    match journal_verdict(rt, path, station) {
+        Ok(Some(verdict)) => report.tell(rt, folder, verdict),
+        Ok(None) => {
+            report.tell(rt, folder, Verdict::Note(Note::Runs));
+            return true;
+        }
+        Err(NoMemory) => report.lack_memory(),
     }
-    let found = journal_verdict(rt, path, settings.station)?;
-    let verdict = found.unwrap_or(Verdict::Note(Note::Runs));
-    report.tell(rt, Subject::Folder(name), verdict)?;
-    Ok(found.is_none())
+    false
+}
+
+// Looks at the file of the secret, if the bot is in a net, and at that of the account's password.
+fn look_at_passwords<R: Print + Files<File = File>>(
+    rt: &R,
+    report: &mut Report,
+    settings: &Settings,
+) {
+    let Station { number, leaves } = settings.station;
+    match &settings.secret {
+        Some(name) if leaves > 0 => look_at_secret(rt, report, name.as_bytes(), number),
+        Some(_) | None => {}
+    }
+    if let Some(account) = &settings.account {
+        look_at_password(rt, report, account.file.as_bytes());
+    }
 }
 
 // Looks whether each server answers.
@@ -82,34 +117,59 @@ fn look_at_servers<R: Print + AllocGlobal + Net + Clock + Files<File = File> + R
     rt: &R,
     report: &mut Report,
     settings: &Settings,
-) -> Result<(), DoctorFault> {
+) {
     let folder = settings.folder.as_bytes();
     for server in settings.servers.as_slice() {
         let address = &server.address;
-        let verdict = dial_verdict(rt, Target { folder, address })?;
-        report.tell(rt, Subject::Server(&server.address), verdict)?;
+        look_at_address(
+            rt,
+            report,
+            Subject::Server(address),
+            Target { folder, address },
+        );
     }
-    Ok(())
 }
 
-// Looks whether a leaf's hub answers, or whether a hub that does not run can listen.
-fn look_at_net<R: Print + AllocGlobal + Net + Clock + Files<File = File> + RandomSource>(
+// Looks whether each of a leaf's hubs answers.
+fn look_at_hubs<R: Print + AllocGlobal + Net + Clock + Files<File = File> + RandomSource>(
+    rt: &R,
+    report: &mut Report,
+    settings: &Settings,
+) {
+    let folder = settings.folder.as_bytes();
+    for address in settings.hubs.as_slice() {
+        look_at_address(
+            rt,
+            report,
+            Subject::Hub(address),
+            Target { folder, address },
+        );
+    }
+}
+
+// Looks whether somebody answers at an address, unless nothing more is printed.
+fn look_at_address<R: Print + AllocGlobal + Net + Clock + Files<File = File> + RandomSource>(
+    rt: &R,
+    report: &mut Report,
+    subject: Subject<'_>,
+    target: Target<'_>,
+) {
+    if !report.has_fault() {
+        report.tell_found(rt, subject, dial_verdict(rt, target));
+    }
+}
+
+// Looks whether a hub that does not run can listen. Where a tunnel comes in, the hub listens in its own folder.
+fn look_at_door<R: Print + AllocGlobal + Net>(
     rt: &R,
     report: &mut Report,
     settings: &Settings,
     runs: bool,
-) -> Result<(), DoctorFault> {
-    if let Some(address) = &settings.hub {
-        let folder = settings.folder.as_bytes();
-        let verdict = dial_verdict(rt, Target { folder, address })?;
-        report.tell(rt, Subject::Hub(address), verdict)?;
-    }
+) {
     match &settings.listen {
-        // Where a tunnel comes in, the hub listens in its own folder.
-        Some(address) if !runs && !address.tls => {
-            let verdict = door_verdict(rt, address)?;
-            report.tell(rt, Subject::Listen(address), verdict)
+        Some(address) if settings.station.leaves > 0 && !runs && !address.tls => {
+            report.tell_found(rt, Subject::Listen(address), door_verdict(rt, address));
         }
-        Some(_) | None => Ok(()),
+        Some(_) | None => {}
     }
 }

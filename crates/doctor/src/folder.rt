@@ -1,5 +1,4 @@
 // The bot's folder.
-use crate::fault::DoctorFault;
 use crate::modes::{Seen, verdict_above, verdict_of_mode, verdict_of_owner};
 use crate::report::Report;
 use crate::subject::Subject;
@@ -18,7 +17,7 @@ pub(crate) fn look_at_folder<R: Print + Files>(
     report: &mut Report,
     path: &str,
     user: Option<&User>,
-) -> Result<bool, DoctorFault> {
+) -> bool {
     let folder = Subject::Folder(path.as_bytes());
     let verdict = if path.len() > MAX_PATH {
         faulty(FolderFault::LongName)
@@ -32,8 +31,8 @@ pub(crate) fn look_at_folder<R: Print + Files>(
             },
         }
     };
-    report.tell(rt, folder, verdict)?;
-    Ok(false)
+    report.tell(rt, folder, verdict);
+    false
 }
 
 // Looks at what `path` names.
@@ -42,17 +41,17 @@ fn look_inside<R: Print + Files>(
     report: &mut Report,
     path: &str,
     user: Option<&User>,
-) -> Result<bool, DoctorFault> {
+) -> bool {
     let fault = match fs::metadata(rt, path) {
         Ok(found) if found.is_dir() => {
-            look_at_rights(rt, report, path, Seen::of(&found), user)?;
-            return Ok(true);
+            look_at_rights(rt, report, path, Seen::of(&found), user);
+            return true;
         }
         Ok(_) => FolderFault::NotAFolder,
         Err(error) => fault_of(&error),
     };
-    report.tell(rt, Subject::Folder(path.as_bytes()), faulty(fault))?;
-    Ok(false)
+    report.tell(rt, Subject::Folder(path.as_bytes()), faulty(fault));
+    false
 }
 
 // Tells who owns the folder and what others may do there.
@@ -62,20 +61,21 @@ fn look_at_rights<R: Print>(
     path: &str,
     seen: Seen,
     user: Option<&User>,
-) -> Result<(), DoctorFault> {
+) {
     let folder = Subject::Folder(path.as_bytes());
     let owner = match user {
         Some(user) => verdict_of_owner(seen.owner, user.number),
         None => None,
     };
     let mode = verdict_of_mode(seen.mode);
-    if let Some(verdict) = owner {
-        report.tell(rt, folder, verdict)?;
+    if owner.is_none() && mode.is_none() {
+        report.tell(rt, folder, Verdict::Fine(Fine::Folder));
     }
-    match (owner, mode) {
-        (_, Some(verdict)) => report.tell(rt, folder, verdict),
-        (None, None) => report.tell(rt, folder, Verdict::Fine(Fine::Folder)),
-        (Some(_), None) => Ok(()),
+    if let Some(verdict) = owner {
+        report.tell(rt, folder, verdict);
+    }
+    if let Some(verdict) = mode {
+        report.tell(rt, folder, verdict);
     }
 }
 

@@ -1,5 +1,7 @@
 // The journal of a bot that does not run.
 ghost use Rattle.std.specs.Prelude.{◌≡◌, ◌≤◌};
+ghost use Rattle.disks.specs.Memory.{state_of};
+ghost use Rattle.disks.specs.State.{IsSettled};
 ghost use Rattle.botfolder.specs.Folders.{AreCopies};
 ghost use Rattle.sharelink.specs.declared.TheConstants.{MAX_LEAVES};
 ghost use Rattle.doctor.specs.Journals.{verdict_of_seen};
@@ -7,9 +9,9 @@ ghost use Rattle.doctor.specs.Journals.{verdict_of_seen};
 use crate::verdict::{Bad, Fine, JournalSeen, Note, Verdict};
 use botfolder::{FolderFault, Stopped, read_stopped};
 use botjournal::{BotJournal, LAYOUT};
-use bytejournal::JournalFault;
+use bytejournal::{Disks, JournalFault};
 use bytetext::{Failure, NoMemory};
-use disks::Disk as _;
+use disks::{Disk as _, MemDisk};
 use settings::Station;
 use sharelink::{BotLink, MAX_LEAVES};
 use std::alloc::Global;
@@ -43,19 +45,38 @@ fn verdict_of_copies(alloc: Global, copies: Stopped, station: Station) -> Result
     }
     let Stopped { first, second } = copies;
     let bytes = first.len().saturating_add(second.len()) as u64;
-    let opened = match BotJournal::open(alloc, first, second) {
-        Ok(opened) => opened,
-        Err(returned) => return verdict_of_fault(returned.error),
-    };
-    let layout = opened.journal.layout();
-    let disks = opened.journal.into_disks();
-    match BotLink::open(
-        alloc,
-        disks.first,
-        disks.second,
-        station.number,
-        station.leaves,
-    ) {
+    match BotJournal::open(alloc, first, second) {
+        Ok(opened) => {
+            let layout = opened.journal.layout();
+            let disks = opened.journal.into_disks();
+            verdict_of_disks(alloc, disks, station, Written { layout, bytes })
+        }
+        Err(returned) => verdict_of_fault(returned.error),
+    }
+}
+
+// How a journal is written: its layout, and the bytes of its files.
+#[derive(Clone, Copy)]
+struct Written {
+    layout: u8,
+    bytes: u64,
+}
+
+// Looks whether the bot at this station can be opened on the disks, whose journal is written so.
+fn verdict_of_disks(
+    alloc: Global,
+    disks: Disks<MemDisk>,
+    station: Station,
+    written: Written,
+) -> Result<Verdict, NoMemory>
+    requires first { IsSettled (state_of disks.first) }
+    requires second { IsSettled (state_of disks.second) }
+    requires numbered { station.number ≤ station.leaves }
+    requires few { station.leaves ≤ MAX_LEAVES }
+{
+    let Disks { first, second } = disks;
+    let Written { layout, bytes } = written;
+    match BotLink::open(alloc, first, second, station.number, station.leaves) {
         Ok(bot) => Ok(verdict_of_seen(JournalSeen {
             layout,
             version: bot.version(),

@@ -4,9 +4,10 @@ ghost use Rattle.doctor.specs.Modes.{is_open, may_make, mode_to_give, verdict_ab
 
 use crate::verdict::{Bad, Fine, Note, Verdict};
 use botfolder::FolderFault;
+use std::fmt;
+use std::fmt::Display;
 use std::fs::Metadata;
 use std::os::unix::fs::MetadataExt as _;
-use thiserror::Error;
 
 // The mode of a file or a folder, as `chmod` sets it, and the numbers of its user, which is 0 for root, and of its group.
 #[derive(Clone, Copy)]
@@ -28,12 +29,20 @@ impl Seen {
 }
 
 // A mode for a file that holds a secret: its owner alone may read it, or the group of the bot's user if root owns it.
-#[derive(Clone, Copy, Debug, Error)]
+#[derive(Clone, Copy)]
 pub(crate) enum FileMode {
-    #[error("take that right away, as chmod 600 does")]
     Owner,
-    #[error("give it the group of the bot's user, as chgrp does, and then the mode 640, as chmod does")]
     Group,
+}
+
+impl Display for FileMode {
+    fn fmt<W: fmt::Write>(&self, f: &mut fmt::Formatter<W>) -> fmt::Result {
+        f.write_str(match *self {
+            FileMode::Owner => "take that right away, as chmod 600 does",
+            FileMode::Group =>
+                "give it the group of the bot's user, as chgrp does, and then the mode 640, as chmod does",
+        })
+    }
 }
 
 // The mode that a file is to get which holds a secret and which others may read. The group of a file that root owns is

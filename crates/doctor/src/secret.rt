@@ -2,7 +2,6 @@
 ghost use Rattle.std.specs.Prelude.{◌≡◌};
 ghost use Rattle.doctor.specs.Secrets.{verdict_of_secret};
 
-use crate::fault::DoctorFault;
 use crate::modes::{FileMode, Seen, mode_to_give};
 use crate::report::Report;
 use crate::subject::Subject;
@@ -18,17 +17,17 @@ pub(crate) fn look_at_secret<R: Print + Files<File = File>>(
     report: &mut Report,
     name: &[u8],
     number: u16,
-) -> Result<(), DoctorFault> {
+) {
     let secret = Subject::Secret(name);
     let Ok(path) = str::from_utf8(name) else {
-        let fault = Bad::Secret(SecretFault::Unreadable);
-        return report.tell(rt, secret, Verdict::Bad(fault));
+        return report.tell(
+            rt,
+            secret,
+            Verdict::Bad(Bad::Secret(SecretFault::Unreadable)),
+        );
     };
-    report.tell(rt, secret, verdict_of_secret(number, key_of(rt, path)))?;
-    match open_mode(rt, path) {
-        Some(mode) => report.tell(rt, secret, Verdict::Bad(Bad::OpenSecret(mode))),
-        None => Ok(()),
-    }
+    report.tell(rt, secret, verdict_of_secret(number, key_of(rt, path)));
+    tell_mode(rt, report, secret, open_mode(rt, path));
 }
 
 // Looks at the file `name` of the password of the bot's account, and tells what it finds. Only `run` reads the password.
@@ -36,18 +35,21 @@ pub(crate) fn look_at_password<R: Print + Files<File = File>>(
     rt: &R,
     report: &mut Report,
     name: &[u8],
-) -> Result<(), DoctorFault> {
+) {
     let password = Subject::Password(name);
-    let Ok(path) = str::from_utf8(name) else {
-        return report.tell(rt, password, Verdict::Bad(Bad::Password));
-    };
-    if !is_readable(rt, path) {
-        return report.tell(rt, password, Verdict::Bad(Bad::Password));
+    match str::from_utf8(name) {
+        Ok(path) if is_readable(rt, path) => {
+            report.tell(rt, password, Verdict::Fine(Fine::Password));
+            tell_mode(rt, report, password, open_mode(rt, path));
+        }
+        Ok(_) | Err(_) => report.tell(rt, password, Verdict::Bad(Bad::Password)),
     }
-    report.tell(rt, password, Verdict::Fine(Fine::Password))?;
-    match open_mode(rt, path) {
-        Some(mode) => report.tell(rt, password, Verdict::Bad(Bad::OpenSecret(mode))),
-        None => Ok(()),
+}
+
+// Tells which mode a file is to get, if others may read it.
+fn tell_mode<R: Print>(rt: &R, report: &mut Report, subject: Subject<'_>, mode: Option<FileMode>) {
+    if let Some(mode) = mode {
+        report.tell(rt, subject, Verdict::Bad(Bad::OpenSecret(mode)));
     }
 }
 

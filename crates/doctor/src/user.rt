@@ -2,6 +2,7 @@
 use crate::modes::{Seen, may_make};
 use crate::words::{has_number, number_after};
 use bytetext::NoMemory;
+use std::alloc::Global;
 use std::fs::File;
 use std::io::ErrorKind;
 use std::rt::Files;
@@ -53,17 +54,22 @@ pub(crate) fn text_of<R: AllocGlobal + Files<File = File>>(
     rt: &R,
     path: &str,
 ) -> Result<Vec<u8>, NoMemory> {
-    let file = match File::open(rt, path) {
-        Ok(file) => file,
+    match File::open(rt, path) {
+        Ok(file) => {
+            let mut stream = Duplex::new(file, Vec::new(rt.alloc()));
+            text_read(rt.alloc(), read_up_to(rt.alloc(), &mut stream, MAX_TEXT))
+        }
         Err(error) => match error.kind() {
-            ErrorKind::OutOfMemory => return Err(NoMemory),
-            _ => return Ok(Vec::new(rt.alloc())),
+            ErrorKind::OutOfMemory => Err(NoMemory),
+            _ => Ok(Vec::new(rt.alloc())),
         },
-    };
-    let mut stream = Duplex::new(file, Vec::new(rt.alloc()));
-    match read_up_to(rt.alloc(), &mut stream, MAX_TEXT) {
+    }
+}
+
+fn text_read(alloc: Global, read: Result<Vec<u8>, ReadError>) -> Result<Vec<u8>, NoMemory> {
+    match read {
         Ok(text) => Ok(text),
-        Err(ReadError::Fault) => Ok(Vec::new(rt.alloc())),
+        Err(ReadError::Fault) => Ok(Vec::new(alloc)),
         Err(ReadError::NoMemory) => Err(NoMemory),
     }
 }

@@ -1,5 +1,6 @@
 // The bot of a configuration file.
-use botrun::{RunError, Subject, check, file_bytes, run};
+use crate::moving::move_leaf;
+use botrun::{RunEnd, RunError, Subject, check, file_bytes, run};
 use bytetext::Failure;
 use doctor::{DoctorFault, examine};
 use eggprocs::Ours;
@@ -15,8 +16,8 @@ use std::time::Clock;
 use streams::ReadError;
 use watching::NoWatcher;
 
-/// Runs the bot of the configuration file `file`, with the procs in `store`, until it is asked to end. Returns the exit
-/// status.
+/// Runs the bot of the configuration file `file`, with the procs in `store`, until it is asked to end. A leaf whose hub is
+/// the heir of its net moves there, and goes on. Returns the exit status.
 pub fn run_file<
     R: Print + Eprint + AllocGlobal + Net + Clock + Files<File = File> + RandomSource,
     B: Run,
@@ -25,11 +26,19 @@ pub fn run_file<
         Ok(settings) => settings,
         Err(status) => return status,
     };
-    let mut watcher = NoWatcher::new();
-    match run(rt, store, &mut settings, file, &mut watcher) {
-        Ok(()) => 0,
-        Err(error) => told(rt, file, &settings, error),
+    let mut moved = None;
+    for _net in 0..u64::MAX {
+        let mut watcher = NoWatcher::new();
+        match run(rt, store, &mut settings, file, &mut watcher) {
+            Ok(RunEnd::Ended) => return 0,
+            Ok(RunEnd::Moves) => {}
+            Err(error) => return told(rt, file, &settings, error),
+        }
+        if let Err(status) = move_leaf(rt, file, &settings, &mut moved) {
+            return status;
+        }
     }
+    0
 }
 
 /// Says whether a bot can run by the configuration file `file`, with the procs in `store`. Opens nothing else. Returns
@@ -94,8 +103,8 @@ pub fn settings_of<R: Eprint + AllocGlobal + Files<File = File>>(
     }
 }
 
-// Reports why a bot does not run, or no longer runs.
-fn told<R: Eprint>(rt: &R, file: &str, settings: &Settings, error: RunError) -> u8 {
+/// Reports why a bot does not run, or no longer runs. Returns the exit status.
+pub fn told<R: Eprint>(rt: &R, file: &str, settings: &Settings, error: RunError) -> u8 {
     let folder = str::from_utf8(settings.folder.as_bytes()).unwrap_or("the folder");
     let _told = match error.subject() {
         Subject::File => eprintln!(rt; "eggnet: {file}: {error}"),

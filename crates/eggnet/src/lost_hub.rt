@@ -92,7 +92,7 @@ fn promoted_text(alloc: Global, promoted: &Promoted, heir: &str) -> Result<Vec<u
     put(
         &mut text,
         format!(in alloc;
-            "next: stop each leaf of the net before, run eggnet start-over on its folder, name the new hub in its line hub, and start it\n"
+            "next: a leaf of the net before that has a line hub for the new hub moves by itself; stop another, run eggnet start-over on its folder, name the new hub in its line hub, and start it\n"
         )?,
     )?;
     Ok(text)
@@ -170,7 +170,8 @@ fn put(text: &mut Vec<u8>, line: String) -> Result<(), AllocError> {
     text.extend_from_slice(line.as_bytes())
 }
 
-fn digits(net: &[u8]) -> &str {
+/// Returns the digits of a net's number.
+pub fn digits(net: &[u8]) -> &str {
     str::from_utf8(net).unwrap_or("")
 }
 
@@ -189,8 +190,8 @@ fn print<R: Input + Print + Eprint + AllocGlobal>(rt: &R, text: Result<Vec<u8>, 
     }
 }
 
-// Reports why a leaf of `folder` is not promoted, or does not start over. Returns the exit status.
-fn refused<R: Eprint>(rt: &R, folder: &str, heir: &str, error: PromotionError) -> u8 {
+/// Reports why a leaf of `folder` is not promoted, or does not start over. Returns the exit status.
+pub fn refused<R: Eprint>(rt: &R, folder: &str, heir: &str, error: PromotionError) -> u8 {
     let fault = match error {
         Failure::Refused(fault) => fault,
         Failure::NoMemory => return out_of_memory(rt),

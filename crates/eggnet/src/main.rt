@@ -10,7 +10,7 @@
 //!
 //! If a net's hub is lost, `eggnet promote --which FOLDER..` says which of these stopped leaves' folders has the highest
 //! version, `eggnet promote LEAF_FOLDER NEW_FOLDER` makes the folder of a new hub of it, and `eggnet start-over FOLDER` has
-//! another leaf join that one ([`promotion`]).
+//! another leaf join that one ([`promotion`]). A leaf that finds that hub by one of its lines `hub` moves there by itself.
 //!
 //! `eggnet replay` reads a script from standard input or a named file, runs its commands with a botnet in memory, and
 //! prints the transcript. `eggnet picture` draws such a script's run, as SVG. `eggnet live` reads a live script from
@@ -32,6 +32,7 @@
 mod configuration;
 mod leaf_key;
 mod lost_hub;
+mod moving;
 mod scripts;
 mod serve;
 mod talk;

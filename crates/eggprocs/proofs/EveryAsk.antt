@@ -10,7 +10,7 @@ use Rattle.userfile.specs.declared.change.Change.{Change}
 use Rattle.userfile.specs.declared.edit.Edit.TheVariants.{AddUser, DelBan}
 use Rattle.userfile.specs.declared.flags.PersonFlags.{PersonFlags}
 use Rattle.chanstate.specs.declared.member.Member.{Member}
-use Rattle.chanstate.specs.Views.{members_in}
+use Rattle.chanstate.specs.Views.{member_in, members_in, channels_with}
 use Rattle.outqueue.specs.declared.queue.Queue.{Queue}
 use Rattle.outqueue.specs.declared.queue.Queue.TheVariants.{Help, Mode as mode_queue, Server}
 use Rattle.procs.specs.declared.action.Action.{Action}
@@ -23,16 +23,21 @@ use Rattle.procs.specs.Seen.{Seen}
 use Rattle.eggprocs.specs.declared.duties.Duty.TheVariants.{FirstOp}
 use Rattle.eggprocs.specs.declared.proc_name.ProcName.{ProcName}
 use Rattle.eggprocs.specs.declared.proc_name.ProcName.TheVariants as which
-use Rattle.eggprocs.specs.Args.{arg_at, nick_of, channel_of, said_of, last_of, mode_argument, timer_text, has_word, or_else}
+use Rattle.eggprocs.specs.Args.{arg_at, nick_of, channel_of, said_of, last_of, mode_change, mode_argument, timer_text, has_word, or_else}
 use Rattle.eggprocs.specs.Basics.{is_command, place_of, asked_by_tick, asked_by_tell, asked_by_echo_at}
 use Rattle.eggprocs.specs.Channel.{put, target_of, change_for, asked_for_newcomer}
-use Rattle.eggprocs.specs.Ends.{has_ended, lifts_on, is_left, lift_if, delete_if, ends_of, is_minute, all_ends}
-use Rattle.eggprocs.specs.Everyone.{is_own_join, gives_bot_op, change_of, mode_for}
+use Rattle.eggprocs.specs.Ctcp.{is_request, sender_of, text_of, untagged, answer_to, answered_to, answered}
+use Rattle.eggprocs.specs.Cycling.{leaver_of, is_made_again, is_left_alone, cycled}
+use Rattle.eggprocs.specs.Dynamic.{is_sticky, later_lift, lifted_at}
+use Rattle.eggprocs.specs.Ends.{call_on, has_ended, lifts_on, is_left, lift_if, delete_if, ends_of, is_minute, all_ends}
+use Rattle.eggprocs.specs.Everyone.{flags_of_member, is_own_join, gives_bot_op, change_of, mode_for}
 use Rattle.eggprocs.specs.Infos.{info_by, greeting}
-use Rattle.eggprocs.specs.Keeping.{is_change_here, is_change_by_others, mode_back, takes_op, gives_op, flags_named, op_again, op_undone, is_hit, is_spared, hits_guarded, hits_itself, kick_for}
+use Rattle.eggprocs.specs.Keeping.{is_change_here, is_by_bot, is_change_by_others, is_change_by_untrusted, mode_back, takes_op, gives_op, flags_named, op_again, op_undone, is_hit, is_spared, hits_guarded, hits_itself, kick_for}
 use Rattle.eggprocs.specs.Laws.{EachAsk, AsksOnly, IsNamedOrGivesNothing, is_ask}
-use Rattle.eggprocs.specs.Lines.{privmsg, topic, invite, mode, kick, who}
+use Rattle.eggprocs.specs.Lines.{privmsg, topic, invite, mode, kick, part, join, who}
 use Rattle.eggprocs.specs.Looks.{may_look, is_wanted, line_of}
+use Rattle.eggprocs.specs.Modes.{undoing, undone}
+use Rattle.eggprocs.specs.Needs.{lacks_op_on, needs_op_on, later_need, is_for_later, is_need, need_on, all_needs, needs_now, needed_on, needed_by, is_known_bot, may_give, op_for}
 use Rattle.eggprocs.specs.People.{told}
 use Rattle.eggprocs.specs.Procs.{name_of, which_named, duty_of, wanted_by, actions_by, actions_if, ours}
 use Rattle.eggprocs.specs.Rights.{has_op, has_bot, flags_by, is_bot_op, is_from_op, is_from_voice, is_join, is_op_of, is_timer}
@@ -157,6 +162,55 @@ guard-known is_so call seen false itself = no-asks is_so [] refl
 guard-known is_so call seen true true = no-asks is_so (mode_back (codes "-b") call) refl
 guard-known is_so call seen true false = share-asks is_so FirstOp call seen (mode_back (codes "-b") call) (no-asks is_so (mode_back (codes "-b") call) refl)
 
+answered_to-known : (is_so : Change → Type 0) (nick : List ℕ) (answer : Option (List ℕ)) → EachAsk is_so (answered_to nick answer)
+answered_to-known is_so nick None = no-asks is_so [] refl
+answered_to-known is_so nick (Some answer) = no-asks is_so (answered_to nick (Some answer)) refl
+
+answered-known : (is_so : Change → Type 0) (sender answer : Option (List ℕ)) → EachAsk is_so (answered sender answer)
+answered-known is_so None answer = no-asks is_so [] refl
+answered-known is_so (Some nick) answer = answered_to-known is_so nick answer
+
+undoing-known : (is_so : Change → Type 0) (call : Call) (change : Option (List ℕ)) → EachAsk is_so (undone call change)
+undoing-known is_so call None = no-asks is_so [] refl
+undoing-known is_so call (Some change) = no-asks is_so (undone call (Some change)) refl
+
+cycled-known : (is_so : Change → Type 0) (leaver : Option (List ℕ)) (call : Call) (seen : Seen) → EachAsk is_so (cycled leaver call seen)
+cycled-known is_so None call seen = no-asks is_so [] refl
+cycled-known is_so (Some leaver) call seen =
+    let cycle : List Action = put Server (part (channel_of call)) ∷ put Server (join (channel_of call)) ∷ [] in
+    each-if is_so (is_made_again (channel_of call) && is_left_alone leaver call seen) cycle [] (no-asks is_so cycle refl) (no-asks is_so [] refl)
+
+lifted-known : (is_so : Change → Type 0) (second : Option ℕ) (call : Call) (seen : Seen) → EachAsk is_so (lifted_at second call seen)
+lifted-known is_so None call seen = no-asks is_so [] refl
+lifted-known is_so (Some second) call seen =
+    each-if is_so (is_sticky second call seen) [] (later_lift call ∷ []) (no-asks is_so [] refl) (no-asks is_so (later_lift call ∷ []) refl)
+
+need-known : (is_so : Change → Type 0) (call : Call) (seen : Seen) (joins needs lacks : Bool) → EachAsk is_so
+    (if joins then later_need (channel_of call) ∷ []
+    else if needs then needs_op_on (channel_of call) seen ∷ []
+    else if lacks then needs_op_on (timer_text call) seen ∷ []
+    else [])
+need-known is_so call seen true needs lacks = no-asks is_so (later_need (channel_of call) ∷ []) refl
+need-known is_so call seen false true lacks = no-asks is_so (needs_op_on (channel_of call) seen ∷ []) refl
+need-known is_so call seen false false true = no-asks is_so (needs_op_on (timer_text call) seen ∷ []) refl
+need-known is_so call seen false false false = no-asks is_so [] refl
+
+need-quiet : (seen : Seen) (channel : List ℕ) (lacks : Bool) (action : Action)
+    → (if lacks then Some (needs_op_on channel seen) else None) ≡ Some action → is_ask action ≡ false
+need-quiet seen channel false action is = cc
+need-quiet seen channel true action is = sym (ap ask_if is)
+
+all_needs-known : (is_so : Change → Type 0) (seen : Seen) → EachAsk is_so (all_needs seen)
+all_needs-known is_so seen =
+    let channels : List (List ℕ) = channels_with seen.sight.channels.nick seen.sight.channels in
+    no-asks is_so (all_needs seen) (take-quiet MAX_ACTIONS (filter_map (need_on seen) channels)
+    (given-quiet (need_on seen) (λ channel action is. need-quiet seen channel (lacks_op_on channel seen) action is) channels))
+
+op_for-known : (is_so : Change → Type 0) (channel : List ℕ) (member : Option Member) (seen : Seen) → EachAsk is_so (op_for channel member seen)
+op_for-known is_so channel None seen = no-asks is_so [] refl
+op_for-known is_so channel (Some member) seen =
+    line-if is_so (is_known_bot (flags_of_member (call_on channel) seen member)) mode_queue (mode channel (codes "+o") member.nick)
+
 -- ---- each proc
 
 wanted-known : (w : ProcName) (call : Call) (seen : Seen) → EachAsk (IsNamedOrGivesNothing call seen) (wanted_by w call seen)
@@ -224,6 +278,27 @@ wanted-known which.Later call seen =
     line-if (IsNamedOrGivesNothing call seen) (may_look call seen && is_wanted (first_word (timer_text call)) (line_of call) seen) mode_queue (line_of call)
 wanted-known which.Expire call seen =
     each-if (IsNamedOrGivesNothing call seen) (is_minute call.kind) (all_ends seen.second seen) [] (ends-known call seen seen.second)
+    (no-asks (IsNamedOrGivesNothing call seen) [] refl)
+wanted-known which.Ctcp call seen =
+    each-if (IsNamedOrGivesNothing call seen) (is_request call seen) (answered (sender_of call) (answer_to (untagged (text_of call)) seen.second)) []
+    (answered-known (IsNamedOrGivesNothing call seen) (sender_of call) (answer_to (untagged (text_of call)) seen.second))
+    (no-asks (IsNamedOrGivesNothing call seen) [] refl)
+wanted-known which.KeepModes call seen =
+    each-if (IsNamedOrGivesNothing call seen) (is_change_by_untrusted (mode_change call) call seen)
+    (undone call (undoing seen.sight.channels.support (mode_change call))) []
+    (undoing-known (IsNamedOrGivesNothing call seen) call (undoing seen.sight.channels.support (mode_change call)))
+    (no-asks (IsNamedOrGivesNothing call seen) [] refl)
+wanted-known which.Cycle call seen = cycled-known (IsNamedOrGivesNothing call seen) (leaver_of call) call seen
+wanted-known which.DynamicBans call seen =
+    each-if (IsNamedOrGivesNothing call seen) (is_change_here (codes "+b") call seen && is_by_bot call seen) (lifted_at seen.second call seen) []
+    (lifted-known (IsNamedOrGivesNothing call seen) seen.second call seen) (no-asks (IsNamedOrGivesNothing call seen) [] refl)
+wanted-known which.NeedOp call seen =
+    each-if (IsNamedOrGivesNothing call seen) (is_minute call.kind) (all_needs seen) (needs_now call seen) (all_needs-known (IsNamedOrGivesNothing call seen) seen)
+    (need-known (IsNamedOrGivesNothing call seen) call seen (is_for_later call seen) (is_need call seen) (is_timer call.kind && lacks_op_on (timer_text call) seen))
+wanted-known which.GiveOp call seen =
+    each-if (IsNamedOrGivesNothing call seen) (may_give call seen)
+    (op_for (needed_on call) (member_in (needed_on call) (needed_by call) seen.sight.channels) seen) []
+    (op_for-known (IsNamedOrGivesNothing call seen) (needed_on call) (member_in (needed_on call) (needed_by call) seen.sight.channels) seen)
     (no-asks (IsNamedOrGivesNothing call seen) [] refl)
 
 -- whatever a proc of any name answers

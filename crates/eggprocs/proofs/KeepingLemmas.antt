@@ -35,14 +35,14 @@ use Rattle.eggprocs.proofs.TurnLemmas.{KeepsLooks, keeps-line}
 -- ---- when nothing is requested
 
 -- a conjunction fails with its first part
-false-and : (a b : Bool) → a ≡ false → (a && b) ≡ false
+pub false-and : (a b : Bool) → a ≡ false → (a && b) ≡ false
 false-and a b e = ap (λ (x : Bool). x && b) e
 
 -- nothing is requested where the test fails
-nothing-if : (test : Bool) (actions : List Action) → test ≡ false → (if test then actions else []) ≡ []
+pub nothing-if : (test : Bool) (actions : List Action) → test ≡ false → (if test then actions else []) ≡ []
 nothing-if test actions e = ap (λ (x : Bool). if x then actions else []) e
 
-is_change_here-bot : (change : List ℕ) (call : Call) (seen : Seen) → is_bot_op call seen ≡ false → is_change_here change call seen ≡ false
+pub is_change_here-bot : (change : List ℕ) (call : Call) (seen : Seen) → is_bot_op call seen ≡ false → is_change_here change call seen ≡ false
 is_change_here-bot change call seen = and-false (is_change change call) (is_bot_op call seen)
 
 by_others-bot : (change : List ℕ) (call : Call) (seen : Seen) → is_bot_op call seen ≡ false → is_change_by_others change call seen ≡ false
@@ -51,15 +51,15 @@ by_others-bot change call seen denied = false-and (is_change_here change call se
 by_others-own : (change : List ℕ) (call : Call) (seen : Seen) → is_by_bot call seen ≡ true → is_change_by_others change call seen ≡ false
 by_others-own change call seen own = and-false (is_change_here change call seen) (not (is_by_bot call seen)) (ap not own)
 
-by_untrusted-bot : (change : List ℕ) (call : Call) (seen : Seen) → is_bot_op call seen ≡ false → is_change_by_untrusted change call seen ≡ false
+pub by_untrusted-bot : (change : List ℕ) (call : Call) (seen : Seen) → is_bot_op call seen ≡ false → is_change_by_untrusted change call seen ≡ false
 by_untrusted-bot change call seen denied =
     false-and (is_change_by_others change call seen) (not (is_by_trusted call seen)) (by_others-bot change call seen denied)
 
-by_untrusted-own : (change : List ℕ) (call : Call) (seen : Seen) → is_by_bot call seen ≡ true → is_change_by_untrusted change call seen ≡ false
+pub by_untrusted-own : (change : List ℕ) (call : Call) (seen : Seen) → is_by_bot call seen ≡ true → is_change_by_untrusted change call seen ≡ false
 by_untrusted-own change call seen own =
     false-and (is_change_by_others change call seen) (not (is_by_trusted call seen)) (by_others-own change call seen own)
 
-by_untrusted-trusted : (change : List ℕ) (call : Call) (seen : Seen) → is_by_trusted call seen ≡ true
+pub by_untrusted-trusted : (change : List ℕ) (call : Call) (seen : Seen) → is_by_trusted call seen ≡ true
     → is_change_by_untrusted change call seen ≡ false
 by_untrusted-trusted change call seen trusted = and-false (is_change_by_others change call seen) (not (is_by_trusted call seen)) (ap not trusted)
 
@@ -136,11 +136,11 @@ bitch-servers call seen server = does-nothing which.Bitch call seen (bitch-none 
 -- ---- what is requested
 
 -- a line is that line
-is_line-put : (line : List ℕ) → is_line line (put mode_queue line) ≡ true
+pub is_line-put : (line : List ℕ) → is_line line (put mode_queue line) ≡ true
 is_line-put line = (bytes_eq-Decides line line).1 refl
 
 -- a lone line where a test passes is that line, and the test passes
-lone-line : (test : Bool) (line : List ℕ) → list_all (λ action. test && is_line_in_turn line action) (if test then put mode_queue line ∷ [] else []) ≡ true
+pub lone-line : (test : Bool) (line : List ℕ) → list_all (λ action. test && is_line_in_turn line action) (if test then put mode_queue line ∷ [] else []) ≡ true
 lone-line false line = refl
 lone-line true line = ap (λ (b : Bool). (b || false) && true) (is_line-put line)
 
@@ -150,7 +150,7 @@ lone-line-not true line = refl
 lone-line-not false line = lone-line true line
 
 -- a look keeps a test that says nothing of the action, and the line
-test-kept : (call : Call) (seen : Seen) (test : Bool) (line : List ℕ) → KeepsLooks call seen (λ action. test && is_line_in_turn line action)
+pub test-kept : (call : Call) (seen : Seen) (test : Bool) (line : List ℕ) → KeepsLooks call seen (λ action. test && is_line_in_turn line action)
 test-kept call seen true line turn action look is right = keeps-line line call seen turn action look is right
 test-kept call seen false line turn action look is right = cc
 

@@ -1,5 +1,6 @@
 pub mod AskLemmas
 pub mod BanLines
+pub mod ChannelLemmas
 pub mod DueLemmas
 pub mod EndLemmas
 pub mod EveryAsk

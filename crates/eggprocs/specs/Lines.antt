@@ -21,9 +21,21 @@ invite nick channel = codes "INVITE " ++ nick ++ codes " " ++ channel
 abbrev pub mode : List ℕ → List ℕ → List ℕ → List ℕ
 mode channel change target = codes "MODE " ++ channel ++ codes " " ++ change ++ codes " " ++ target
 
+-- MODE CHANNEL CHANGE
+abbrev pub plain_mode : List ℕ → List ℕ → List ℕ
+plain_mode channel change = codes "MODE " ++ channel ++ codes " " ++ change
+
 -- KICK CHANNEL NICK :REASON
 abbrev pub kick : List ℕ → List ℕ → List ℕ → List ℕ
 kick channel nick reason = codes "KICK " ++ channel ++ codes " " ++ nick ++ codes " :" ++ reason
+
+-- PART CHANNEL
+abbrev pub part : List ℕ → List ℕ
+part channel = codes "PART " ++ channel
+
+-- JOIN CHANNEL
+abbrev pub join : List ℕ → List ℕ
+join channel = codes "JOIN " ++ channel
 
 -- WHO CHANNEL
 abbrev pub who : List ℕ → List ℕ

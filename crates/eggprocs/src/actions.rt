@@ -7,12 +7,17 @@ use crate::basics::{asked_by_adduser, asked_by_echo, asked_by_tell, asked_by_tic
 use crate::channel::{
     asked_by_autoop, asked_by_invite, asked_by_kick, asked_by_topic, asked_for_mode,
 };
+use crate::ctcp::asked_by_ctcp;
+use crate::cycling::asked_by_cycle;
+use crate::dynamic::asked_by_dynamicbans;
 use crate::ends::asked_by_expire;
 use crate::everyone::asked_by_opall;
 use crate::infos::{asked_by_greet, asked_by_info};
 use crate::keeping::{asked_by_bitch, asked_by_enforcebans, asked_by_guard, asked_by_protectops};
 use crate::looks::asked_by_later;
 use crate::marks::asked_by_bans;
+use crate::modes::asked_by_keepmodes;
+use crate::needs::{asked_by_giveop, asked_by_needop};
 use crate::orders::{Order, asked_by_order};
 use crate::people::asked_by_whois;
 use crate::proc_name::ProcName;
@@ -83,5 +88,11 @@ fn wanted_by(
         ProcName::EnforceBans => asked_by_enforcebans(alloc, call, view),
         ProcName::Later => asked_by_later(alloc, call, view),
         ProcName::Expire => asked_by_expire(alloc, call, view),
+        ProcName::Ctcp => asked_by_ctcp(alloc, call, view),
+        ProcName::KeepModes => asked_by_keepmodes(alloc, call, view),
+        ProcName::Cycle => asked_by_cycle(alloc, call, view),
+        ProcName::DynamicBans => asked_by_dynamicbans(alloc, call, view),
+        ProcName::NeedOp => asked_by_needop(alloc, call, view),
+        ProcName::GiveOp => asked_by_giveop(alloc, call, view),
     }
 }

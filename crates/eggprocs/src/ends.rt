@@ -37,7 +37,7 @@ pub(crate) fn asked_by_expire(
 }
 
 // Whether a call is for a minute that begins.
-fn is_minute(kind: CallKind) -> bool
+pub(crate) fn is_minute(kind: CallKind) -> bool
     ensures { result ≡ is_minute kind }
 {
     matches!(kind, CallKind::Time | CallKind::Cron)
@@ -114,7 +114,7 @@ fn lifts_on(alloc: Global, channel: &[u8], view: &View<'_>) -> Result<bool, NoMe
 }
 
 // A call on a channel, by which bots work out who is the first there.
-fn call_on(alloc: Global, channel: &[u8]) -> Result<Call, NoMemory>
+pub(crate) fn call_on(alloc: Global, channel: &[u8]) -> Result<Call, NoMemory>
     ensures { IfOk result (λ call. call ≡ call_on channel.now) }
 {
     let mut args = Texts::empty(alloc);

@@ -48,7 +48,7 @@ pub(crate) fn is_own_nick(view: &View<'_>, nick: &[u8]) -> bool
 }
 
 // Whether the bot itself joins.
-fn is_own_join(call: &Call, view: &View<'_>) -> bool
+pub(crate) fn is_own_join(call: &Call, view: &View<'_>) -> bool
     ensures { result ≡ is_own_join call.now view.now }
 {
     is_join(call.kind) && is_own_nick(view, nick_of(call))

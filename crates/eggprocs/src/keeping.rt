@@ -94,14 +94,14 @@ pub(crate) fn asked_by_enforcebans(
 }
 
 // Whether a call is for this change on a channel on which the bot is an operator.
-fn is_change_here(change: &[u8], call: &Call, view: &View<'_>) -> bool
+pub(crate) fn is_change_here(change: &[u8], call: &Call, view: &View<'_>) -> bool
     ensures { result ≡ is_change_here change.now call.now view.now }
 {
     is_change(change, call) && is_bot_op(call, view)
 }
 
 // Whether the bot itself made the change.
-fn is_by_bot(call: &Call, view: &View<'_>) -> bool
+pub(crate) fn is_by_bot(call: &Call, view: &View<'_>) -> bool
     ensures { result ≡ is_by_bot call.now view.now }
 {
     is_own_nick(view, nick_of(call))
@@ -130,7 +130,7 @@ fn is_change_by_others(change: &[u8], call: &Call, view: &View<'_>) -> bool
 }
 
 // Whether a call is for this change, made by anybody but the bot itself, masters and other bots.
-fn is_change_by_untrusted(change: &[u8], call: &Call, view: &View<'_>) -> bool
+pub(crate) fn is_change_by_untrusted(change: &[u8], call: &Call, view: &View<'_>) -> bool
     ensures { result ≡ is_change_by_untrusted change.now call.now view.now }
 {
     is_change_by_others(change, call, view) && !is_by_trusted(call, view)
@@ -145,7 +145,7 @@ fn mode_back(alloc: Global, change: &[u8], call: &Call) -> Result<Actions, NoMem
 }
 
 // Whether the change names the bot.
-fn names_bot(call: &Call, view: &View<'_>) -> bool
+pub(crate) fn names_bot(call: &Call, view: &View<'_>) -> bool
     ensures { result ≡ names_bot call.now view.now }
 {
     is_own_nick(view, mode_argument(call))
@@ -213,7 +213,7 @@ fn is_hit(
 }
 
 // Whether a member is the bot itself.
-fn is_self(view: &View<'_>, member: &Member) -> bool
+pub(crate) fn is_self(view: &View<'_>, member: &Member) -> bool
     ensures { result ≡ is_self view.now member.now }
 {
     is_own_nick(view, member.nick.as_bytes())

@@ -44,6 +44,8 @@ pub fn commands_want_an_operator()
     ensures bitch { IsOnlyByOps (codes "bitch") }
     ensures guard { IsOnlyByOps (codes "guard") }
     ensures enforcebans { IsOnlyByOps (codes "enforcebans") }
+    ensures keepmodes { IsOnlyByOps (codes "keepmodes") }
+    ensures dynamicbans { IsOnlyByOps (codes "dynamicbans") }
 {}
 
 /// A law; calling it does nothing. Flags count everywhere and on the channel.
@@ -67,9 +69,9 @@ pub fn keeping_spares_operators()
 
 /// A law; calling it does nothing. Some callers may change modes as they like:
 ///
-/// - `protectops`, `bitch` and `guard` do nothing for a change that the bot itself makes, so that they reverse nothing
-///   that its own procs do.
-/// - `protectops` and `bitch` do nothing for a caller who has one of the flags `m` and `n`, everywhere or on the channel,
+/// - `protectops`, `bitch`, `guard` and `keepmodes` do nothing for a change that the bot itself makes, so that they
+///   reverse nothing that its own procs do.
+/// - `protectops`, `bitch` and `keepmodes` do nothing for a caller who has one of the flags `m` and `n`, everywhere or on the channel,
 ///   or `b` everywhere. So two bots don't undo each other's changes without end.
 /// - For such a caller, `guard` removes only the ban that the caller sets, if its mask matches the bot itself.
 /// - `bitch` does nothing for a change that a server makes.
@@ -77,8 +79,10 @@ pub fn keeping_answers_others()
     ensures protectops { IsOnlyForOthers (codes "protectops") }
     ensures bitch { IsOnlyForOthers (codes "bitch") }
     ensures guard { IsOnlyForOthers (codes "guard") }
+    ensures keepmodes { IsOnlyForOthers (codes "keepmodes") }
     ensures protectops_trusted { LeavesTrusted (codes "protectops") }
     ensures bitch_trusted { LeavesTrusted (codes "bitch") }
+    ensures keepmodes_trusted { LeavesTrusted (codes "keepmodes") }
     ensures guard_trusted { DoesOnlyForTrusted is_end_of_ban_on_bot (codes "guard") }
     ensures bitch_servers { LeavesServers (codes "bitch") }
 {}

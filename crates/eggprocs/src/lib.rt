@@ -70,21 +70,59 @@
 //! | `bitch` | `mode` | `+o NICK` | `MODE CHANNEL -o NICK`, if NICK is a member without `o` and `b` |
 //! | `guard` | `mode` | `+b MASK` | `MODE CHANNEL -b MASK`, if MASK matches the bot, or a member with `o` or `f` |
 //! | `enforcebans` | `mode` | `+b MASK` | `KICK CHANNEL NICK :banned`, for members without `o` and `f` whom MASK matches |
+//! | `keepmodes` | `mode` | any of a mode without argument | the reverse, as `MODE CHANNEL +n` for `-n` |
+//! | `dynamicbans` | `mode` | `+b MASK` by the bot | a call of `lift` after an hour, unless a ban of MASK is sticky |
 //!
-//! - `protectops`, `bitch` and `guard` do nothing for a change that the bot itself makes.
-//! - `protectops` and `bitch` do nothing for a change by a master or a bot, as in Eggdrop. That is a caller who has one
-//!   of the flags `m` and `n`, everywhere or on the channel, or the flag `b` everywhere. For such a caller, `guard` acts
-//!   only if MASK matches the bot itself. So two bots don't undo each other's changes without end
+//! - `protectops`, `bitch`, `guard` and `keepmodes` do nothing for a change that the bot itself makes.
+//! - `protectops`, `bitch` and `keepmodes` do nothing for a change by a master or a bot, as in Eggdrop. That is a caller
+//!   who has one of the flags `m` and `n`, everywhere or on the channel, or the flag `b` everywhere. For such a caller,
+//!   `guard` acts only if MASK matches the bot itself. So two bots don't undo each other's changes without end
 //!   ([`keeping_answers_others`]).
-//! - `bitch` does nothing if a server gives op. `protectops` and `guard` also undo what a server does.
+//! - The mask of its bind says which changes `keepmodes` undoes: `#egg -n` keeps the mode `n` on #egg. It leaves alone
+//!   the modes that the server announces with an argument, also if they have one only when they are set
+//!   ([`modes_are_set_back`]).
+//! - `dynamicbans` requests nothing before the bot's clock shows a second. The records keep the ban, so the bot sets it
+//!   again when somebody joins whom it matches ([`dynamic_bans_are_the_bots_own`]).
+//! - `bitch` does nothing if a server gives op. `protectops`, `guard` and `keepmodes` also undo what a server does.
 //! - `protectops` and `bitch` do nothing if NICK is the bot, and `protectops` does nothing if NICK is the caller.
 //! - `bitch` also takes op from members whom the userfile does not know. It leaves op to members who have the flag `b`
 //!   everywhere.
 //! - `enforcebans` never kicks the bot itself. It kicks the first eight such members, in the order in which they came,
 //!   also for a ban of the bot's own.
 //! - `guard` and `enforcebans` do nothing if MASK is no hostmask.
-//! - All four look up a member by the host that the server has sent. A member whose host the bot does not know yet is a
-//!   stranger to it. So bind `opall` to joins too: it asks for the hosts when the bot itself joins.
+//! - The first four look up a member by the host that the server has sent. A member whose host the bot does not know yet
+//!   is a stranger to it. So bind `opall` to joins too: it asks for the hosts when the bot itself joins.
+//!
+//! When the bot is no operator of a channel, and between bots:
+//!
+//! | Proc | Kind | When | What it requests |
+//! |---|---|---|---|
+//! | `cycle` | `part`, `sign`, `kick` | everybody else has left | `PART CHANNEL` and `JOIN CHANNEL` |
+//! | `needop` | `join` | the bot itself joins | a call of `needop` after ten seconds, with the text CHANNEL |
+//! | `needop` | `mode` | `-o` of the bot; `+o` of another one | `needop CHANNEL NICK` to the hub, with the bot's own nick |
+//! | `needop` | timers | the bot is on the text's CHANNEL | the same |
+//! | `needop` | `time`, `cron` | | the same for the first eight channels |
+//! | `giveop` | `bot` | the text is WORD CHANNEL NICK | `MODE CHANNEL +o NICK` |
+//!
+//! - `cycle` does nothing if the bot is an operator ([`cycles_leave_nobody_behind`]). It leaves alone channels that have no
+//!   operators, whose names begin with `+`, and those that nobody can make again, whose names begin with `!`.
+//! - `needop` asks nothing if the bot is an operator, unless somebody takes op from it. At the hub it reports S7 (there
+//!   is no bot to ask).
+//! - `giveop` gives op only if the bot is an operator, and NICK is a member with the flag `b` everywhere and one of `o`,
+//!   `m` and `n` ([`bots_give_op_to_known_bots`]). Bind it to the word `needop` at the hub.
+//!
+//! For lines of the server:
+//!
+//! | Proc | Kind | Line | What it requests |
+//! |---|---|---|---|
+//! | `ctcp` | `raw` | `PRIVMSG BOT :\x01VERSION\x01` | `NOTICE NICK :\x01VERSION eggnet\x01` |
+//! | `ctcp` | `raw` | the same with `PING ARGUMENT` | ARGUMENT given back, if it has at most [`MAX_PING`] bytes |
+//! | `ctcp` | `raw` | the same with `TIME` | the time of the day in UTC, as `TIME 01:46:40 UTC` |
+//!
+//! - These are requests of the Client-To-Client Protocol, which call no other bind. NICK is the person who sends the line.
+//!   `ctcp` answers 0, so the bot takes the line as any other.
+//! - `ctcp` does nothing for a line to a channel, a NOTICE or a server ([`requests_are_to_the_bot`]), and nothing for `TIME`
+//!   before the bot's clock shows a second.
 //!
 //! In private messages, for callers who have one of the flags `m` and `n` everywhere. Anyone else gets a NOTICE that
 //! says so, and no change ([`changes_want_a_master`]). An owner is a user with the flag `n`, and a master one with `m`. A
@@ -142,7 +180,7 @@
 //! |---|---|---|---|
 //! | `op`, `deop`, `voice`, `devoice`, `autoop`, `kick`, `protectops`, `bitch`, `enforcebans` | operators | at once | a look |
 //! | `opall` | all | at once | a look |
-//! | `topic`, `invite`, `ban`, `unban` | operators | at once | nothing |
+//! | `topic`, `invite`, `ban`, `unban`, `keepmodes` | operators | at once | nothing |
 //! | `greet`, `echo`, and `seen` and `adduser` on a channel | all | at once | nothing |
 //! | `guard` | operators | at once | nothing, unless the ban hits the bot itself |
 //!
@@ -160,8 +198,8 @@
 //! - A bot counts another one only if it knows that one's host. So bind `opall` to joins.
 //! - A member with the flag `b` who is no bot of the net delays the bots whose nicks come later by five seconds. If its
 //!   nick is the first, nobody greets or answers. So give that flag to bots of the net alone.
-//! - The other procs are each bot's own: those of private messages, `lift`, `later`, `expire`,
-//!   `tick`, `tell`, `quiet` and `stop`.
+//! - The other procs are each bot's own: those of private messages, `lift`, `later`, `expire`, `dynamicbans`, `cycle`,
+//!   `needop`, `giveop`, `ctcp`, `tick`, `tell`, `quiet` and `stop`.
 //!
 //! To try things out with, for any caller:
 //!
@@ -187,7 +225,11 @@ mod bans;
 mod basics;
 mod body;
 mod channel;
+mod channel_laws;
+mod ctcp;
+mod cycling;
 mod duties;
+mod dynamic;
 mod effects;
 mod ends;
 mod everyone;
@@ -199,6 +241,8 @@ mod laws;
 mod lines;
 mod looks;
 mod marks;
+mod modes;
+mod needs;
 mod orders;
 mod outcomes;
 mod pairs;
@@ -212,7 +256,13 @@ mod whereabouts;
 
 pub use crate::bans::UTIMER_MINUTES;
 pub use crate::body::EggProc;
+pub use crate::channel_laws::{
+    bots_give_op_to_known_bots, cycles_leave_nobody_behind, dynamic_bans_are_the_bots_own,
+    modes_are_set_back, requests_are_to_the_bot,
+};
+pub use crate::ctcp::MAX_PING;
 pub use crate::duties::Duty;
+pub use crate::dynamic::DYNAMIC_SECONDS;
 pub use crate::effects::LineEffect;
 pub use crate::ends::LEFT_SECONDS;
 pub use crate::full_store::store;
@@ -222,6 +272,7 @@ pub use crate::laws::{
     greetings_want_an_info, info_is_of_who_asks, keeping_answers_others, keeping_spares_operators,
 };
 pub use crate::looks::{LOOK_SECONDS, MAX_TURN};
+pub use crate::needs::ASK_SECONDS;
 pub use crate::orders::Order;
 pub use crate::proc_name::{EVERY, PROC_COUNT, ProcName};
 pub use crate::promise::Ours;

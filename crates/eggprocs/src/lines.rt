@@ -52,6 +52,13 @@ pub(crate) fn mode(
     Ok(Text::new(line))
 }
 
+// MODE CHANNEL CHANGE
+pub(crate) fn plain_mode(alloc: Global, channel: &[u8], change: &[u8]) -> Result<Text, NoMemory>
+    ensures { IfOk result (λ line. line ≡ lines.plain_mode channel.now change.now) }
+{
+    of_two(alloc, b"MODE ", channel, b" ", change)
+}
+
 // KICK CHANNEL NICK :REASON
 pub(crate) fn kick(
     alloc: Global,
@@ -71,12 +78,33 @@ pub(crate) fn kick(
     Ok(Text::new(line))
 }
 
+// PART CHANNEL
+pub(crate) fn part(alloc: Global, channel: &[u8]) -> Result<Text, NoMemory>
+    ensures { IfOk result (λ line. line ≡ lines.part channel.now) }
+{
+    of_one(alloc, b"PART ", channel)
+}
+
+// JOIN CHANNEL
+pub(crate) fn join(alloc: Global, channel: &[u8]) -> Result<Text, NoMemory>
+    ensures { IfOk result (λ line. line ≡ lines.join channel.now) }
+{
+    of_one(alloc, b"JOIN ", channel)
+}
+
 // WHO CHANNEL
 pub(crate) fn who(alloc: Global, channel: &[u8]) -> Result<Text, NoMemory>
     ensures { IfOk result (λ line. line ≡ lines.who channel.now) }
 {
-    let mut line = Vec::from_slice(alloc, b"WHO ")?;
-    line.extend_from_slice(channel)?;
+    of_one(alloc, b"WHO ", channel)
+}
+
+// A command and a text.
+fn of_one(alloc: Global, command: &[u8], text: &[u8]) -> Result<Text, NoMemory>
+    ensures { IfOk result (λ line. line ≡ command.now ++ text.now) }
+{
+    let mut line = Vec::from_slice(alloc, command)?;
+    line.extend_from_slice(text)?;
     Ok(Text::new(line))
 }
 

@@ -6,7 +6,7 @@ use crate::duties::Duty;
 use procs::Code;
 
 /// The number of procs.
-pub const PROC_COUNT: usize = 36;
+pub const PROC_COUNT: usize = 42;
 
 /// Every proc, in the order in which [`store`](crate::store) adds them.
 pub const EVERY: [ProcName; PROC_COUNT] = [
@@ -46,6 +46,12 @@ pub const EVERY: [ProcName; PROC_COUNT] = [
     ProcName::EnforceBans,
     ProcName::Later,
     ProcName::Expire,
+    ProcName::Ctcp,
+    ProcName::KeepModes,
+    ProcName::Cycle,
+    ProcName::DynamicBans,
+    ProcName::NeedOp,
+    ProcName::GiveOp,
 ];
 
 /// A proc of the programs. The crate's first page says what each is for.
@@ -123,6 +129,18 @@ pub enum ProcName {
     Later,
     /// `expire`: removes the bans that have ended.
     Expire,
+    /// `ctcp`: answers VERSION, PING and TIME.
+    Ctcp,
+    /// `keepmodes`: undoes the change of a mode.
+    KeepModes,
+    /// `cycle`: leaves a channel on which nobody is an operator, and joins it again.
+    Cycle,
+    /// `dynamicbans`: ends the bot's own bans on a channel after an hour.
+    DynamicBans,
+    /// `needop`: asks the hub for op.
+    NeedOp,
+    /// `giveop`: gives op to another bot that asks for it.
+    GiveOp,
 }
 
 impl ProcName {
@@ -167,6 +185,12 @@ impl ProcName {
             ProcName::EnforceBans => b"enforcebans",
             ProcName::Later => b"later",
             ProcName::Expire => b"expire",
+            ProcName::Ctcp => b"ctcp",
+            ProcName::KeepModes => b"keepmodes",
+            ProcName::Cycle => b"cycle",
+            ProcName::DynamicBans => b"dynamicbans",
+            ProcName::NeedOp => b"needop",
+            ProcName::GiveOp => b"giveop",
         }
     }
 
@@ -211,7 +235,13 @@ impl ProcName {
             | ProcName::Guard
             | ProcName::EnforceBans
             | ProcName::Later
-            | ProcName::Expire => Code::Zero,
+            | ProcName::Expire
+            | ProcName::Ctcp
+            | ProcName::KeepModes
+            | ProcName::Cycle
+            | ProcName::DynamicBans
+            | ProcName::NeedOp
+            | ProcName::GiveOp => Code::Zero,
         }
     }
     /// Returns who of the bots on a channel does what the proc requests there.
@@ -220,7 +250,11 @@ impl ProcName {
     {
         match self {
             ProcName::AddUser | ProcName::Echo | ProcName::Greet | ProcName::Seen => Duty::First,
-            ProcName::Topic | ProcName::Invite | ProcName::Ban | ProcName::Unban => Duty::FirstOp,
+            ProcName::Topic
+            | ProcName::Invite
+            | ProcName::Ban
+            | ProcName::Unban
+            | ProcName::KeepModes => Duty::FirstOp,
             ProcName::OpAll => Duty::Turns,
             ProcName::Op
             | ProcName::Deop
@@ -248,7 +282,12 @@ impl ProcName {
             | ProcName::Bans
             | ProcName::Guard
             | ProcName::Later
-            | ProcName::Expire => Duty::Each,
+            | ProcName::Expire
+            | ProcName::Ctcp
+            | ProcName::Cycle
+            | ProcName::DynamicBans
+            | ProcName::NeedOp
+            | ProcName::GiveOp => Duty::Each,
         }
     }
 }

@@ -42,8 +42,8 @@ pub fn strangers_change_no_rank()
 ///
 /// - At its turn 0 each proc requests what it would request if the bot were alone.
 /// - At a later turn it requests nothing but calls of `later`, five seconds later for each turn.
-/// - What people read is said at turn 0 alone, and topics, invitations and bans are the first bot's alone: at a later
-///   turn these procs request nothing.
+/// - What people read is said at turn 0 alone, and topics, invitations, bans and the modes of `keepmodes` are the first
+///   bot's alone: at a later turn these procs request nothing.
 /// - `guard` removes a ban if the ban hits the bot itself, or if the bot is the first operator of the bots.
 pub fn bots_take_turns()
     ensures at_once { (proc : ProcName) → ActsAtOnce proc }
@@ -56,6 +56,7 @@ pub fn bots_take_turns()
     ensures invite { LeavesItToTheFirst which.Invite }
     ensures ban { LeavesItToTheFirst which.Ban }
     ensures unban { LeavesItToTheFirst which.Unban }
+    ensures keepmodes { LeavesItToTheFirst which.KeepModes }
     ensures guard { LeavesOthersBansToTheFirst (codes "guard") }
 {}
 

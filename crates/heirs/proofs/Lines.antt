@@ -55,6 +55,21 @@ lost_nothing old h st version count is =
     changes_of-inherited (take version h.hub.kept.accepted)
     ∙ ap changes_of (take_all version h.hub.kept.accepted (omega (arith, shown_past old h st 0 version is)))
 
+-- an heir of a bot at the hub's version goes on from the hub's records
+pub stands_whole : (old : Net) (h : History) → Stands old h → (bot version count : ℕ) (w : Net) → shown_version old 0 ≡ Some version
+    → IsHeirOf old bot version count w → (heir : ℕ) → shown_version w 0 ≡ Some heir
+    → (heir ≡ version) × (shown_records w 0 ≡ shown_records old 0)
+stands_whole old h st bot version count w hub is heir shows =
+    let start = heir_start count (take version h.hub.kept.accepted) in
+    let stands = begins old h st bot version count w is in
+    let same : heir ≡ version = shown_past w start stands 0 heir shows ∙ begins-length old h st bot version count w is in (
+      same,
+      shown_are w start stands 0 heir shows
+          ∙ ap (λ (v : ℕ). Some (records_of start.hub.kept.accepted v)) same
+          ∙ ap (λ (r : Records). Some r) (begins-records old h st bot version count w is version (omega arith))
+          ∙ sym (shown_are old h st 0 version hub),
+    )
+
 -- ---- a net and its ancestors
 
 -- An ancestor's history, and that it means the same as this one, at each version that these promoted bots had reached.

@@ -32,6 +32,11 @@ pub fn laws_of_heirs<P: Promise>()
     // If the hub was promoted, or a bot at the hub's version, the heir's hub has accepted each change that the old hub had.
     ensures nothing_lost { (old : Net) (h : History) → Stands old h → (version count : ℕ) → shown_version old 0 ≡ Some version
         → changes_of (heir_start count (take version h.hub.kept.accepted)).hub.kept.accepted ≡ changes_of h.hub.kept.accepted }
+    // Then the heir's hub shows the version and the records that the old hub showed at that moment: those after each change
+    // that it had accepted.
+    ensures all_stands { (old : Net) (h : History) → Stands old h → (bot version count : ℕ) (w : Net)
+        → shown_version old 0 ≡ Some version → IsHeirOf old bot version count w
+        → (heir : ℕ) → shown_version w 0 ≡ Some heir → (heir ≡ version) × (shown_records w 0 ≡ shown_records old 0) }
     // So a net stands for a history, however many ancestors it has: none, if it is new.
     ensures stands { (ancestors : List Ancestor) (w : Net) → Descends P.promised ancestors w → (h : History) × Stands w h }
     // At any two moments, bots of one net at one version hold the same records.

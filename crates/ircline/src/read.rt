@@ -10,9 +10,10 @@ use crate::fault::LineFault;
 use crate::line::Line;
 use crate::message::Message;
 use crate::prefix::nick;
-use crate::words::parted;
+use crate::words::{holds, parted};
 use bstr::ByteSlice as _;
 use bytetext::{NoMemory, Text, Texts};
+use memchr::memchr2;
 use std::alloc::Global;
 
 /// The most bytes that a line may have before its end.
@@ -39,7 +40,7 @@ pub fn read_line(alloc: Global, bytes: &[u8]) -> Result<Line, NoMemory>
 pub fn first_end(bytes: &[u8]) -> Option<usize>
     ensures { IsFirstByte is_end bytes.now result }
 {
-    bytes.find_byteset(b"\r\n")
+    memchr2(b'\r', b'\n', bytes)
 }
 
 /// Reads `run`, the bytes of a line, which hold neither CR nor LF.
@@ -50,7 +51,7 @@ pub fn read_run(alloc: Global, run: &[u8]) -> Result<Line, NoMemory>
     if run.len() > LIMIT {
         return Ok(Line::Bad(LineFault::TooLong));
     }
-    if run.contains(&0) {
+    if holds(run, 0) {
         return Ok(Line::Bad(LineFault::NulByte));
     }
     let Some((prefix, words)) = prefix_of(without_spaces(run)) else {

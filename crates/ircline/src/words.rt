@@ -19,6 +19,13 @@ pub fn parted(text: &[u8], first: Option<usize>) -> (&[u8], &[u8])
     }
 }
 
+/// Returns whether `text` holds `byte`.
+pub fn holds(text: &[u8], byte: u8) -> bool
+    ensures { result ≡ holds byte text.now }
+{
+    halves(text, byte).is_some()
+}
+
 /// Returns what is before and after the first `byte` in `text`, or `None` if there is none.
 pub fn halves(text: &[u8], byte: u8) -> Option<(&[u8], &[u8])>
     ensures { MatchOption result

@@ -10,6 +10,9 @@ use streams::{Given, Stream, Taken};
 // The most bytes that one call of `ask` hears.
 const PIECE: usize = 4_096;
 
+// The most while little is held. Most lines come alone, and the allocator serves so few bytes faster than a whole piece.
+const FIRST_PIECE: usize = 512;
+
 /// The most bytes that a connection holds.
 #[derive(Clone, Copy, Debug, PartialEq, Eq)]
 pub struct Bounds {
@@ -56,10 +59,11 @@ impl<S: Stream + Drop> Drop for Connection<S> {
 
 impl<S: Stream + Drop> Connection<S> {
     ghost use Rattle.std.specs.Prelude.{◌≡◌, ◌≤◌, ◌<◌, ◌+◌, ◌++◌, ◌||◌, ◌&&◌, ◌↔◌, not, true, false};
-    ghost use Rattle.std.specs.Prelude.{[], length, take, drop, IfOk, OnErr, vec_len};
+    ghost use Rattle.std.specs.Prelude.{[], length, take, drop, IfOk, IsOk, OnErr, vec_len};
     ghost use Rattle.std.specs.Vec.{vec_capacity};
     ghost use Rattle.streams.specs.Transfers.{ReadsPiece};
     ghost use Rattle.net.specs.Connections.{Grows, Ledger, Holds, Reads, ReadsFewer, Sends};
+    ghost use Rattle.net.specs.declared.connection.TheConstants.{PIECE};
     ghost use Rattle.net.specs.Connections.{begun, ends_hearing, more_handed, more_told, stalls, talk_of, told_bytes};
 
     /// Creates a connection over `stream` that holds at most `bounds`; nothing is heard or told on it yet. Does not
@@ -159,10 +163,47 @@ impl<S: Stream + Drop> Connection<S> {
             → Holds ledger (S.source self.old.stream) (S.sink self.old.stream) self.old.heard.items self.old.unsent.items
             → Holds ledger (S.source self.new.stream) (S.sink self.new.stream) self.new.heard.items self.new.unsent.items }
     {
-        let room = PIECE.min(self.bounds.heard - self.heard.len());
+        let room = self.wanted();
         self.heard.reserve(room)?;
-        let mut piece = [0; PIECE];
-        let buffer = &mut piece[..room];
+        if room <= FIRST_PIECE {
+            self.hear_into(&mut [0; FIRST_PIECE][..room])
+        } else {
+            self.hear_into(&mut [0; PIECE][..room])
+        }
+    }
+
+    // Returns how many bytes the next call of `ask` asks for.
+    fn wanted(&self) -> usize
+        requires room { vec_len self.now.heard < self.now.bounds.heard }
+        ensures some { 0 < result }
+        ensures most { result ≤ PIECE }
+        ensures room { vec_len self.now.heard + result ≤ self.now.bounds.heard }
+    {
+        let most = if self.heard.len() < FIRST_PIECE {
+            FIRST_PIECE
+        } else {
+            PIECE
+        };
+        most.min(self.bounds.heard - self.heard.len())
+    }
+
+    // Asks the stream once for the bytes of `buffer`, for which there is room. Does not allocate.
+    fn hear_into(&mut self, buffer: &mut [u8]) -> Result<Given, NoMemory>
+        requires some { 0 < length buffer.old }
+        requires room { vec_len self.old.heard + length buffer.old ≤ self.old.bounds.heard }
+        requires reserved { vec_len self.old.heard + length buffer.old ≤ vec_capacity self.old.heard }
+        ensures made { IsOk result }
+        ensures heard { IfOk result (λ answer. ReadsPiece self.old.bounds.heard (S.source self.old.stream) self.old.heard.items answer
+            (S.source self.new.stream) self.new.heard.items) }
+        ensures over { IfOk result (λ answer. self.new.is_over ≡ (self.old.is_over || ends_hearing answer)) }
+        ensures ready { IfOk result (λ answer. self.new.is_ready ≡ (self.old.is_ready && not (stalls answer))) }
+        ensures unsent { self.new.unsent.items ≡ self.old.unsent.items }
+        ensures sink { S.sink self.new.stream ≡ S.sink self.old.stream }
+        ensures bounds { self.new.bounds ≡ self.old.bounds }
+        ensures holds { (ledger : Ledger)
+            → Holds ledger (S.source self.old.stream) (S.sink self.old.stream) self.old.heard.items self.old.unsent.items
+            → Holds ledger (S.source self.new.stream) (S.sink self.new.stream) self.new.heard.items self.new.unsent.items }
+    {
         let answer = self.stream.give(buffer);
         match answer {
             Given::Bytes(count) => self.heard.extend_from_slice(&buffer[..count])?,

@@ -6,7 +6,7 @@ use Rattle.bytetext.specs.declared.failure.Failure.{Failure}
 use Rattle.bytetext.specs.declared.failure.Failure.TheVariants.{Refused, NoMemory}
 use Rattle.outqueue.specs.declared.limits.TheConstants.{MAX_LINES, MAX_BYTES}
 use Rattle.outqueue.specs.declared.fault.QueueFault.{QueueFault}
-use Rattle.outqueue.specs.declared.fault.QueueFault.TheVariants.{BadLine, QueueFull}
+use Rattle.outqueue.specs.declared.fault.QueueFault.TheVariants.{BadLine, QueueFull, ShareFull}
 use Rattle.outqueue.specs.declared.queue.Queue.{Queue}
 use Rattle.outqueue.specs.declared.queue.Queue.TheVariants.{Mode, Server, Help}
 use Rattle.outqueue.specs.declared.queue.QueueSet.TheVariants.{One}
@@ -16,6 +16,7 @@ use Rattle.outqueue.specs.Sending.{Sending, lines_in, room_in, with_room}
 abbrev pub code_of : QueueFault → List ℕ
 code_of BadLine = codes "Q2"
 code_of QueueFull = codes "Q1"
+code_of ShareFull = codes "Q3"
 
 -- NUL, LF or CR
 abbrev pub is_break : ℕ → Bool

@@ -14,20 +14,24 @@ pub enum QueueFault {
     /// The queue holds 500 lines, or 500 answers to PING wait.
     #[error("wait until lines have been sent, or clear the queue")]
     QueueFull,
+    /// As many lines of the server queue and the help queue as one target may have wait for the target of this line.
+    #[error("wait until lines to this nick or channel have been sent")]
+    ShareFull,
 }
 
 impl QueueFault {
-    /// Returns the short code that transcripts print: `Q2` or `Q1`.
+    /// Returns the short code that transcripts print: `Q2`, `Q1` or `Q3`.
     pub fn code(self) -> &'static str
         ensures { result.now ≡ code_of self }
     {
         match self {
             QueueFault::BadLine => "Q2",
             QueueFault::QueueFull => "Q1",
+            QueueFault::ShareFull => "Q3",
         }
     }
 }
 
-/// Why [`Queues::put`](crate::Queues::put) did not queue a line: a fault, or out of memory if there is no fault. The
-/// queues are unchanged.
+/// Why [`Queues::put`](crate::Queues::put) or [`Queues::put_once`](crate::Queues::put_once) did not queue a line: a
+/// fault, or out of memory if there is no fault. The queues are unchanged.
 pub type PutError = Failure<QueueFault>;

@@ -1,8 +1,11 @@
 // The lines of one queue, with room for more.
 ghost use Rattle.std.specs.Prelude.{◌≡◌, ◌<◌, ◌≤◌, length, [], take, drop, IsOk, IfOk, OnOk, OnErr};
+ghost use Rattle.std.specs.List.{list_any, count_by};
 ghost use Rattle.outqueue.specs.Lanes.{Filled, with_last, first_of};
+ghost use Rattle.outqueue.specs.Shares.{stands_in, is_for};
 
 use crate::limits::MAX_LINES;
+use crate::target::is_for;
 use bytetext::{NoMemory, Text, TryCopy};
 use std::alloc::Global;
 use std::collections::VecDeque;
@@ -44,6 +47,21 @@ impl Lane {
         ensures few { result ≤ MAX_LINES }
     {
         self.queue.len()
+    }
+
+    // Returns whether such a line waits.
+    pub(crate) fn has(&self, line: &[u8]) -> bool
+        ensures { result ≡ stands_in self.now.lines line.now }
+    {
+        has_line(&self.queue, line)
+    }
+
+    // Returns how many lines wait for `target`.
+    pub(crate) fn count_for(&self, target: &[u8]) -> usize
+        ensures count { result ≡ count_by (is_for target.now) self.now.lines }
+        ensures few { result ≤ MAX_LINES }
+    {
+        count_for(&self.queue, target)
     }
 
     // Makes room for exactly `count` more lines.
@@ -122,4 +140,22 @@ fn copies_of(alloc: Global, lines: &VecDeque<Text>) -> Result<VecDeque<Text>, No
         copies.push_back(lines[at].copy(alloc)?)?;
     }
     Ok(copies)
+}
+
+// Returns whether such a line is among these.
+fn has_line(lines: &VecDeque<Text>, line: &[u8]) -> bool
+    ensures { result ≡ stands_in lines.now.items line.now }
+{
+    lines.iter().any(|one| line == one.as_bytes())
+}
+
+// Returns how many of these lines have this target.
+fn count_for(lines: &VecDeque<Text>, target: &[u8]) -> usize
+    ensures count { result ≡ count_by (is_for target.now) lines.now.items }
+    ensures few { result ≤ length lines.now.items }
+{
+    lines
+        .iter()
+        .filter(|line| is_for(target, line.as_bytes()))
+        .count()
 }

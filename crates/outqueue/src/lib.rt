@@ -8,6 +8,10 @@
 //! There are three queues of at most 500 lines. A lower one is served only while the higher ones are empty. Answers to
 //! PING wait apart, at most 500 too, and go before the lines of all queues: a server drops a client that answers late.
 //!
+//! [`Queues::put`] queues each line. [`Queues::put_once`] does so only where it is useful and fair: a line that waits in
+//! the mode queue already is not put again, and at most [`SHARE`] lines of the other two queues wait for one nick or
+//! channel.
+//!
 //! ```text
 //! let mut queues = Queues::new(alloc);
 //! queues.put(Queue::Help, Text::from_slice(alloc, b"PRIVMSG #egg :hi")?)?;
@@ -26,9 +30,12 @@ mod line;
 mod pacing;
 mod queue;
 mod queues;
+mod shares;
+mod target;
 
 pub use crate::fault::{PutError, QueueFault};
-pub use crate::limits::{AHEAD, COST, MAX_AT_ONCE, MAX_BYTES, MAX_LINES};
+pub use crate::limits::{AHEAD, COST, MAX_AT_ONCE, MAX_BYTES, MAX_LINES, SHARE};
 pub use crate::pacing::over_moments;
 pub use crate::queue::{Queue, QueueSet};
 pub use crate::queues::{Counts, Queues};
+pub use crate::shares::laws_of_shares;

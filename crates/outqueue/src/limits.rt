@@ -14,3 +14,7 @@ pub const COST: u64 = 2;
 
 /// How many lines go at one moment at most: their cost is as many seconds as the timer may get ahead.
 pub const MAX_AT_ONCE: usize = 5;
+
+/// How many lines of the server queue and the help queue wait for one target at most, where shares are fair (our own
+/// choice): the server reads them within forty seconds.
+pub const SHARE: usize = 20;

@@ -1,4 +1,6 @@
 // Which queue is meant.
+ghost use Rattle.std.specs.Prelude.{◌≡◌};
+ghost use Rattle.outqueue.specs.Once.{has_shares};
 
 /// One of the three queues, in the order in which they are served (Eggdrop's Tcl commands, at `clearqueue`).
 #[derive(Clone, Copy, Debug, PartialEq, Eq)]
@@ -9,6 +11,19 @@ pub enum Queue {
     Server,
     /// Lines for people.
     Help,
+}
+
+impl Queue {
+    // Returns whether targets have shares of this queue: all queues but the mode queue.
+    pub(crate) fn has_shares(self) -> bool
+        ensures { result ≡ has_shares self }
+    {
+        match self {
+            Queue::Mode => false,
+            Queue::Server => true,
+            Queue::Help => true,
+        }
+    }
 }
 
 /// One queue or all of them.

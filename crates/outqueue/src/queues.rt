@@ -1,15 +1,18 @@
 // The answers to PING, the three queues and the send timer.
-ghost use Rattle.std.specs.Prelude.{◌≡◌, ◌≢◌, ◌+◌, ◌*◌, ◌<◌, ◌≤◌, length, [], ◌++◌, IsOk, IfNone, IfOk, OnOk, OnErr, Err};
+ghost use Rattle.std.specs.Prelude.{true, ◌≡◌, ◌≢◌, ◌+◌, ◌*◌, ◌<◌, ◌≤◌, length, [], ◌++◌, IsOk, IfNone, IfOk, OnOk, OnErr, Err};
 ghost use Rattle.outqueue.specs.Lanes.{first_of};
 ghost use Rattle.outqueue.specs.Sending.{Sending, idle, lines_in, without, counts_of, with_first, waiting, gone, next_line, after_line, sent, after, IsGreatest};
 ghost use Rattle.outqueue.specs.Sending.{room_in, with_room};
 ghost use Rattle.outqueue.specs.Refusals.{refusal, prompt_refusal, refusal_after, Puts, PutsPrompt, PutsReserved};
+ghost use Rattle.outqueue.specs.Shares.{waiting_for};
+ghost use Rattle.outqueue.specs.Once.{PutsOnce, stands, is_share_full};
 
 use crate::fault::{PutError, QueueFault};
 use crate::lane::Lane;
-use crate::limits::{AHEAD, COST, MAX_AT_ONCE, MAX_LINES};
+use crate::limits::{AHEAD, COST, MAX_AT_ONCE, MAX_LINES, SHARE};
 use crate::line::is_bad_line;
 use crate::queue::{Queue, QueueSet};
+use crate::target::target_of;
 use bytetext::{Failure, MOMENTS_END, NoMemory, Text, Texts, TryCopy, refuse};
 use std::alloc::Global;
 use std::marker::Model;
@@ -138,6 +141,58 @@ impl Queues {
             Queue::Help => self.help.put(line)?,
         }
         Ok(())
+    }
+
+    /// Puts `line`, without its CR LF, at the end of `queue`, unless it is for the mode queue and an equal line waits
+    /// there: then nothing changes, and the answer is `Ok`.
+    ///
+    /// The target of a line is its command and first parameter, as `PRIVMSG ada`: its bytes before the second space,
+    /// compared byte by byte. At most [`SHARE`] lines of the server queue and the help queue wait for one target.
+    ///
+    /// # Errors
+    /// Only if no equal line waits in the mode queue, and then in this order: `BadLine` and `QueueFull` as
+    /// [`put`](Queues::put) does; `ShareFull` if the line is for the server queue or the help queue and 20 lines of these
+    /// queues wait for its target; `NoMemory` if it can't allocate room for the line, never if there was room. On any
+    /// error the queues are unchanged. Only `NoMemory` comes after an attempt to allocate.
+    #[tactic(auto, unfolding(crate::specs::Once::once_refusal, crate::specs::Once::put_once))]
+    pub fn put_once(&mut self, queue: Queue, line: Text) -> Result<(), PutError>
+        ensures puts { PutsOnce self.old queue line result self.new }
+        ensures needs_none { 0 < room_in self.old queue → result ≢ Err Failure.NoMemory }
+        ensures stands { stands self.old queue line ≡ true → IsOk result × (self.new ≡ self.old) }
+    {
+        if self.stands(queue, &line) {
+            return Ok(());
+        }
+        if self.refusal_of(queue, &line).is_none() && self.is_share_full(queue, &line) {
+            return Err(Failure::Refused(QueueFault::ShareFull));
+        }
+        self.put(queue, line)
+    }
+
+    // Returns whether `line` is for the mode queue and waits there already.
+    #[tactic(auto, unfolding(crate::specs::Once::stands))]
+    fn stands(&self, queue: Queue, line: &Text) -> bool
+        ensures { result ≡ stands self.now queue line.now }
+    {
+        match queue {
+            Queue::Mode => self.mode.has(line.as_bytes()),
+            Queue::Server | Queue::Help => false,
+        }
+    }
+
+    // Returns whether the target of `line` has all of its share.
+    #[tactic(auto, unfolding(crate::specs::Once::is_share_full))]
+    fn is_share_full(&self, queue: Queue, line: &Text) -> bool
+        ensures { result ≡ is_share_full self.now queue line.now }
+    {
+        queue.has_shares() && self.count_for(target_of(line.as_bytes())) >= SHARE
+    }
+
+    // Returns how many lines of the server queue and the help queue wait for `target`.
+    fn count_for(&self, target: &[u8]) -> usize
+        ensures { result ≡ waiting_for self.now target.now }
+    {
+        self.server.count_for(target) + self.help.count_for(target)
     }
 
     /// Puts `line` at the end of `queue` as [`put`](Queues::put) does, but in room that was reserved, so it allocates

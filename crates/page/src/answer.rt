@@ -9,15 +9,15 @@ ghost use Rattle.page.specs.declared.sheet.TheConstants.{MAX_PAGE};
 ghost use Rattle.page.specs.declared.status.PageStatus.TheVariants.{LongPage, Fine};
 
 use crate::heads::{Kind, head_of};
-use crate::log_page::log_page;
-use crate::metrics::metrics;
-use crate::net_page::net_page;
-use crate::records_page::records_page;
+use crate::log_page::put_log_page;
+use crate::metrics::put_metrics;
+use crate::net_page::put_net_page;
+use crate::records_page::put_records_page;
 use crate::refusals::refusal_text;
 use crate::request::{PageRequest, PageWant};
 use crate::sheet::{MAX_PAGE, Sheet};
 use crate::status::PageStatus;
-use crate::style::style;
+use crate::style::put_style;
 use crate::view::PageView;
 use bytetext::{Failure, NoMemory};
 use std::alloc::Global;
@@ -80,15 +80,42 @@ fn page_of(alloc: Global, request: &PageRequest, view: &PageView<'_>) -> Result<
     ensures printed { IfOk result (λ page. ArePrinted page.body.items) }
     ensures bound { IfOk result (λ page. length page.body.items ≤ MAX_PAGE) }
 {
-    match &request.want {
-        PageWant::Refused(status) => refused(alloc, *status),
-        PageWant::Net { from } => shown(alloc, Kind::Html, net_page(alloc, view, *from)),
-        PageWant::Records { from, who } => {
-            shown(alloc, Kind::Html, records_page(alloc, view, *from, who))
+    let status = request.want.status();
+    if status != PageStatus::Fine {
+        return refused(alloc, status);
+    }
+    let mut sheet = Sheet::new(alloc);
+    let kind = put_page(alloc, &mut sheet, &request.want, view);
+    shown(alloc, kind, sheet)
+}
+
+// Appends the page that is wanted. Returns what it is.
+fn put_page(alloc: Global, sheet: &mut Sheet, want: &PageWant, view: &PageView<'_>) -> Kind {
+    match want {
+        PageWant::Net { from } => {
+            put_net_page(alloc, sheet, view, *from);
+            Kind::Html
         }
-        PageWant::Log => shown(alloc, Kind::Html, log_page(alloc, view)),
-        PageWant::Metrics => shown(alloc, Kind::Metrics, metrics(alloc, view)),
-        PageWant::Style => shown(alloc, Kind::Style, style(alloc)),
+        PageWant::Records { from, who } => {
+            put_records_page(alloc, sheet, view, *from, who);
+            Kind::Html
+        }
+        PageWant::Log => {
+            put_log_page(sheet, view);
+            Kind::Html
+        }
+        PageWant::Metrics => {
+            put_metrics(sheet, view);
+            Kind::Metrics
+        }
+        PageWant::Style => {
+            put_style(sheet);
+            Kind::Style
+        }
+        PageWant::Refused(status) => {
+            sheet.put(refusal_text(*status));
+            Kind::Text
+        }
     }
 }
 

@@ -13,7 +13,7 @@ use httpdate::HttpDate;
 use std::alloc::Global;
 
 // What the body of an answer is.
-#[derive(Clone, Copy, Debug, PartialEq, Eq)]
+#[derive(Clone, Copy)]
 pub(crate) enum Kind {
     Html,
     Style,

@@ -4,8 +4,7 @@ ghost use Rattle.std.specs.Prelude.{◌≤◌, length};
 use crate::layout::{put_end, put_top};
 use crate::request::PagePath;
 use crate::sheet::Sheet;
-use crate::view::PageView;
-use std::alloc::Global;
+use crate::view::{LogView, PageView};
 
 // The most lines that the page shows.
 const LINES: usize = 500;
@@ -13,22 +12,25 @@ const LINES: usize = 500;
 // The most bytes of them.
 const BYTES: usize = 65_536;
 
-// Returns the page of the log: its last lines, the last one first.
-pub(crate) fn log_page(alloc: Global, view: &PageView<'_>) -> Sheet {
-    let mut sheet = Sheet::new(alloc);
-    put_top(&mut sheet, view, PagePath::Log);
+// Appends the page of the log: its last lines, the last one first.
+pub(crate) fn put_log_page(sheet: &mut Sheet, view: &PageView<'_>) {
+    put_top(sheet, view, PagePath::Log);
     sheet.put(
         b"<p>The last lines come first. Reload the page for newer ones.</p>\n<ol class=\"log\">\n",
     );
+    put_log(sheet, &view.log);
+    sheet.put(b"</ol>\n");
+    put_end(sheet, view);
+}
+
+// Appends the last lines of the log, as many as there is room for.
+fn put_log(sheet: &mut Sheet, log: &LogView<'_>) {
     let room = Room {
         lines: LINES,
         bytes: BYTES,
     };
-    let room = put_lines(&mut sheet, view.log.latest, room);
-    let _left = put_lines(&mut sheet, view.log.earlier, room);
-    sheet.put(b"</ol>\n");
-    put_end(&mut sheet, view);
-    sheet
+    let room = put_lines(sheet, log.latest, room);
+    let _left = put_lines(sheet, log.earlier, room);
 }
 
 // How much of the log may still be shown.

@@ -3,25 +3,22 @@ ghost use Rattle.page.specs.Marks.{ArePrinted};
 
 use crate::sheet::Sheet;
 use crate::view::{ChannelView, LinksView, LogView, OwnView, PageView, ServerView};
-use std::alloc::Global;
 use userfile::Userfile;
 
-// Returns the numbers of this bot in Prometheus' text form, version 0.0.4.
-pub(crate) fn metrics(alloc: Global, view: &PageView<'_>) -> Sheet {
-    let mut sheet = Sheet::new(alloc);
-    put_own(&mut sheet, &view.own);
-    put_records(&mut sheet, view.userfile);
-    put_server(&mut sheet, &view.server, view.now);
-    put_channels(&mut sheet, view.channels);
-    put_links(&mut sheet, &view.links);
-    put_log(&mut sheet, &view.log);
-    sheet
+// Appends the numbers of this bot in Prometheus' text form, version 0.0.4.
+pub(crate) fn put_metrics(sheet: &mut Sheet, view: &PageView<'_>) {
+    put_own(sheet, &view.own);
+    put_records(sheet, view.userfile);
+    put_server(sheet, &view.server, view.now);
+    put_channels(sheet, view.channels);
+    put_links(sheet, &view.links);
+    put_log(sheet, &view.log);
 }
 
 fn put_own(sheet: &mut Sheet, own: &OwnView) {
-    put_gauge(sheet, b"eggnet_bot_number", u64::from(own.number));
-    put_gauge(sheet, b"eggnet_leaves", u64::from(own.leaves));
-    put_gauge(sheet, b"eggnet_records_version", u64::from(own.version));
+    put_gauge(sheet, b"eggnet_bot_number", own.number as u64);
+    put_gauge(sheet, b"eggnet_leaves", own.leaves as u64);
+    put_gauge(sheet, b"eggnet_records_version", own.version as u64);
     put_gauge(sheet, b"eggnet_unanswered_changes", own.asks as u64);
     put_gauge(sheet, b"eggnet_own_lines", own.lines as u64);
     put_gauge(sheet, b"eggnet_administrators", own.admins as u64);
@@ -33,15 +30,17 @@ fn put_records(sheet: &mut Sheet, userfile: &Userfile) {
 }
 
 fn put_server(sheet: &mut Sheet, server: &ServerView<'_>, now: u64) {
-    let (welcomed, seconds, unsent) = match server {
-        ServerView::Gone { due: _ } => (false, 0, 0),
-        ServerView::Here(session) => (
-            session.is_welcomed,
-            now.saturating_sub(session.since),
-            session.unsent,
-        ),
-    };
-    put_gauge(sheet, b"eggnet_server_welcomed", u64::from(welcomed));
+    match server {
+        ServerView::Gone { due: _ } => put_session(sheet, false, 0, 0),
+        ServerView::Here(session) => {
+            let seconds = now.saturating_sub(session.since);
+            put_session(sheet, session.is_welcomed, seconds, session.unsent);
+        }
+    }
+}
+
+fn put_session(sheet: &mut Sheet, is_welcomed: bool, seconds: u64, unsent: usize) {
+    put_gauge(sheet, b"eggnet_server_welcomed", is_welcomed as u64);
     put_gauge(sheet, b"eggnet_server_seconds", seconds);
     put_gauge(sheet, b"eggnet_server_unsent_bytes", unsent as u64);
 }

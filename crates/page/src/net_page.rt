@@ -6,39 +6,32 @@ use crate::layout::{
 };
 use crate::request::PagePath;
 use crate::sheet::Sheet;
-use crate::view::{ChannelView, LinkView, LinksView, PageView, PlaceView, ServerView, SessionView};
+use crate::view::{
+    ChannelView, LinkView, LinksView, OwnView, PageView, PlaceView, ServerView, SessionView,
+};
 use std::alloc::Global;
 use std::net::SocketAddr;
+use userfile::Userfile;
 
-// Returns the page of the net and this bot, with the linked bots from the number `from` on.
-pub(crate) fn net_page(alloc: Global, view: &PageView<'_>, from: u16) -> Sheet {
-    let mut sheet = Sheet::new(alloc);
-    put_top(&mut sheet, view, PagePath::Net);
-    put_own(&mut sheet, view);
-    put_server(&mut sheet, &view.server);
-    put_channels(&mut sheet, view.channels);
-    put_links(alloc, &mut sheet, &view.links, from);
-    put_end(&mut sheet, view);
-    sheet
+// Appends the page of the net and this bot, with the linked bots from the number `from` on.
+pub(crate) fn put_net_page(alloc: Global, sheet: &mut Sheet, view: &PageView<'_>, from: u16) {
+    put_top(sheet, view, PagePath::Net);
+    put_own(sheet, &view.own, view.userfile);
+    put_server(sheet, &view.server);
+    put_channels(sheet, view.channels);
+    put_links(alloc, sheet, &view.links, from);
+    put_end(sheet, view);
 }
 
 // This bot.
-fn put_own(sheet: &mut Sheet, view: &PageView<'_>) {
+fn put_own(sheet: &mut Sheet, own: &OwnView, userfile: &Userfile) {
     sheet.put(b"<section>\n<h2>This bot</h2>\n<dl>\n");
-    put_count(
-        sheet,
-        b"Version of its records",
-        u64::from(view.own.version),
-    );
-    put_count(sheet, b"Users", view.userfile.user_count() as u64);
-    put_count(sheet, b"Bans", view.userfile.ban_count() as u64);
-    put_count(
-        sheet,
-        b"Changes the hub has not answered",
-        view.own.asks as u64,
-    );
-    put_count(sheet, b"Own lines that wait", view.own.lines as u64);
-    put_count(sheet, b"Administrators", view.own.admins as u64);
+    put_count(sheet, b"Version of its records", own.version as u64);
+    put_count(sheet, b"Users", userfile.user_count() as u64);
+    put_count(sheet, b"Bans", userfile.ban_count() as u64);
+    put_count(sheet, b"Changes the hub has not answered", own.asks as u64);
+    put_count(sheet, b"Own lines that wait", own.lines as u64);
+    put_count(sheet, b"Administrators", own.admins as u64);
     sheet.put(b"</dl>\n</section>\n");
 }
 

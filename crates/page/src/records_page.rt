@@ -16,21 +16,20 @@ use userfile::{Ban, ChannelFlags, Hostmask, User, Userfile};
 // A page begins no further row once it has this many bytes.
 const FULL: usize = 262_144;
 
-// Returns the page of the records from place `from` on: the users come first, and then the bans. It says who the person
+// Appends the page of the records from place `from` on: the users come first, and then the bans. It says who the person
 // `who` would be, if one is named.
-pub(crate) fn records_page(
+pub(crate) fn put_records_page(
     alloc: Global,
+    sheet: &mut Sheet,
     view: &PageView<'_>,
     from: usize,
     who: &Option<Text>,
-) -> Sheet {
-    let mut sheet = Sheet::new(alloc);
-    put_top(&mut sheet, view, PagePath::Records);
-    put_search(&mut sheet, view, who);
-    let next = put_records(alloc, &mut sheet, view.userfile, from);
-    put_turns(&mut sheet, PagePath::Records, from as u64, next);
-    put_end(&mut sheet, view);
-    sheet
+) {
+    put_top(sheet, view, PagePath::Records);
+    put_search(sheet, view, who);
+    let next = put_records(alloc, sheet, view.userfile, from);
+    put_turns(sheet, PagePath::Records, from as u64, next);
+    put_end(sheet, view);
 }
 
 // The form of the search, and its answer.

@@ -84,7 +84,7 @@ impl PageWant {
 }
 
 // A page, without what is to be shown of it.
-#[derive(Clone, Copy, Debug, PartialEq, Eq)]
+#[derive(Clone, Copy, PartialEq, Eq)]
 pub(crate) enum PagePath {
     Net,
     Records,
@@ -95,21 +95,16 @@ pub(crate) enum PagePath {
 
 impl PagePath {
     // The page at a path.
-    pub(crate) fn of(path: &[u8]) -> Option<PagePath>
+    pub(crate) fn of(path: &str) -> Option<PagePath>
         ensures { result ≡ path_of path.now }
     {
-        if path == b"/".as_slice() {
-            Some(PagePath::Net)
-        } else if path == b"/records".as_slice() {
-            Some(PagePath::Records)
-        } else if path == b"/log".as_slice() {
-            Some(PagePath::Log)
-        } else if path == b"/metrics".as_slice() {
-            Some(PagePath::Metrics)
-        } else if path == b"/style.css".as_slice() {
-            Some(PagePath::Style)
-        } else {
-            None
+        match path {
+            "/" => Some(PagePath::Net),
+            "/records" => Some(PagePath::Records),
+            "/log" => Some(PagePath::Log),
+            "/metrics" => Some(PagePath::Metrics),
+            "/style.css" => Some(PagePath::Style),
+            _ => None,
         }
     }
 }

@@ -14,7 +14,7 @@ use std::str;
 pub const MAX_PAGE: usize = 1_048_576;
 
 // The body would be longer than `MAX_PAGE` bytes.
-#[derive(Clone, Copy, Debug, PartialEq, Eq)]
+#[derive(Clone, Copy)]
 pub(crate) struct TooLong;
 
 // Why something was not written.

@@ -1,9 +1,9 @@
 // Where a page is served, and who may read it.
-ghost use Rattle.std.specs.Prelude.{◌≡◌, ◌==◌, IfOk, MatchOption, None};
+ghost use Rattle.std.specs.Prelude.{◌≡◌, ◌==◌, IfOk, None, codes};
 ghost use Rattle.std.specs.List.{list_any};
 ghost use Rattle.std.specs.Option.{option_copied};
 ghost use Rattle.sha2.specs.Sha256.{sha256};
-ghost use Rattle.page.specs.Sites.{after_colon, authority, basic_token, host_text, is_pair, shows, unbase64};
+ghost use Rattle.page.specs.Sites.{after_colon, authority, basic_token, host_text, is_found, is_pair, shows, unbase64};
 
 use base64::DecodeAllocError;
 use base64::engine::general_purpose::STANDARD;
@@ -42,11 +42,7 @@ impl PageSite {
         ensures open { IfOk result (λ site. site.digest ≡ None) }
     {
         let host = host_text(alloc, host)?;
-        Ok(PageSite {
-            own: authority(alloc, host.as_slice(), port)?,
-            local: authority(alloc, b"localhost", port)?,
-            digest: None,
-        })
+        site_at(alloc, host.as_slice(), port)
     }
 
     /// Returns the same site, whose readers must show this `password`.
@@ -87,27 +83,39 @@ impl PageSite {
     }
 }
 
+// The site at `host`, as a URL has it, and `port`.
+fn site_at(alloc: Global, host: &[u8], port: u16) -> Result<PageSite, NoMemory>
+    ensures own { IfOk result (λ site. site.own ≡ authority host.now port) }
+    ensures local { IfOk result (λ site. site.local ≡ authority (codes "localhost") port) }
+    ensures open { IfOk result (λ site. site.digest ≡ None) }
+{
+    let own = authority(alloc, host, port)?;
+    let local = authority(alloc, b"localhost", port)?;
+    Ok(PageSite {
+        own,
+        local,
+        digest: None,
+    })
+}
+
 // Whether the value of a field `Authorization` shows the password of this digest (RFC 7617 section 2). Digests are
 // compared, so the time that this takes tells nothing about the password.
 fn shows(alloc: Global, digest: &[u8; 32], value: &[u8]) -> Result<bool, NoMemory>
     ensures { IfOk result (λ allowed. allowed ≡ shows digest.now value.now) }
 {
-    let Some(token) = basic_token(value) else {
-        return Ok(false);
-    };
-    match bytes_in(alloc, token)? {
-        Some(pair) => Ok(is_pair(digest, pair.as_slice())),
+    match basic_token(value) {
+        Some(token) => is_shown(alloc, digest, token),
         None => Ok(false),
     }
 }
 
-// Returns the bytes that `text` is the Base64 of, or `None` if it is not Base64.
-fn bytes_in(alloc: Global, text: &[u8]) -> Result<Option<Vec<u8>>, NoMemory>
-    ensures { IfOk result (λ bytes. MatchOption bytes (unbase64 text.now ≡ None) (λ found. unbase64 text.now ≡ Some found.items)) }
+// Whether a text is the Base64 of a user's name, a colon and the password of this digest.
+fn is_shown(alloc: Global, digest: &[u8; 32], token: &[u8]) -> Result<bool, NoMemory>
+    ensures { IfOk result (λ allowed. allowed ≡ is_found digest.now (unbase64 token.now)) }
 {
-    match STANDARD.decode(alloc, text) {
-        Ok(bytes) => Ok(Some(bytes)),
-        Err(DecodeAllocError::DecodeError(_)) => Ok(None),
+    match STANDARD.decode(alloc, token) {
+        Ok(pair) => Ok(is_pair(digest, pair.as_slice())),
+        Err(DecodeAllocError::DecodeError(_)) => Ok(false),
         Err(DecodeAllocError::OutOfMemory) => Err(NoMemory),
     }
 }
@@ -145,7 +153,7 @@ fn after_colon(pair: &[u8]) -> Option<&[u8]>
     ensures { option_copied result ≡ after_colon pair.now }
 {
     let mut rest = pair;
-    while let [byte, behind @ ..] = rest {
+    while let Some((byte, behind)) = rest.split_first() {
         if *byte == b':' {
             return Some(behind);
         }
@@ -158,13 +166,11 @@ fn after_colon(pair: &[u8]) -> Option<&[u8]>
 fn host_text(alloc: Global, host: &[u8]) -> Result<Vec<u8>, NoMemory>
     ensures { IfOk result (λ text. text.items ≡ host_text host.now) }
 {
-    if !has_colon(host) {
-        return Ok(Vec::from_slice(alloc, host)?);
+    if has_colon(host) {
+        Ok([b"[", host, b"]"].concat(alloc)?)
+    } else {
+        Ok(Vec::from_slice(alloc, host)?)
     }
-    let mut text = Vec::from_slice(alloc, b"[")?;
-    text.extend_from_slice(host)?;
-    text.extend_from_slice(b"]")?;
-    Ok(text)
 }
 
 fn has_colon(host: &[u8]) -> bool
@@ -177,11 +183,10 @@ fn has_colon(host: &[u8]) -> bool
 fn authority(alloc: Global, host: &[u8], port: u16) -> Result<Text, NoMemory>
     ensures { IfOk result (λ text. text ≡ authority host.now port) }
 {
-    let mut text = Vec::from_slice(alloc, host)?;
-    if port != 80 {
-        let mut buffer = Buffer::new();
-        text.extend_from_slice(b":")?;
-        text.extend_from_slice(buffer.format(port).as_bytes())?;
+    if port == 80 {
+        return Text::from_slice(alloc, host);
     }
-    Ok(Text::new(text))
+    let mut buffer = Buffer::new();
+    let digits = buffer.format(port).as_bytes();
+    Ok(Text::new([host, b":", digits].concat(alloc)?))
 }

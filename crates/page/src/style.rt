@@ -1,16 +1,13 @@
 // The style sheet: one column on a narrow screen, in light and in dark.
 use crate::sheet::Sheet;
-use std::alloc::Global;
 
-// Returns the style sheet.
-pub(crate) fn style(alloc: Global) -> Sheet {
-    let mut sheet = Sheet::new(alloc);
-    put_colours(&mut sheet);
-    put_text(&mut sheet);
-    put_links(&mut sheet);
-    put_tables(&mut sheet);
-    put_narrow(&mut sheet);
-    sheet
+// Appends the style sheet.
+pub(crate) fn put_style(sheet: &mut Sheet) {
+    put_colours(sheet);
+    put_text(sheet);
+    put_links(sheet);
+    put_tables(sheet);
+    put_narrow(sheet);
 }
 
 fn put_colours(sheet: &mut Sheet) {

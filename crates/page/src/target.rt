@@ -7,19 +7,23 @@ ghost use Rattle.page.specs.declared.status.PageStatus.TheVariants.{BadRequest};
 
 use crate::request::{PagePath, PageWant};
 use crate::status::PageStatus;
-use bytetext::{NoMemory, Text};
+use bytetext::{Failure, NoMemory, Text};
 use form_urlencoded::parse;
 use http_uri::{Uri, UriError};
-use std::alloc::Global;
+use std::alloc::{AllocError, Global};
+use std::borrow::CowStr;
+
+// A name and its value, as a query has them.
+type Pair<'a> = (CowStr<'a, Global>, CowStr<'a, Global>);
 
 // Returns what a `target` asks for (RFC 9112 section 3.2).
 pub(crate) fn want_of(alloc: Global, target: &[u8]) -> Result<PageWant, NoMemory>
     ensures { IfOk result (λ want. IsWantOf target.now want) }
 {
     match Uri::from_bytes(alloc, target) {
-        Ok(uri) => Ok(want_in(alloc, &uri)?),
+        Ok(uri) => want_in(alloc, &uri),
         Err(UriError::OutOfMemory) => Err(NoMemory),
-        Err(_) => Ok(PageWant::Refused(PageStatus::BadRequest)),
+        Err(UriError::Invalid(_)) => Ok(PageWant::Refused(PageStatus::BadRequest)),
     }
 }
 
@@ -27,7 +31,7 @@ pub(crate) fn want_of(alloc: Global, target: &[u8]) -> Result<PageWant, NoMemory
 fn want_in(alloc: Global, uri: &Uri) -> Result<PageWant, NoMemory>
     ensures { IfOk result (λ want. IsWantAt (uri_path uri.now) want) }
 {
-    match PagePath::of(uri.path().as_bytes()) {
+    match PagePath::of(uri.path()) {
         Some(path) => want_at(alloc, path, query_text(uri)),
         None => Ok(PageWant::Refused(PageStatus::NoPage)),
     }
@@ -41,30 +45,22 @@ fn query_text(uri: &Uri) -> &[u8] {
     }
 }
 
-// What a query says.
-#[derive(Drop)]
-struct PageQuery {
-    // The first row that is to be shown.
-    from: u64,
-    // The person that is searched for.
-    who: Option<Text>,
-}
-
 // Returns what a page and a query ask for.
 fn want_at(alloc: Global, path: PagePath, query: &[u8]) -> Result<PageWant, NoMemory>
     ensures { IfOk result (λ want. (want ≡ Refused BadRequest) ⊎ (path_in want ≡ Some path)) }
 {
-    match query_of(alloc, query)? {
-        Some(query) => Ok(want_by(path, query)),
-        None => Ok(PageWant::Refused(PageStatus::BadRequest)),
+    let PageQuery { from, who, fault } = query_of(alloc, query);
+    match fault {
+        None => Ok(want_by(path, from, who)),
+        Some(Failure::Refused(NoNumber)) => Ok(PageWant::Refused(PageStatus::BadRequest)),
+        Some(Failure::NoMemory) => Err(NoMemory),
     }
 }
 
-// What a page and a query ask for.
-fn want_by(path: PagePath, query: PageQuery) -> PageWant
+// What a page asks for, from this row on, and of this person.
+fn want_by(path: PagePath, from: u64, who: Option<Text>) -> PageWant
     ensures { path_in result ≡ Some path }
 {
-    let PageQuery { from, who } = query;
     match path {
         PagePath::Net => PageWant::Net {
             from: from.min(65_535) as u16,
@@ -79,22 +75,65 @@ fn want_by(path: PagePath, query: PageQuery) -> PageWant
     }
 }
 
-// Reads a query. `None` if its `from` is not a number.
-fn query_of(alloc: Global, query: &[u8]) -> Result<Option<PageQuery>, NoMemory> {
-    let mut from = 0;
-    let mut who = None;
+// The `from` of a query is not a number.
+#[derive(Clone, Copy)]
+struct NoNumber;
+
+// What a query says. It keeps its first fault: so whoever reads looks at no single step.
+#[derive(Drop)]
+struct PageQuery {
+    // The first row that is to be shown.
+    from: u64,
+    // The person that is searched for.
+    who: Option<Text>,
+    // Why it asks for no page.
+    fault: Option<Failure<NoNumber>>,
+}
+
+// Reads a query.
+fn query_of(alloc: Global, query: &[u8]) -> PageQuery {
+    let mut read = PageQuery {
+        from: 0,
+        who: None,
+        fault: None,
+    };
     for pair in parse(alloc, query) {
-        let (name, value) = pair?;
-        match name.as_str() {
-            "from" => match value.as_str().parse::<u64>() {
-                Ok(number) => from = number,
-                Err(_) => return Ok(None),
-            },
-            "who" if !value.as_str().is_empty() => {
-                who = Some(Text::from_slice(alloc, value.as_str().as_bytes())?);
-            }
+        read.take(alloc, pair);
+    }
+    read
+}
+
+impl PageQuery {
+    // Takes a name and its value; nothing after a fault.
+    fn take(&mut self, alloc: Global, pair: Result<Pair<'_>, AllocError>) {
+        if self.fault.is_some() {
+            return;
+        }
+        match pair {
+            Ok((name, value)) => self.take_value(alloc, name.as_str(), value.as_str()),
+            Err(_) => self.fault = Some(Failure::NoMemory),
+        }
+    }
+
+    fn take_value(&mut self, alloc: Global, name: &str, value: &str) {
+        match name {
+            "from" => self.take_from(value),
+            "who" if !value.is_empty() => self.take_who(alloc, value),
             _ => {}
         }
     }
-    Ok(Some(PageQuery { from, who }))
+
+    fn take_from(&mut self, value: &str) {
+        match value.parse::<u64>() {
+            Ok(number) => self.from = number,
+            Err(_) => self.fault = Some(Failure::Refused(NoNumber)),
+        }
+    }
+
+    fn take_who(&mut self, alloc: Global, value: &str) {
+        match Text::from_slice(alloc, value.as_bytes()) {
+            Ok(who) => self.who = Some(who),
+            Err(_) => self.fault = Some(Failure::NoMemory),
+        }
+    }
 }

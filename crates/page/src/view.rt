@@ -25,7 +25,7 @@ pub struct PageView<'a> {
 }
 
 /// A bot, and what waits in it.
-#[derive(Clone, Copy, Debug, PartialEq, Eq)]
+#[derive(Clone, Copy)]
 pub struct OwnView {
     /// Its number: 0 is the hub.
     pub number: u16,
@@ -42,7 +42,7 @@ pub struct OwnView {
 }
 
 /// A bot's connection to a server.
-#[derive(Clone, Copy, Debug)]
+#[derive(Clone, Copy)]
 pub enum ServerView<'a> {
     /// There is none.
     Gone {
@@ -54,7 +54,7 @@ pub enum ServerView<'a> {
 }
 
 /// A connection to a server.
-#[derive(Clone, Copy, Debug)]
+#[derive(Clone, Copy)]
 pub struct SessionView<'a> {
     /// The server's host, as the configuration has it.
     pub host: &'a [u8],
@@ -71,7 +71,7 @@ pub struct SessionView<'a> {
 }
 
 /// One of a bot's channels.
-#[derive(Clone, Copy, Debug)]
+#[derive(Clone, Copy)]
 pub struct ChannelView<'a> {
     /// The channel's name.
     pub name: &'a [u8],
@@ -82,7 +82,7 @@ pub struct ChannelView<'a> {
 }
 
 /// A bot's place in its net.
-#[derive(Clone, Copy, Debug, PartialEq, Eq)]
+#[derive(Clone, Copy)]
 pub enum PlaceView {
     /// The only bot.
     Alone,
@@ -93,7 +93,7 @@ pub enum PlaceView {
 }
 
 /// A bot's connections to the other bots.
-#[derive(Clone, Copy, Debug)]
+#[derive(Clone, Copy)]
 pub struct LinksView<'a> {
     /// The bot's place in its net.
     pub place: PlaceView,
@@ -110,7 +110,7 @@ pub struct LinksView<'a> {
 }
 
 /// Another bot that is linked.
-#[derive(Clone, Copy, Debug)]
+#[derive(Clone, Copy)]
 pub struct LinkView {
     /// Its number: 0 is the hub.
     pub number: u16,
@@ -127,7 +127,7 @@ pub struct LinkView {
 }
 
 /// The end of a bot's log: whole lines, each with its line feed.
-#[derive(Clone, Copy, Debug)]
+#[derive(Clone, Copy)]
 pub struct LogView<'a> {
     /// The lines before the latest.
     pub earlier: &'a [u8],

@@ -12,7 +12,9 @@ pub mod BeatLemmas
 pub mod SealLemmas
 pub mod PickingLemmas
 pub mod HearingLemmas
+pub mod HeirLemmas
 mod JoiningLemmas
 mod DoubtLemmas
 mod Walks
 mod DiceLemmas
+mod ParentLemmas

@@ -16,7 +16,7 @@ use Rattle.peers.specs.declared.handshake_progress.LeafRights.{LeafRights}
 use Rattle.peers.specs.declared.handshake_progress.LeafRights.TheVariants.{Asks as may_ask, Reads, Persons}
 use Rattle.peers.specs.declared.handshake_reading.HubSaid.TheVariants.{Welcome, No}
 use Rattle.peers.specs.declared.handshake_refusal.HandshakeRefusal.{HandshakeRefusal}
-use Rattle.peers.specs.declared.handshake_refusal.HandshakeRefusal.TheVariants.{Net, Count, Other, Ahead, Records, Older}
+use Rattle.peers.specs.declared.handshake_refusal.HandshakeRefusal.TheVariants.{Heir, Net, Count, Other, Ahead, Records, Older}
 use Rattle.peers.specs.declared.handshake_sides.LeafWords.{LeafWords}
 use Rattle.peers.specs.declared.handshake_sides.HubAnswer.{HubAnswer}
 use Rattle.peers.specs.declared.hub_side.HubSide.{HubSide}
@@ -81,6 +81,7 @@ rights-length Reads = omega arith
 rights-length Persons = omega arith
 
 refusal-in : (refusal : HandshakeRefusal) → list_all is_inside (refusal_word refusal) ≡ true
+refusal-in Heir = refl
 refusal-in Net = refl
 refusal-in Count = refl
 refusal-in Other = refl
@@ -89,6 +90,7 @@ refusal-in Records = refl
 refusal-in Older = refl
 
 refusal-length : (refusal : HandshakeRefusal) → length (refusal_word refusal) ≤ 7
+refusal-length Heir = omega arith
 refusal-length Net = omega arith
 refusal-length Count = omega arith
 refusal-length Other = omega arith

@@ -15,7 +15,7 @@ use Rattle.peers.specs.declared.handshake_reading.Ask.{Ask}
 use Rattle.peers.specs.declared.handshake_reading.HubSaid.{HubSaid}
 use Rattle.peers.specs.declared.handshake_reading.HubSaid.TheVariants.{Welcome, No}
 use Rattle.peers.specs.declared.handshake_refusal.HandshakeRefusal.{HandshakeRefusal}
-use Rattle.peers.specs.declared.handshake_refusal.HandshakeRefusal.TheVariants.{Net, Count, Other, Ahead, Records, Older}
+use Rattle.peers.specs.declared.handshake_refusal.HandshakeRefusal.TheVariants.{Heir, Net, Count, Other, Ahead, Records, Older}
 use Rattle.peers.specs.declared.handshake_sides.LeafWords.{LeafWords}
 use Rattle.peers.specs.declared.handshake_sides.HubAnswer.{HubAnswer}
 use Rattle.peers.specs.Digits.{is_digit, are_digits, digits_in}
@@ -45,6 +45,7 @@ rights-letters Reads = refl
 rights-letters Persons = refl
 
 refusal-letters : (refusal : HandshakeRefusal) → list_all is_letter (refusal_word refusal) ≡ true
+refusal-letters Heir = refl
 refusal-letters Net = refl
 refusal-letters Count = refl
 refusal-letters Other = refl
@@ -75,6 +76,7 @@ rights_in-word Reads = refl
 rights_in-word Persons = refl
 
 refusal_in-word : (refusal : HandshakeRefusal) → refusal_in (refusal_word refusal) ≡ Some refusal
+refusal_in-word Heir = refl
 refusal_in-word Net = refl
 refusal_in-word Count = refl
 refusal_in-word Other = refl

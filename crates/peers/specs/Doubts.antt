@@ -6,7 +6,7 @@ use Rattle.peers.specs.declared.book_line.BookLine.{BookLine}
 use Rattle.peers.specs.declared.book_line.BookLine.TheVariants.{Enters, Frees, Bars}
 use Rattle.peers.specs.declared.doubt.Doubted.{Doubted}
 use Rattle.peers.specs.declared.handshake_refusal.HandshakeRefusal.{HandshakeRefusal}
-use Rattle.peers.specs.declared.handshake_refusal.HandshakeRefusal.TheVariants.{Net, Count, Other, Ahead, Records, Older}
+use Rattle.peers.specs.declared.handshake_refusal.HandshakeRefusal.TheVariants.{Heir, Net, Count, Other, Ahead, Records, Older}
 use Rattle.peers.specs.declared.links.Links.{Links}
 use Rattle.peers.specs.declared.links.Links.TheVariants.{Alone, Hub, Leaf}
 use Rattle.peers.specs.declared.seat.Seat.{Seat}
@@ -19,6 +19,7 @@ use Rattle.peers.specs.Waiting.{queue_of}
 
 -- the leaf is ahead of the hub, or differs from it
 abbrev pub is_doubt : HandshakeRefusal → Bool
+is_doubt Heir = false
 is_doubt Net = false
 is_doubt Count = false
 is_doubt Other = false

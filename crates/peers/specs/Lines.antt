@@ -7,7 +7,7 @@ use Rattle.peers.specs.declared.handshake_progress.Progress.{Progress}
 use Rattle.peers.specs.declared.handshake_progress.LeafRights.{LeafRights}
 use Rattle.peers.specs.declared.handshake_progress.LeafRights.TheVariants.{Asks, Reads, Persons}
 use Rattle.peers.specs.declared.handshake_refusal.HandshakeRefusal.{HandshakeRefusal}
-use Rattle.peers.specs.declared.handshake_refusal.HandshakeRefusal.TheVariants.{Net, Count, Other, Ahead, Records, Older}
+use Rattle.peers.specs.declared.handshake_refusal.HandshakeRefusal.TheVariants.{Heir, Net, Count, Other, Ahead, Records, Older}
 use Rattle.peers.specs.declared.handshake_sides.LeafWords.{LeafWords}
 use Rattle.peers.specs.declared.handshake_sides.HubAnswer.{HubAnswer}
 
@@ -31,6 +31,7 @@ rights_word Reads = codes "reads"
 rights_word Persons = codes "persons"
 
 abbrev pub refusal_word : HandshakeRefusal → List ℕ
+refusal_word Heir = codes "heir"
 refusal_word Net = codes "net"
 refusal_word Count = codes "count"
 refusal_word Other = codes "other"

@@ -53,10 +53,10 @@ IsName host = (ip : IpAddr) → IsIpText host ip → ⊥
 -- a connection to the hub is due by this second, and the hub's host has to be looked up first
 abbrev pub LooksUp : HubConnection → Option Address → ℕ → Type 0
 LooksUp leaf None now = ⊥
-LooksUp leaf (Some address) now = (leaf.hub ≡ None) × (leaf.dialling.waits.due ≤ now) × IsName address.host
+LooksUp leaf (Some address) now = (leaf.hub ≡ None) × (leaf.turn.dialling.waits.due ≤ now) × IsName address.host
 
--- a hub, which accepts, or a leaf that looks its hub up
-abbrev pub MayConnect : Links → Option Address → ℕ → Type 0
-MayConnect Alone address now = ⊥
-MayConnect (Hub hub) address now = Unit {0}
-MayConnect (Leaf leaf) address now = LooksUp leaf address now
+-- a hub, which accepts, or a leaf that looks up the hub whose turn it is
+abbrev pub MayConnect : Links → List Address → ℕ → Type 0
+MayConnect Alone hubs now = ⊥
+MayConnect (Hub hub) hubs now = Unit {0}
+MayConnect (Leaf leaf) hubs now = LooksUp leaf (slice_get hubs leaf.turn.dialling.place) now

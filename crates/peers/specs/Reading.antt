@@ -11,7 +11,7 @@ use Rattle.peers.specs.declared.handshake_reading.Ask.{Ask}
 use Rattle.peers.specs.declared.handshake_reading.HubSaid.{HubSaid}
 use Rattle.peers.specs.declared.handshake_reading.HubSaid.TheVariants.{Welcome, No}
 use Rattle.peers.specs.declared.handshake_refusal.HandshakeRefusal.{HandshakeRefusal}
-use Rattle.peers.specs.declared.handshake_refusal.HandshakeRefusal.TheVariants.{Net, Count, Other, Ahead, Records, Older}
+use Rattle.peers.specs.declared.handshake_refusal.HandshakeRefusal.TheVariants.{Heir, Net, Count, Other, Ahead, Records, Older}
 use Rattle.peers.specs.Digits.{are_digits, digits_in}
 use Rattle.peers.specs.Numbers.{number_in, wide_in}
 
@@ -51,7 +51,8 @@ rights_in word =
 
 abbrev pub refusal_in : List ℕ → Option HandshakeRefusal
 refusal_in word =
-    if bytes_eq word (codes "net") then Some Net
+    if bytes_eq word (codes "heir") then Some Heir
+    else if bytes_eq word (codes "net") then Some Net
     else if bytes_eq word (codes "count") then Some Count
     else if bytes_eq word (codes "other") then Some Other
     else if bytes_eq word (codes "ahead") then Some Ahead

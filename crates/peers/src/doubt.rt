@@ -66,7 +66,8 @@ pub(crate) fn is_doubt(refusal: HandshakeRefusal) -> bool
 {
     match refusal {
         HandshakeRefusal::Ahead | HandshakeRefusal::Records => true,
-        HandshakeRefusal::Net
+        HandshakeRefusal::Heir
+        | HandshakeRefusal::Net
         | HandshakeRefusal::Count
         | HandshakeRefusal::Other
         | HandshakeRefusal::Older => false,

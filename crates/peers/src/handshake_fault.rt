@@ -42,3 +42,30 @@ pub enum HandshakeFault {
     #[error("the hub refuses this leaf: {0}")]
     Told(HandshakeRefusal),
 }
+
+impl HandshakeFault {
+    ghost use Rattle.std.specs.Prelude.{◌≡◌, ◌↔◌, IsTrue};
+    ghost use Rattle.peers.specs.declared.handshake_fault.HandshakeFault.TheVariants.{Told};
+    ghost use Rattle.peers.specs.declared.handshake_refusal.HandshakeRefusal.TheVariants.{Heir};
+
+    // Whether the hub told the leaf that it is the heir of the leaf's net.
+    pub(crate) fn is_heir(self) -> bool
+        ensures { IsTrue result ↔ (self ≡ Told Heir) }
+    {
+        match self {
+            HandshakeFault::Told(HandshakeRefusal::Heir) => true,
+            HandshakeFault::Told(_)
+            | HandshakeFault::Refused(_)
+            | HandshakeFault::TooLong
+            | HandshakeFault::TooLate
+            | HandshakeFault::NoGreeting
+            | HandshakeFault::OtherVersion
+            | HandshakeFault::NoLeafLine
+            | HandshakeFault::OldLeaf
+            | HandshakeFault::NoSuchLeaf
+            | HandshakeFault::NoHubLine
+            | HandshakeFault::WrongCode
+            | HandshakeFault::OtherNet => false,
+        }
+    }
+}

@@ -198,7 +198,9 @@ fn rights_in(word: &[u8]) -> Option<LeafRights>
 fn refusal_in(word: &[u8]) -> Option<HandshakeRefusal>
     ensures { result ≡ refusal_in word.now }
 {
-    if word == b"net".as_slice() {
+    if word == b"heir".as_slice() {
+        Some(HandshakeRefusal::Heir)
+    } else if word == b"net".as_slice() {
         Some(HandshakeRefusal::Net)
     } else if word == b"count".as_slice() {
         Some(HandshakeRefusal::Count)

@@ -5,6 +5,9 @@ use thiserror::Error;
 /// tells the leaf which it is, so the text is for both logs.
 #[derive(Clone, Copy, Debug, PartialEq, Eq, Error)]
 pub enum HandshakeRefusal {
+    /// The leaf keeps the number of the net whose heir the hub's net is.
+    #[error("the hub is the heir of this leaf's net: the leaf puts its journal aside and joins it as a new leaf")]
+    Heir,
     /// The leaf keeps the number of another net.
     #[error("the leaf belongs to another net: if the hub was created again, begin the leaf in a new folder, else mend the leaf's line hub")]
     Net,

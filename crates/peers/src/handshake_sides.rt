@@ -217,6 +217,7 @@ fn refusal_word(refusal: HandshakeRefusal) -> &'static [u8]
     ensures short { length result.now ≤ 7 }
 {
     match refusal {
+        HandshakeRefusal::Heir => b"heir",
         HandshakeRefusal::Net => b"net",
         HandshakeRefusal::Count => b"count",
         HandshakeRefusal::Other => b"other",

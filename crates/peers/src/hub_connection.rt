@@ -1,11 +1,13 @@
-// A leaf's connection to its hub.
-ghost use Rattle.std.specs.Prelude.{◌≡◌, ◌<◌, ◌↔◌, None, Some, IsTrue, IfErr, IfOk, OnOk, OnErr};
+// A leaf's connection to its hub, one of several that it tries in turn.
+ghost use Rattle.std.specs.Prelude.{◌≡◌, ◌<◌, ◌≤◌, ◌↔◌, ◌||◌, false, None, Some, IsTrue, IfErr, IfOk, IfSome, OnOk, OnErr};
 ghost use Rattle.bytetext.specs.declared.moment.TheConstants.{MOMENTS_END};
+ghost use Rattle.net.specs.declared.redial.TheConstants.{FIRST_WAIT};
 ghost use Rattle.sharelink.specs.Shapes.{HasGoodRecords};
 ghost use Rattle.sharewire.specs.Frames.{CanBeWritten};
 ghost use Rattle.peers.specs.Asking.{is_new, may_leaf_ask, may_leaf_ask_nameless};
 ghost use Rattle.peers.specs.Drawn.{Draws, nonces_at};
 ghost use Rattle.peers.specs.Linked.{IsHeard, IsLinked, IsName, LooksUp};
+ghost use Rattle.peers.specs.Moving.{TriesNext, is_told, longest_wait, next_hub};
 ghost use Rattle.peers.specs.Tells.{TellsHub};
 
 use crate::beat::Beat;
@@ -15,6 +17,7 @@ use crate::entry::Entry;
 use crate::gone::Gone;
 use crate::handshake_progress::LeafRights;
 use crate::hub_link::HubLink;
+use crate::hub_turn::HubTurn;
 use crate::inbox::Inbox;
 use crate::meeting::Meeting;
 use crate::own::Own;
@@ -22,7 +25,7 @@ use crate::pumps::Pumps;
 use crate::stations::LeafStation;
 use crate::turn_time::TurnTime;
 use bytetext::{Failure, NoMemory};
-use net::{DialFault, DialTokens, Dialled, Dialling, Log, Registry};
+use net::{DialFault, DialTokens, Dialled, Log, Registry};
 use sharewire::Packet;
 use std::alloc::Global;
 use std::fs::File;
@@ -31,8 +34,12 @@ use std::random::RandomSource;
 use std::rt::Files;
 use tunnels::{Target, dial, tunnel_path};
 
-/// The longest wait before an attempt to connect, in seconds.
+/// The longest wait before an attempt to connect, in seconds, of a leaf that has one hub to try.
 pub const LONGEST_WAIT: u16 = 30;
+
+/// The longest wait before an attempt to connect, in seconds, of a leaf that has several hubs to try: each of two is
+/// tried within 8 seconds.
+pub const LONGEST_WAIT_IN_TURN: u16 = 4;
 
 // The token under which the connection to the hub is watched.
 const TOKEN: usize = 5;
@@ -72,7 +79,7 @@ impl Hub {
 pub struct HubConnection {
     alloc: Global,
     pub(crate) station: LeafStation,
-    pub(crate) dialling: Dialling,
+    pub(crate) turn: HubTurn,
     pub(crate) hub: Option<Hub>,
     pub(crate) inbox: Inbox,
     /// When the leaf is to say hello.
@@ -81,6 +88,8 @@ pub struct HubConnection {
     pub(crate) may: LeafRights,
     // The second of this turn by the monotonic clock.
     pub(crate) steady: u64,
+    // Whether a hub has told that its net is the heir of the leaf's.
+    pub(crate) moves: bool,
 }
 
 // Written by hand, so that the drop is proved once, and not in each function that drops one.
@@ -89,31 +98,38 @@ impl Drop for HubConnection {
         let HubConnection {
             alloc: _,
             station: _,
-            dialling: _,
+            turn: _,
             hub: _,
             inbox: _,
             pumps: _,
             may: _,
             steady: _,
+            moves: _,
         } = self;
     }
 }
 
 impl HubConnection {
-    /// Creates the link of the leaf of `station`. There is no connection yet, and an attempt to connect is due at once.
+    /// Creates the link of the leaf of `station`, which has this many `hubs` to try; 0 counts as 1. There is no
+    /// connection yet, and an attempt to connect to the first of them is due at once.
     ///
     /// # Errors
     /// `NoMemory` if an allocation fails.
-    pub fn new(alloc: Global, station: LeafStation) -> Result<HubConnection, NoMemory> {
+    pub fn new(alloc: Global, station: LeafStation, hubs: usize) -> Result<HubConnection, NoMemory>
+        ensures first { IfOk result (λ leaf. leaf.turn.dialling.place ≡ 0) }
+        ensures most { IfOk result (λ leaf. leaf.turn.dialling.waits.most ≡ longest_wait hubs) }
+        ensures stays { IfOk result (λ leaf. leaf.moves ≡ false) }
+    {
         Ok(HubConnection {
             alloc,
             station,
-            dialling: Dialling::new(station.leaf, LONGEST_WAIT, 1),
+            turn: HubTurn::new(station.leaf, longest_wait(hubs), hubs),
             hub: None,
             inbox: Inbox::new(alloc, 1)?,
             pumps: Pumps::new(),
             may: LeafRights::Asks,
             steady: 0,
+            moves: false,
         })
     }
 
@@ -132,11 +148,18 @@ impl HubConnection {
         }
     }
 
-    /// Begins to connect to the hub at `target` if there is no connection and an attempt is due at second `now`. Returns
-    /// whether a connection began.
+    /// Returns the place in the list of the hub that is tried next, or is connected.
+    pub fn place(&self) -> usize
+        ensures { result ≡ self.now.turn.dialling.place }
+    {
+        self.turn.dialling.place()
+    }
+
+    /// Begins to connect to the hub at `target`, which is to be the one at [`HubConnection::place`], if there is no
+    /// connection, an attempt is due at second `now`, and the leaf is not to move. Returns whether a connection began.
     ///
     /// While the hub's name is looked up, no connection begins, and the attempt stays due: call this in each turn. `log`
-    /// shows an attempt that begins or cannot begin; after the latter the next one is due after a wait. `registry`
+    /// shows an attempt that begins or cannot begin; after the latter the next hub is due after a wait. `registry`
     /// watches the connection under the token 5 and the lookup under the token 7, which nothing else may use. `dice` roll
     /// the leaf's nonce for the connection.
     ///
@@ -155,11 +178,13 @@ impl HubConnection {
     ) -> Result<bool, NoMemory>
         requires moment { now < MOMENTS_END }
         ensures memory { IfErr result (λ _. LooksUp self.old (Some target.entry.address.now) now) }
-        ensures stays { OnErr result (self.new.dialling ≡ self.old.dialling) }
+        ensures stays { OnErr result (self.new.turn ≡ self.old.turn) }
+        // An attempt that cannot begin leads to the next hub.
+        ensures next { TriesNext self.old.turn.dialling self.new.turn.dialling }
         // The leaf says a nonce that the dice rolled for this connection.
         ensures nonces { Draws (nonces_at self.old.hub) (nonces_at self.new.hub) dice.old.rolled dice.new.rolled }
     {
-        if self.hub.is_some() || !self.dialling.is_due(now) {
+        if self.hub.is_some() || self.moves || !self.turn.dialling.is_due(now) {
             return Ok(false);
         }
         self.dial(rt, dice, log, registry, target, now)
@@ -177,14 +202,15 @@ impl HubConnection {
     ) -> Result<bool, NoMemory>
         requires moment { now < MOMENTS_END }
         ensures name { IfErr result (λ _. IsName target.entry.address.now.host) }
-        ensures stays { OnErr result (self.new.dialling ≡ self.old.dialling) }
+        ensures stays { OnErr result (self.new.turn ≡ self.old.turn) }
+        ensures next { TriesNext self.old.turn.dialling self.new.turn.dialling }
         ensures nonces { Draws (nonces_at self.old.hub) (nonces_at self.new.hub) dice.old.rolled dice.new.rolled }
     {
         let time = TurnTime {
             now,
             steady: self.steady,
         };
-        match dialled(&mut self.dialling, rt, log, registry, target, time)? {
+        match dialled(&mut self.turn, rt, log, registry, target, time)? {
             Some(dialled) => Ok(self.begin(rt, dice, dialled, now)),
             None => Ok(false),
         }
@@ -199,10 +225,11 @@ impl HubConnection {
         now: u64,
     ) -> bool
         requires moment { now < MOMENTS_END }
+        ensures next { TriesNext self.old.turn.dialling self.new.turn.dialling }
         ensures nonces { Draws (nonces_at self.old.hub) (nonces_at self.new.hub) dice.old.rolled dice.new.rolled }
     {
         let Ok(nonce) = dice.roll(rt) else {
-            self.dialling.lost(now);
+            self.turn.lost(now);
             return false;
         };
         let side = self.station.side(nonce);
@@ -311,7 +338,7 @@ impl HubConnection {
             log.note(now, &Entry::Linked(link.way));
             self.hub = Some(Hub::Linked(link));
             self.may = may;
-            self.dialling.good();
+            self.turn.good();
             self.pumps.go_on();
         }
     }
@@ -357,9 +384,9 @@ impl HubConnection {
 
     /// Returns the second at which the next attempt to connect is due.
     pub fn due(&self) -> u64
-        ensures { result ≡ self.now.dialling.waits.due }
+        ensures { result ≡ self.now.turn.dialling.waits.due }
     {
-        self.dialling.due()
+        self.turn.dialling.due()
     }
 
     /// Queues `packet` for the hub. If the hub is not linked, the packet is lost. A hello counts as said at second
@@ -394,10 +421,14 @@ impl HubConnection {
         }
     }
 
-    /// Disconnects the hub at second `now`, if its connection is over or silent.
+    /// Disconnects the hub at second `now`, if its connection is over or silent. Notes that the leaf is to move if the hub
+    /// told so.
     pub fn let_go(&mut self, log: &mut Log, now: u64)
         requires moment { now < MOMENTS_END }
+        ensures moves { self.new.moves ≡ (self.old.moves || is_told self.old.hub) }
+        ensures next { TriesNext self.old.turn.dialling self.new.turn.dialling }
     {
+        self.moves = self.moves || is_told(&self.hub);
         if let Some(Hub::Linked(link)) = &mut self.hub {
             link.wire.end_if_silent(self.steady);
         }
@@ -416,17 +447,31 @@ impl HubConnection {
 
     fn lose(&mut self, log: &mut Log, gone: Gone, now: u64)
         requires moment { now < MOMENTS_END }
+        ensures moves { self.new.moves ≡ self.old.moves }
+        ensures next { self.new.turn.dialling.place ≡ next_hub self.old.turn.dialling }
     {
         self.hub = None;
         self.inbox.forget(0);
-        self.dialling.lost(now);
-        log.note(now, &Entry::HubGone(gone, self.dialling.due()));
+        self.turn.lost(now);
+        log.note(now, &Entry::HubGone(gone, self.due()));
+    }
+}
+
+// The longest wait of a leaf that has this many hubs to try.
+fn longest_wait(hubs: usize) -> u16
+    ensures value { result ≡ longest_wait hubs }
+    ensures enough { FIRST_WAIT ≤ result }
+{
+    if hubs > 1 {
+        LONGEST_WAIT_IN_TURN
+    } else {
+        LONGEST_WAIT
     }
 }
 
 // Begins to connect to the hub at `target`, which is due. Returns the connection once the system makes one.
 fn dialled<R: AllocGlobal + Net + Files<File = File> + RandomSource>(
-    dialling: &mut Dialling,
+    turn: &mut HubTurn,
     rt: &R,
     log: &mut Log,
     registry: &Registry,
@@ -435,22 +480,31 @@ fn dialled<R: AllocGlobal + Net + Files<File = File> + RandomSource>(
 ) -> Result<Option<Dialled>, NoMemory>
     requires moment { time.now < MOMENTS_END }
     ensures name { IfErr result (λ _. IsName target.entry.address.now.host) }
-    ensures stays { OnErr result (dialling.new ≡ dialling.old) }
+    ensures stays { OnErr result (turn.new ≡ turn.old) }
+    ensures next { TriesNext turn.old.dialling turn.new.dialling }
+    ensures found { IfOk result (λ found. IfSome found (λ _. turn.new ≡ turn.old)) }
 {
     let host = target.address.host.as_bytes();
     let tokens = DialTokens {
         connection: TOKEN,
         lookup: LOOKUP,
     };
-    match dial(dialling, rt, registry, tokens, target, time.steady) {
+    match dial(
+        &mut turn.dialling,
+        rt,
+        registry,
+        tokens,
+        target,
+        time.steady,
+    ) {
         Ok(Some(dialled)) => {
             log.note(time.now, &Entry::Dialled(host, dialled.way));
             Ok(Some(dialled))
         }
         Ok(None) => Ok(None),
         Err(Failure::Refused(fault)) => {
-            dialling.lost(time.now);
-            note_not_dialled(log, target, fault, dialling.due(), time.now);
+            turn.lost(time.now);
+            note_not_dialled(log, target, fault, turn.dialling.due(), time.now);
             Ok(None)
         }
         Err(Failure::NoMemory) => Err(NoMemory),
@@ -468,6 +522,16 @@ fn note_not_dialled(log: &mut Log, target: Target<'_>, fault: DialFault, due: u6
             );
         }
         Some(_) | None => log.note(now, &Entry::NotDialled(host, fault, due)),
+    }
+}
+
+// Whether the hub that the leaf meets has told that it is the heir.
+fn is_told(hub: &Option<Hub>) -> bool
+    ensures { result ≡ is_told hub.now }
+{
+    match hub {
+        Some(Hub::Meets(meeting)) => meeting.told,
+        Some(Hub::Linked(_)) | None => false,
     }
 }
 

@@ -1,9 +1,11 @@
 // The hub's connections to its leaves.
-ghost use Rattle.std.specs.Prelude.{◌≡◌, ◌≢◌, ℕ, None, Some, not, IfOk, OnOk, OnErr, slice_get};
+ghost use Rattle.std.specs.Prelude.{◌≡◌, ◌≢◌, ℕ, None, Some, not, replicate, IfOk, OnOk, OnErr, slice_get};
 ghost use Rattle.std.specs.List.{AllByRecursion, filter};
 ghost use Rattle.sharewire.specs.Frames.{CanBeWritten};
 ghost use Rattle.sharelink.specs.Shapes.{HasGoodRecords};
+ghost use Rattle.peers.specs.declared.handshake_progress.LeafRights.TheVariants.{Asks};
 ghost use Rattle.peers.specs.Linked.{IsTaken};
+ghost use Rattle.peers.specs.Rights.{limited};
 ghost use Rattle.peers.specs.Picking.{is_request};
 ghost use Rattle.peers.specs.Tells.{TakesGranted, TellsPlace, TellsSeat, granted, in_doubt};
 
@@ -219,6 +221,7 @@ impl LeafPlaces {
         let HubStation {
             key,
             net: number,
+            parent,
             leaves: count,
             limits: _,
             book,
@@ -235,6 +238,7 @@ impl LeafPlaces {
             net: HubNet {
                 key,
                 number,
+                parent,
                 leaves: count,
             },
             door,
@@ -321,7 +325,9 @@ fn rights_of(
     alloc: Global,
     places: usize,
     limits: &[LeafLimit],
-) -> Result<Vec<LeafRights>, NoMemory> {
+) -> Result<Vec<LeafRights>, NoMemory>
+    ensures { IfOk result (λ rights. rights.items ≡ limited limits.now (replicate places Asks)) }
+{
     let mut rights = Vec::new(alloc);
     rights.resize(places, LeafRights::Asks)?;
     for limit in limits {

@@ -13,6 +13,8 @@ pub(crate) struct HubNet {
     pub(crate) key: Key,
     // The number of the net.
     pub(crate) number: DrawnNumber,
+    // The number of the net whose heir it is, if it is one.
+    pub(crate) parent: Option<DrawnNumber>,
     // The number of leaves.
     pub(crate) leaves: u16,
 }
@@ -20,11 +22,13 @@ pub(crate) struct HubNet {
 impl HubNet {
     // The hub's side of a new connection.
     pub(crate) fn side(&self, nonce: Nonce) -> HubSide
-        ensures { result.nonce ≡ nonce }
+        ensures nonce { result.nonce ≡ nonce }
+        ensures parent { result.parent ≡ self.now.parent }
     {
         HubSide {
             key: self.key,
             net: self.number,
+            parent: self.parent,
             leaves: self.leaves,
             nonce,
         }

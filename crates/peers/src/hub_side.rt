@@ -1,6 +1,6 @@
 // The hub's side.
 ghost use Rattle.std.specs.Prelude.{◌≡◌};
-ghost use Rattle.peers.specs.Judging.{is_older, is_other, is_same};
+ghost use Rattle.peers.specs.Judging.{is_older, is_other, is_same, net_refusal};
 ghost use Rattle.peers.specs.Sides.{leaf_line_fault};
 
 use crate::MAX_LINE;
@@ -25,6 +25,8 @@ pub struct HubSide {
     pub key: Key,
     /// The hub's net.
     pub net: DrawnNumber,
+    /// The net whose heir the hub's net is, if it is one.
+    pub parent: Option<DrawnNumber>,
     /// The number of leaves of the net.
     pub leaves: u16,
     /// The nonce that the hub drew for this connection.
@@ -111,7 +113,7 @@ impl HubSide {
     {
         let words = &ask.words;
         if !may_be_of(&self.net, &words.net) {
-            return Some(HandshakeRefusal::Net);
+            return Some(net_refusal(&self.parent, &words.net));
         }
         if words.leaves != self.leaves {
             return Some(HandshakeRefusal::Count);
@@ -186,6 +188,20 @@ fn leaf_line_fault(line: &[u8]) -> HandshakeFault
         HandshakeFault::OldLeaf
     } else {
         HandshakeFault::NoLeafLine
+    }
+}
+
+// Why a leaf of another net may not join a hub whose net has this `parent`.
+fn net_refusal(parent: &Option<DrawnNumber>, net: &Option<DrawnNumber>) -> HandshakeRefusal
+    ensures { result ≡ net_refusal parent.now net.now }
+{
+    let (Some(parent), Some(net)) = (parent, net) else {
+        return HandshakeRefusal::Net;
+    };
+    if net.is_same(parent) {
+        HandshakeRefusal::Heir
+    } else {
+        HandshakeRefusal::Net
     }
 }
 

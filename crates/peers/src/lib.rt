@@ -82,7 +82,7 @@
 //! | LAST | of a leaf its last request, of the hub the last request of this leaf that it replied to, 0 if none |
 //! | MAY | `asks`, `reads` or `persons`: what the leaf may do ([`LeafRights`]) |
 //! | NONCE | 16 random bytes, as 32 digits |
-//! | WORD | why the hub refuses the leaf ([`HandshakeRefusal`]): `net`, `count`, `other`, `ahead`, `records` or `older` |
+//! | WORD | why the hub refuses the leaf ([`HandshakeRefusal`]): `heir`, `net`, `count`, `other`, `ahead`, `records` or `older` |
 //! | CODE | the HMAC with SHA-256 (RFC 2104, FIPS 180-4) under the leaf's key, as 64 digits |
 //!
 //! The leaf's CODE is that of its line up to its NONCE, then a space and the hub's NONCE. The hub's is that of its line
@@ -100,6 +100,9 @@
 //! if it is an older copy of itself, or if its records cannot come from this hub. The line of a refusal has a code, so
 //! the leaf can believe it.
 //!
+//! A hub whose net is the heir of another one tells a leaf of that net so: it is to move
+//! ([`Links::is_to_move`]). It then begins as a new leaf of the heir, by the same number and key.
+//!
 //! The caller passes [`HubSide`] and [`LeafSide`] all bytes that were read and not used. They return what to do: read
 //! more, send a line, or disconnect with a [`HandshakeFault`]. The bytes after a side's last line are its first records,
 //! which the caller reads. The caller also watches the time: [`is_late`] decides from two readings of the monotonic
@@ -108,7 +111,7 @@
 //! The handshake encrypts nothing. Who knows a leaf's key can speak as that leaf, and as the hub to that leaf.
 //!
 //! ```text
-//! let hub = HubSide { key: Key::new(secret), net, leaves: 40, nonce: dice.roll(rt)? };
+//! let hub = HubSide { key: Key::new(secret), net, parent: None, leaves: 40, nonce: dice.roll(rt)? };
 //! say(hub.greeting());
 //! match hub.hear(&heard) {
 //!     HubHears::More => {}
@@ -158,11 +161,13 @@ mod hub_link;
 mod hub_links;
 mod hub_net;
 mod hub_side;
+mod hub_turn;
 mod inbox;
 mod late;
 mod leaf_side;
 mod link_facts;
 mod link_wire;
+mod linked_leaf;
 mod links;
 mod listening;
 mod mail;
@@ -170,6 +175,7 @@ mod meeting;
 mod nonce;
 mod outbox;
 mod own;
+mod parent_line;
 mod picking;
 mod places;
 mod pulse;
@@ -204,7 +210,7 @@ pub use crate::handshake_progress::{LeafRights, Progress};
 pub use crate::handshake_reading::Ask;
 pub use crate::handshake_refusal::HandshakeRefusal;
 pub use crate::handshake_sides::{HubAnswer, LeafWords};
-pub use crate::hub_connection::{HubConnection, LONGEST_WAIT};
+pub use crate::hub_connection::{HubConnection, LONGEST_WAIT, LONGEST_WAIT_IN_TURN};
 pub use crate::hub_links::{HubLinks, ListenFault, MAX_GUESTS};
 pub use crate::hub_side::{HubHears, HubSide};
 pub use crate::inbox::Inbox;
@@ -217,6 +223,7 @@ pub use crate::listening::ListenPlace;
 pub use crate::mail::Mail;
 pub use crate::nonce::Nonce;
 pub use crate::own::{HeldParts, Own};
+pub use crate::parent_line::parent_in;
 pub use crate::pulse::{BEAT_EVERY, SILENCE};
 pub use crate::pumps::{AGAIN, Pumps, REST};
 pub use crate::queue::{MAX_OF_STREAM, MAX_PACKETS};

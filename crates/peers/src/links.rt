@@ -1,5 +1,5 @@
 // A bot's connections to the others of its net.
-ghost use Rattle.std.specs.Prelude.{◌≡◌, ◌≢◌, ◌<◌, IfOk, IfErr, OnOk, OnErr, is_some, option_map};
+ghost use Rattle.std.specs.Prelude.{◌≡◌, ◌≢◌, ◌<◌, IfOk, IfErr, OnOk, OnErr, is_some, option_map, slice_get};
 ghost use Rattle.std.specs.List.{AllByRecursion};
 ghost use Rattle.bytetext.specs.declared.moment.TheConstants.{MOMENTS_END};
 ghost use Rattle.sharewire.specs.Frames.{CanBeWritten};
@@ -8,7 +8,9 @@ ghost use Rattle.peers.specs.Doubts.{RenewsLeaf, TrustsThis, is_in_doubt};
 ghost use Rattle.peers.specs.Drawn.{Draws, nonces_in};
 ghost use Rattle.peers.specs.Entering.{lines_of};
 ghost use Rattle.peers.specs.Hellos.{asked, noted, pumps_of};
+ghost use Rattle.peers.specs.HandOver.{has_all, shown_at, shows_all};
 ghost use Rattle.peers.specs.Linked.{Hears, MayConnect, Reaches};
+ghost use Rattle.peers.specs.Moving.{is_to_move};
 ghost use Rattle.peers.specs.Tells.{TakesPackets, TellsOne};
 ghost use Rattle.peers.specs.declared.links.Links.TheVariants.{Alone};
 ghost use Rattle.sharelink.specs.Shapes.{HasGoodRecords};
@@ -20,6 +22,7 @@ use crate::handshake_line::HandshakeLine;
 use crate::hub_connection::HubConnection;
 use crate::hub_links::HubLinks;
 use crate::own::Own;
+use crate::seat::Seat;
 use bytetext::NoMemory;
 use net::{Log, Registry};
 use settings::Settings;
@@ -67,10 +70,10 @@ impl Links {
         }
     }
 
-    /// At a hub, accepts the connections that wait. At a leaf, begins to connect to the hub that `settings` name, if
-    /// the connection is lost and an attempt is due at second `now`; while the hub's name is looked up, the attempt
-    /// stays due. `dice` roll the nonces of this bot's handshakes, and `registry` watches the connections. Returns whether
-    /// a connection to the hub began.
+    /// At a hub, accepts the connections that wait. At a leaf, begins to connect to the hub of `settings` whose turn it
+    /// is, if the connection is lost and an attempt is due at second `now`; while the hub's name is looked up, the
+    /// attempt stays due. A leaf that is to move ([`Links::is_to_move`]) no longer connects. `dice` roll the nonces of
+    /// this bot's handshakes, and `registry` watches the connections. Returns whether a connection to the hub began.
     ///
     /// # Errors
     /// `NoMemory` if an allocation fails: only at a hub, and at a leaf that looks its hub's name up.
@@ -84,7 +87,7 @@ impl Links {
         now: u64,
     ) -> Result<bool, NoMemory>
         requires moment { now < MOMENTS_END }
-        ensures memory { IfErr result (λ _. MayConnect self.old settings.now.hub now) }
+        ensures memory { IfErr result (λ _. MayConnect self.old settings.now.hubs now) }
         // Each handshake that begins says a nonce that the dice rolled for it.
         ensures nonces { Draws (nonces_in self.old) (nonces_in self.new) dice.old.rolled dice.new.rolled }
     {
@@ -94,7 +97,7 @@ impl Links {
                 hub.let_in(rt, dice, log, registry, now)?;
                 Ok(false)
             }
-            Links::Leaf(leaf) => match &settings.hub {
+            Links::Leaf(leaf) => match settings.hubs.as_slice().get(leaf.place()) {
                 Some(address) => {
                     let folder = settings.folder.as_bytes();
                     let target = Target { folder, address };
@@ -384,6 +387,30 @@ impl Links {
         }
     }
 
+    /// Whether this bot is a leaf that is to move: a hub has told it, by a code under the leaf's key, that the hub's net
+    /// is the heir of the leaf's ([`HandshakeRefusal::Heir`](crate::HandshakeRefusal::Heir)). The process is to end the
+    /// bot, and to begin it again as a new leaf. Once true, it stays so.
+    pub fn is_to_move(&self) -> bool
+        ensures { result ≡ is_to_move self.now }
+    {
+        match self {
+            Links::Alone | Links::Hub(_) => false,
+            Links::Leaf(leaf) => leaf.moves,
+        }
+    }
+
+    /// At a hub, whether the leaf numbered `leaf` has shown that it holds all changes up to `version`, the hub's own: it
+    /// is linked, said this version last, and no beat of it has still to be compared with the hub's records. A leaf that
+    /// holds other records at the hub's version is disconnected when its beat is compared.
+    pub fn has_all(&self, leaf: u16, version: u32) -> bool
+        ensures { result ≡ has_all leaf version self.now }
+    {
+        match self {
+            Links::Alone | Links::Leaf(_) => false,
+            Links::Hub(hub) => is_shown_at(version, hub.seats.as_slice(), leaf),
+        }
+    }
+
     /// Whether this bot is a leaf that was never linked.
     pub fn is_new_leaf(&self) -> bool
         ensures { result ≡ is_new_leaf self.now }
@@ -393,4 +420,20 @@ impl Links {
             Links::Leaf(leaf) => leaf.is_new(),
         }
     }
+}
+
+// Whether the leaf of this number has shown that it holds all changes up to `version`.
+fn is_shown_at(version: u32, seats: &[Option<Seat>], leaf: u16) -> bool
+    ensures { result ≡ shown_at version (slice_get seats.now leaf) }
+{
+    match seats.get(usize::from(leaf)) {
+        Some(Some(seat)) => shows_all(version, seat),
+        Some(None) | None => false,
+    }
+}
+
+fn shows_all(version: u32, seat: &Seat) -> bool
+    ensures { result ≡ shows_all version seat.now }
+{
+    seat.wire.gone().is_none() && seat.beat.is_none() && seat.version == version
 }

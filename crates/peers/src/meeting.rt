@@ -1,5 +1,6 @@
 // A leaf's connection to its hub before the first record.
 ghost use Rattle.std.specs.Prelude.{◌≡◌, ◌≤◌, None, OnErr};
+ghost use Rattle.peers.specs.Heirs.{IsToldBy};
 ghost use Rattle.peers.specs.declared.link_wire.TheConstants.{MAX_SEALED};
 
 use crate::beat::Beat;
@@ -28,9 +29,13 @@ pub(crate) struct Meeting {
     pub(crate) joined: Option<Joined>,
     // Why the connection is to be closed, if it is.
     gone: Option<Gone>,
+    // Whether the hub told that it is the heir of the leaf's net.
+    pub(crate) told: bool,
     // The second of the monotonic clock at which the connection began.
     began: u64,
     way: Way,
+    // If the hub told so, then by these bytes, with a code under the leaf's key.
+    ghost told_by: { ∥ IsToldBy side connection.heard.items told ∥₁ },
     // There is room for all that will be sealed.
     ghost wide: { MAX_SEALED ≤ connection.bounds.unsent },
 }
@@ -44,6 +49,7 @@ impl Drop for Meeting {
             said: _,
             joined: _,
             gone: _,
+            told: _,
             began: _,
             way: _,
         } = self;
@@ -77,6 +83,7 @@ impl Meeting {
             said: None,
             joined: None,
             gone: None,
+            told: false,
             began: steady,
             way,
         }
@@ -90,6 +97,9 @@ impl Meeting {
 
     // The process tells how far the leaf has come.
     pub(crate) fn tell_own(&mut self, own: &Own) {
+        if self.told {
+            return;
+        }
         if self.side.greeted.is_none() {
             self.side.own = own.progress_for(0);
         }
@@ -103,7 +113,7 @@ impl Meeting {
     pub(crate) fn meet(&mut self, steady: u64) -> Result<bool, NoMemory>
         ensures memory { OnErr result (self.old.joined ≡ None) }
     {
-        if self.joined.is_some() {
+        if self.joined.is_some() || self.told {
             return Ok(false);
         }
         let came = self.connection.read(1)?;
@@ -117,6 +127,9 @@ impl Meeting {
 
     // Reads a line of the hub's, once the process has told how far the leaf has come. Returns whether there may be another.
     fn meet_line(&mut self, steady: u64) -> Result<bool, NoMemory> {
+        if self.told {
+            return Ok(false);
+        }
         if self.said.is_none() {
             self.end_if_late(steady);
             return Ok(false);
@@ -137,6 +150,7 @@ impl Meeting {
                 Ok(false)
             }
             LeafHears::Refused(fault) => {
+                self.told = fault.is_heir();
                 self.gone = Some(Gone::Handshake(fault));
                 Ok(false)
             }
@@ -186,6 +200,7 @@ impl Meeting {
             said: _,
             joined: _,
             gone: _,
+            told: _,
             began: _,
             way,
         } = self;

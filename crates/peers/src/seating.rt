@@ -5,6 +5,7 @@ ghost use Rattle.peers.specs.Hearing.{over_budget, waiting_for};
 ghost use Rattle.peers.specs.declared.verdict.Verdict.TheVariants.{Joins};
 ghost use Rattle.peers.specs.Joining.{IsInBook, IsOfBook};
 ghost use Rattle.peers.specs.Linked.{IsTaken, has_somebody};
+ghost use Rattle.peers.specs.Rights.{right_of};
 ghost use Rattle.peers.specs.Waiting.{queue_of};
 
 use crate::door::Who;
@@ -276,7 +277,9 @@ fn hear_leaf(
 }
 
 // What a leaf may do.
-fn right_of(rights: &[LeafRights], leaf: u16) -> LeafRights {
+fn right_of(rights: &[LeafRights], leaf: u16) -> LeafRights
+    ensures { result ≡ right_of rights.now leaf }
+{
     match rights.get(usize::from(leaf)) {
         Some(may) => *may,
         None => LeafRights::Reads,

@@ -81,9 +81,9 @@ pub enum Secret {
     },
 }
 
-/// Reads the secret in the first line of the file at `path`. The line has 16 to 200 bytes without its end: LF or CR LF, or
-/// the end of the file, where a CR before it does not count. A line that begins with `leaf-key ` is that of a leaf's key, `leaf-key N KEY` with 64
-/// hexadecimal digits; [`leaf_file_line`] makes it. Every other line is the net's secret.
+/// Reads the secret in the first line of the file at `path`. The line has 16 to 200 bytes without its end: LF or CR LF,
+/// or the end of the file, where a CR before it does not count. A line that begins with `leaf-key ` is that of a leaf's
+/// key, `leaf-key N KEY` with 64 hexadecimal digits; [`leaf_file_line`] makes it. Every other line is the net's secret.
 ///
 /// # Errors
 /// In this order, as [`SecretFault`] describes them: `NotRegular`, one of the system, `BadLeafKey` and `Length`.

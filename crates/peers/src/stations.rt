@@ -16,6 +16,8 @@ pub struct HubStation {
     pub key: Key,
     /// The number of the net.
     pub net: DrawnNumber,
+    /// The number of the net whose heir it is, if it is one: a leaf of that net is told to move.
+    pub parent: Option<DrawnNumber>,
     /// The number of leaves of the net.
     pub leaves: u16,
     /// The leaves that may not ask for every change. Each other leaf may.

@@ -143,8 +143,11 @@ fn text_at(texts: &[Text], place: usize) -> &[u8]
 fn who_of(alloc: Global, arguments: &[Text]) -> Result<Text, NoMemory>
     ensures { IfOk result (λ who. who ≡ who_of arguments.now) }
 {
-    let mut who = Vec::from_slice(alloc, text_at(arguments, 0))?;
+    let nick = text_at(arguments, 0);
+    let address = text_at(arguments, 1);
+    let mut who = Vec::with_capacity(alloc, nick.len() + 1 + address.len())?;
+    who.extend_from_slice(nick)?;
     who.push(b'!')?;
-    who.extend_from_slice(text_at(arguments, 1))?;
+    who.extend_from_slice(address)?;
     Ok(Text::new(who))
 }

@@ -1,5 +1,5 @@
 -- What the journal of a stopped leaf holds.
-use Rattle.std.specs.Prelude.{◌≡◌, ◌≢◌, ◌<◌, ◌≤◌, ◌++◌, ℕ, true, List, [], codes, decimal, length, slice_get, Some}
+use Rattle.std.specs.Prelude.{◌≡◌, ◌≢◌, ◌<◌, ◌≤◌, ℕ, true, List, [], length, slice_get, Some}
 use Rattle.botjournal.specs.declared.base.Base.{Base}
 use Rattle.botjournal.specs.declared.TheConstants.{LAYOUT}
 use Rattle.botjournal.specs.Contents.{Contents, meaning}
@@ -73,10 +73,6 @@ pub record IsStanding (standing : LeafStanding) : Type 0 where
   pub journal : IsLeafOf leaf.first leaf.second leaf.base
   pub is : standing ≡ standing_of leaf.base standing.net
   pub net : digits_in NUMBER_DIGITS standing.net ≡ Some standing.net
-
--- the line of the file `parent`: the number of the net before, and the version of the leaf that was promoted
-abbrev pub parent_line : List ℕ → ℕ → List ℕ
-parent_line net version = net ++ (codes " " ++ (decimal version ++ codes "\n"))
 
 -- The one at this place has the highest version of the first of them, `count` in number. Each one before it has a lower
 -- version.

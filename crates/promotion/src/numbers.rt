@@ -3,7 +3,7 @@ ghost use Rattle.std.specs.Prelude.{◌≡◌, ◌≢◌, ◌++◌, IfErr, IfOk,
 ghost use Rattle.protocol.specs.Snapshots.{users_in};
 ghost use Rattle.bytetext.specs.declared.failure.Failure.TheVariants.{Refused};
 ghost use Rattle.promotion.specs.declared.fault.PromotionFault.TheVariants.{System};
-ghost use Rattle.promotion.specs.Leaves.{parent_line};
+ghost use Rattle.peers.specs.Parents.{parent_line};
 
 use crate::fault::{PromotionError, PromotionFault};
 use bytetext::{Failure, NoMemory};

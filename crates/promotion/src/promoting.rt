@@ -9,7 +9,7 @@ ghost use Rattle.botfolder.specs.Folders.{AreReady};
 ghost use Rattle.peers.specs.Digits.{digits_in};
 ghost use Rattle.promotion.specs.declared.fault.PromotionFault.TheVariants.{Folder};
 ghost use Rattle.promotion.specs.Faults.{IsOfPromotion};
-ghost use Rattle.promotion.specs.Leaves.{parent_line};
+ghost use Rattle.peers.specs.Parents.{parent_line};
 ghost use Rattle.promotion.specs.Promotions.{Promotes};
 
 use crate::fault::{PromotionError, PromotionFault, heir_error};

@@ -11,7 +11,7 @@ use Rattle.ircline.specs.declared.numeric.Numeric.TheVariants.{Welcome, Erroneou
 use Rattle.ircline.specs.Numeric.{is_command, numeric_of}
 use Rattle.ircline.specs.Sources.{Source, Nobody, Server, Person, source_of}
 use Rattle.serverlink.specs.declared.cue.Cue.{Cue}
-use Rattle.serverlink.specs.declared.cue.Cue.TheVariants.{Welcomed, Renamed, Joined, Parted, Kicked, Barred, NickRefused, Refused, Supports, Nothing}
+use Rattle.serverlink.specs.declared.cue.Cue.TheVariants.{Welcomed, Renamed, Joined, Parted, Kicked, Barred, Forwarded, NickRefused, Refused, Supports, Nothing}
 
 -- the parameter at a place, empty if the message has fewer
 abbrev pub param : Message → ℕ → List ℕ
@@ -29,6 +29,15 @@ is_by mapping message own = is_from mapping (source_of message.prefix) own
 abbrev pub is_to : Casemapping → Message → List ℕ → Bool
 is_to mapping message own = is_same_by mapping (param message 1) own
 
+-- no such channel, one too many, full, for the invited alone, banned, with a key, no name of a channel (476, 479), for the
+-- registered alone, joined too often, for TLS alone, for operators of the server alone
+abbrev pub is_barring : List ℕ → Bool
+is_barring command =
+    is_command (codes "403") command || is_command (codes "405") command || is_command (codes "471") command
+    || is_command (codes "473") command || is_command (codes "474") command || is_command (codes "475") command
+    || is_command (codes "476") command || is_command (codes "477") command || is_command (codes "479") command
+    || is_command (codes "480") command || is_command (codes "489") command || is_command (codes "520") command
+
 -- a number from 400 to 599
 abbrev pub is_numeric_fault : List ℕ → Bool
 is_numeric_fault command = length command == 3 && (slice_index command 0 == 52 || slice_index command 0 == 53)
@@ -36,8 +45,8 @@ is_numeric_fault command = length command == 3 && (slice_index command 0 == 52 |
 abbrev pub other_cue : List ℕ → Cue
 other_cue command =
     if is_command (codes "005") command then Supports
-    else if is_command (codes "405") command || is_command (codes "471") command || is_command (codes "473") command
-    || is_command (codes "474") command || is_command (codes "475") command || is_command (codes "477") command then Barred
+    else if is_command (codes "470") command then Forwarded
+    else if is_barring command then Barred
     else if is_numeric_fault command then Refused
     else Nothing
 
@@ -65,6 +74,7 @@ nick_by Joined message = None
 nick_by Parted message = None
 nick_by Kicked message = None
 nick_by Barred message = None
+nick_by Forwarded message = None
 nick_by NickRefused message = None
 nick_by Refused message = None
 nick_by Supports message = None

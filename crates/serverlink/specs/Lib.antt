@@ -5,6 +5,8 @@ pub mod Nicks
 pub mod Casings
 pub mod Cues
 pub mod Seats
+pub mod Regains
+pub mod Wanting
 pub mod Talks
 pub mod Listing
 pub mod Told

@@ -12,7 +12,7 @@ use Rattle.serverlink.specs.declared.seat.TheConstants.{ASK_AGAIN, LONGEST_WAIT}
 use Rattle.serverlink.specs.declared.vigil.TheConstants.{GOOD}
 
 -- its name and its key; whether the bot is on it, and when it last joined; when the process asks to join, if a server has welcomed
--- the bot; the wait after a KICK, or after the server did not let the bot in
+-- the bot; the wait after the bot was taken off the channel, or after the server did not let it in
 pub record Seated : Type 0 where
   pub channel : List ℕ
   pub key : Option (List ℕ)
@@ -42,9 +42,6 @@ welcomed seat now = record seat { asks = Some now }
 abbrev pub joined : Seated → ℕ → Seated
 joined seat now = record seat { on = true; since = now }
 
-abbrev pub parted : Seated → ℕ → Seated
-parted seat now = record seat { on = false; asks = later now }
-
 -- the server was lost: nothing is asked before the next one welcomes the bot
 abbrev pub lost : Seated → Seated
 lost seat = record seat { on = false; asks = None }
@@ -53,9 +50,9 @@ lost seat = record seat { on = false; asks = None }
 abbrev pub waiting : Seated → Waits → Seated
 waiting seat waits = record seat { on = false; asks = Some waits.due; waits = waits }
 
--- a bot that has stayed for long waits as after a good connection
-abbrev pub kicked : Seated → ℕ → Seated
-kicked seat now = waiting seat (lost_wait seat.waits now (nat_le GOOD (now - seat.since)))
+-- by a KICK, or by a PART in the bot's name; a bot that has stayed for long waits as after a good connection
+abbrev pub taken_off : Seated → ℕ → Seated
+taken_off seat now = waiting seat (lost_wait seat.waits now (nat_le GOOD (now - seat.since)))
 
 -- a bot that is on the channel was let in
 abbrev pub not_let_in : Seated → ℕ → Seated

@@ -64,11 +64,6 @@ impl ConfiguredChannels {
         self.seats.get(place)
     }
 
-    // Whether the bot is on a channel of this name.
-    pub(crate) fn is_on(&self, mapping: Casemapping, name: &[u8]) -> bool {
-        self.seats.iter().any(|seat| seat.is_on() && same_by(mapping, seat.channel(), name))
-    }
-
     // Whether a channel of this name is among them.
     pub(crate) fn has(&self, mapping: Casemapping, name: &[u8]) -> bool
         ensures { result ≡ has_seat mapping name.now self.now }
@@ -139,28 +134,26 @@ impl ConfiguredChannels {
         }
     }
 
-    // Notes that the bot has left a channel at second `now`.
-    pub(crate) fn part(&mut self, mapping: Casemapping, name: &[u8], now: u64) {
-        if let Some(seat) = self.seat_of(mapping, name) {
-            seat.part(now);
-        }
-    }
-
-    // Notes that the bot was kicked off a channel at second `now`.
-    pub(crate) fn kick(&mut self, mapping: Casemapping, name: &[u8], now: u64)
+    // Notes that the bot was taken off a channel at second `now`.
+    pub(crate) fn take_off(&mut self, mapping: Casemapping, name: &[u8], now: u64)
         requires moment { now < MOMENTS_END }
     {
         if let Some(seat) = self.seat_of(mapping, name) {
-            seat.kick(now);
+            seat.take_off(now);
         }
     }
 
-    // Notes that the server did not let the bot onto a channel at second `now`.
-    pub(crate) fn bar(&mut self, mapping: Casemapping, name: &[u8], now: u64)
+    // Notes that the server did not let the bot onto a channel at second `now`. Returns false, and changes nothing, if
+    // the bot is on it or is not to be there: then the server rejects something else.
+    pub(crate) fn bar(&mut self, mapping: Casemapping, name: &[u8], now: u64) -> bool
         requires moment { now < MOMENTS_END }
     {
-        if let Some(seat) = self.seat_of(mapping, name) {
-            seat.bar(now);
+        match self.seat_of(mapping, name) {
+            Some(seat) if !seat.is_on() => {
+                seat.bar(now);
+                true
+            }
+            Some(_) | None => false,
         }
     }
 

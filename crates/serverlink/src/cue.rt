@@ -1,6 +1,6 @@
 // What a message means for a bot's registration and its channels.
 ghost use Rattle.std.specs.Prelude.{◌≡◌};
-ghost use Rattle.serverlink.specs.Cues.{cue_of, is_by, is_numeric_fault, is_to, numeric_cue, other_cue, param, unavailable};
+ghost use Rattle.serverlink.specs.Cues.{cue_of, is_barring, is_by, is_numeric_fault, is_to, numeric_cue, other_cue, param, unavailable};
 
 use ircline::{Message, Numeric, Source, numeric_of, source};
 use rfccase::{Casemapping, is_channel_name, same_by};
@@ -18,9 +18,11 @@ pub enum Cue {
     Parted,
     /// The bot was kicked off the channel that is the first parameter.
     Kicked,
-    /// The server does not let the bot join the channel that is the second parameter (405, 471, 473, 474, 475, 477, and
-    /// 437 if that parameter is the name of a channel).
+    /// The server does not let the bot join the channel that is the second parameter: 403, 405, 471, 473 to 477, 479,
+    /// 480, 489, 520, and 437 if that parameter is the name of a channel.
     Barred,
+    /// The server sends the bot on from the channel that is the second parameter to the one that is the third (470).
+    Forwarded,
     /// The server rejects a nick (432, 436, and 437 if its second parameter is not the name of a channel).
     NickRefused,
     /// The server rejects something else, or ends the connection (another number from 400 to 599, ERROR).
@@ -84,14 +86,40 @@ fn other_cue(command: &[u8]) -> Cue
 {
     match command {
         b"005" => Cue::Supports,
-        b"405" | b"471" | b"473" | b"474" | b"475" | b"477" => Cue::Barred,
+        b"470" => Cue::Forwarded,
         _ => {
-            if is_numeric_fault(command) {
+            if is_barring(command) {
+                Cue::Barred
+            } else if is_numeric_fault(command) {
                 Cue::Refused
             } else {
                 Cue::Nothing
             }
         }
+    }
+}
+
+// Whether a command says that the server does not let a person join the channel that is the second parameter: there is
+// no such channel (403), it is one too many (405), full (471), for the invited alone (473), banned (474), with a key
+// (475), no name of a channel (476, 479), for the registered alone (477), joined too often (480), for TLS alone (489) or
+// for operators of the server alone (520). RFC 2812 section 5.2 has some of them, and today's servers the others.
+fn is_barring(command: &[u8]) -> bool
+    ensures { result ≡ is_barring command.now }
+{
+    match command {
+        b"403"
+        | b"405"
+        | b"471"
+        | b"473"
+        | b"474"
+        | b"475"
+        | b"476"
+        | b"477"
+        | b"479"
+        | b"480"
+        | b"489"
+        | b"520" => true,
+        _ => false,
     }
 }
 
@@ -103,7 +131,7 @@ fn is_numeric_fault(command: &[u8]) -> bool
 }
 
 // Whether the sender of a message has this nick.
-fn is_by(mapping: Casemapping, message: &Message, own: &[u8]) -> bool
+pub(crate) fn is_by(mapping: Casemapping, message: &Message, own: &[u8]) -> bool
     ensures { result ≡ is_by mapping message.now own.now }
 {
     match source(message.prefix.as_bytes()) {

@@ -18,6 +18,8 @@ pub(crate) enum Entry<'a> {
     Lost(Why, u64),
     // The server rejects something, or ends the connection: the command and its text.
     Refused(&'a [u8], &'a [u8]),
+    // The server sends the bot on from a channel to another one.
+    Forwarded(&'a [u8], &'a [u8]),
     // The server announces a casemapping by this name; the one by which the bot goes on.
     OtherCase(&'a [u8], Casemapping),
     // A message arrived: its sender, its command and the rest of it.
@@ -103,6 +105,10 @@ impl Display for Entry<'_> {
             Entry::Refused(command, text) => {
                 put(f, "server says ", &Shown(command))?;
                 put(f, " ", &Shown(text))
+            }
+            Entry::Forwarded(channel, other) => {
+                put(f, "sent on from ", &Shown(channel))?;
+                put(f, " to ", &Shown(other))
             }
             Entry::OtherCase(name, mapping) => {
                 put(f, "server compares names by ", &Shown(name))?;

@@ -4,7 +4,7 @@ use crate::cue::{Cue, cue_of, param};
 use crate::entry::{Entry, Fact};
 use crate::irc_connection::{IrcConnection, joined};
 use crate::nicks::other_nick;
-use bytetext::{NoMemory, TryCopy};
+use bytetext::{NoMemory, Text, TryCopy};
 use ircline::{Line, Message};
 use net::Log;
 use rfccase::{Casemapping, same};
@@ -12,10 +12,11 @@ use settings::Settings;
 use std::alloc::Global;
 
 impl IrcConnection {
-    ghost use Rattle.std.specs.Prelude.{◌≡◌, ◌≢◌, ◌<◌, None, Some, IfOk, IfSome, MatchOption, OnErr, is_some};
+    ghost use Rattle.std.specs.Prelude.{◌≡◌, ◌≢◌, ◌<◌, ◌++◌, None, Some, IfOk, IfSome, MatchOption, OnOk, OnErr, is_some, option_map};
     ghost use Rattle.bytetext.specs.declared.moment.TheConstants.{MOMENTS_END};
     ghost use Rattle.serverlink.specs.Casings.{casing_in, heard, mapping_in};
     ghost use Rattle.serverlink.specs.Cues.{new_nick};
+    ghost use Rattle.serverlink.specs.Wanting.{nick_heard, nick_noted, regained, regains_in, with_nick};
 
     /// Processes `line`, which the server sent by second `now` and whose step the bot has made, for the registration,
     /// a login and the channels. `own` is the bot's nick before the line; returns its nick after the line, if the line gives it
@@ -52,8 +53,9 @@ impl IrcConnection {
         self.hear_for_login(rt.alloc(), log, settings, line, now)?;
         let cue = cue_of(mapping, message, own);
         self.hear_casing(message);
-        if cue != Cue::Nothing && self.session.is_some() {
+        if self.session.is_some() {
             self.note(rt.alloc(), log, settings, cue, message, now)?;
+            self.note_nick(rt.alloc(), settings, mapping, cue, message, now)?;
         }
         match cue {
             Cue::Welcomed | Cue::Renamed => Ok(Some(param(message, 0))),
@@ -61,6 +63,7 @@ impl IrcConnection {
             | Cue::Parted
             | Cue::Kicked
             | Cue::Barred
+            | Cue::Forwarded
             | Cue::NickRefused
             | Cue::Refused
             | Cue::Supports
@@ -75,6 +78,86 @@ impl IrcConnection {
     {
         if let Some(session) = &mut self.session {
             session.casing.hear(message);
+        }
+    }
+
+    // Takes in what a message says of the nick that the bot has, and of the one that it wants.
+    fn note_nick(
+        &mut self,
+        alloc: Global,
+        settings: &Settings,
+        mapping: Casemapping,
+        cue: Cue,
+        message: &Message,
+        now: u64,
+    ) -> Result<(), NoMemory>
+        ensures own { OnOk result (self.new.own
+            ≡ self.old.own ++ regained mapping self.old.session message.now settings.now.nick now) }
+        ensures session { OnOk result (self.new.session
+            ≡ nick_noted mapping cue message.now settings.now.nick now self.old.session) }
+    {
+        self.regain_nick(alloc, settings, mapping, message, now)?;
+        match cue {
+            Cue::Welcomed | Cue::Renamed => self.hear_nick(alloc, param(message, 0), now),
+            Cue::Joined
+            | Cue::Parted
+            | Cue::Kicked
+            | Cue::Barred
+            | Cue::Forwarded
+            | Cue::NickRefused
+            | Cue::Refused
+            | Cue::Supports
+            | Cue::Nothing => Ok(()),
+        }
+    }
+
+    // Queues a NICK if the server says by `message` that nobody has the nick that the bot wants, and the bot lacks it.
+    fn regain_nick(
+        &mut self,
+        alloc: Global,
+        settings: &Settings,
+        mapping: Casemapping,
+        message: &Message,
+        now: u64,
+    ) -> Result<(), NoMemory>
+        ensures own { OnOk result (self.new.own
+            ≡ self.old.own ++ regained mapping self.old.session message.now settings.now.nick now) }
+        ensures session { OnOk result (self.new.session
+            ≡ nick_heard mapping message.now settings.now.nick now self.old.session) }
+    {
+        let wanted = settings.nick.as_bytes();
+        if self.hear_of_nick(mapping, message, wanted, now) {
+            self.own.put(Text::new(joined(alloc, b"NICK ", wanted)?))?;
+        }
+        Ok(())
+    }
+
+    // Takes in what a message says of the nick `wanted`. Returns whether to send a NICK.
+    fn hear_of_nick(
+        &mut self,
+        mapping: Casemapping,
+        message: &Message,
+        wanted: &[u8],
+        now: u64,
+    ) -> bool
+        ensures regains { result ≡ regains_in mapping self.old.session message.now wanted.now now }
+        ensures session { self.new.session ≡ nick_heard mapping message.now wanted.now now self.old.session }
+        ensures own { self.new.own ≡ self.old.own }
+    {
+        match &mut self.session {
+            Some(session) => session.regain.hear(mapping, message, wanted, now),
+            None => false,
+        }
+    }
+
+    // Notes that the bot has this nick now.
+    fn hear_nick(&mut self, alloc: Global, nick: &[u8], now: u64) -> Result<(), NoMemory>
+        ensures session { OnOk result (self.new.session ≡ option_map (with_nick nick.now now) self.old.session) }
+        ensures own { self.new.own ≡ self.old.own }
+    {
+        match &mut self.session {
+            Some(session) => session.regain.name(alloc, nick, now),
+            None => Ok(()),
         }
     }
 
@@ -95,29 +178,28 @@ impl IrcConnection {
         let second = param(message, 1);
         match cue {
             Cue::Welcomed => self.welcome(alloc, log, settings, first, now)?,
-            Cue::NickRefused => self.ask_nick(alloc, log, settings, now)?,
+            Cue::NickRefused => self.ask_nick(alloc, log, settings, message, now)?,
             Cue::Renamed => log.note(now, &Entry::Plain(Fact::Renamed, first)),
             Cue::Joined => {
                 self.channels.join(mapping, first, now);
                 log.note(now, &Entry::Plain(Fact::Joined, first));
             }
             Cue::Parted => {
-                self.channels.part(mapping, first, now);
+                self.channels.take_off(mapping, first, now);
                 log.note(now, &Entry::Plain(Fact::Parted, first));
             }
             Cue::Kicked => {
-                self.channels.kick(mapping, first, now);
+                self.channels.take_off(mapping, first, now);
                 log.note(now, &Entry::Plain(Fact::Kicked, first));
             }
             Cue::Barred => {
-                // On a channel that the bot is on, the server rejects something else.
-                if self.channels.is_on(mapping, second) {
-                    log_refusal(log, message, now);
-                } else {
-                    self.channels.bar(mapping, second, now);
+                if self.channels.bar(mapping, second, now) {
                     log.note(now, &Entry::Plain(Fact::Barred, second));
+                } else {
+                    log_refusal(log, message, now);
                 }
             }
+            Cue::Forwarded => log.note(now, &Entry::Forwarded(second, param(message, 2))),
             Cue::Refused => log_refusal(log, message, now),
             Cue::Supports => note_case(log, mapping, message, now),
             Cue::Nothing => {}
@@ -150,18 +232,20 @@ impl IrcConnection {
         self.tell_own(log, settings, now)
     }
 
-    // The server rejects a nick. Until it has welcomed the bot, the bot asks for another one.
+    // The server rejects a nick by `message`. Until it has welcomed the bot, the bot asks for another one.
     fn ask_nick(
         &mut self,
         alloc: Global,
         log: &mut Log,
         settings: &Settings,
+        message: &Message,
         now: u64,
     ) -> Result<(), NoMemory> {
         let Some(session) = &mut self.session else {
             return Ok(());
         };
         if session.is_welcomed {
+            log_refusal(log, message, now);
             return Ok(());
         }
         match other_nick(alloc, settings.nick.as_bytes(), session.tried)? {

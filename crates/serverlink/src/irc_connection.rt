@@ -1,5 +1,5 @@
 // The bot's connection to its servers.
-ghost use Rattle.std.specs.Prelude.{◌≡◌, ◌≢◌, ◌<◌, length, None, IfErr, OnErr};
+ghost use Rattle.std.specs.Prelude.{◌≡◌, ◌≢◌, ◌<◌, ◌++◌, length, None, IfErr, IfOk, OnErr};
 ghost use Rattle.bytetext.specs.declared.moment.TheConstants.{MOMENTS_END};
 ghost use Rattle.streams.specs.Accounts.{nothing_yet};
 
@@ -22,7 +22,7 @@ use std::rt::Files;
 use tunnels::{Target, dial, tunnel_path};
 
 // The most pieces that one turn reads.
-const PIECES: usize = 16;
+const PIECES: usize = 4;
 
 // The token under which the connection to a server is watched.
 const TOKEN: usize = 1;
@@ -256,7 +256,7 @@ impl IrcConnection {
         }
     }
 
-    /// Reads what has arrived, up to 16 pieces. A byte ends the server's silence. Returns whether there may be more at
+    /// Reads what has arrived, up to 4 pieces. A byte ends the server's silence. Returns whether there may be more at
     /// once: false after a read that would block.
     ///
     /// # Errors
@@ -372,7 +372,9 @@ fn note_not_dialled(log: &mut Log, target: Target<'_>, fault: DialFault, due: u6
 }
 
 // A word and the bytes that follow it.
-pub(crate) fn joined(alloc: Global, word: &[u8], rest: &[u8]) -> Result<Vec<u8>, NoMemory> {
+pub(crate) fn joined(alloc: Global, word: &[u8], rest: &[u8]) -> Result<Vec<u8>, NoMemory>
+    ensures { IfOk result (λ line. line.items ≡ word.now ++ rest.now) }
+{
     let mut line = Vec::from_slice(alloc, word)?;
     line.extend_from_slice(rest)?;
     Ok(line)

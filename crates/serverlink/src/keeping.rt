@@ -5,15 +5,16 @@ use crate::irc_connection::{IrcConnection, joined};
 use crate::session::Session;
 use crate::vigil::Care;
 use crate::why::Why;
-use bytetext::NoMemory;
+use bytetext::{NoMemory, Text};
 use net::Log;
 use settings::Settings;
 use std::alloc::Global;
 
 impl IrcConnection {
-    ghost use Rattle.std.specs.Prelude.{◌≡◌, ◌≢◌, ◌<◌, None, OnErr, is_some};
+    ghost use Rattle.std.specs.Prelude.{◌≡◌, ◌≢◌, ◌<◌, ◌++◌, None, OnOk, OnErr, is_some};
     ghost use Rattle.bytetext.specs.declared.moment.TheConstants.{MOMENTS_END};
     ghost use Rattle.serverlink.specs.Talks.{stays};
+    ghost use Rattle.serverlink.specs.Wanting.{asks_in, nick_asked, questions};
 
     /// Does what is due at second `now` even if the server says nothing. Pings a silent server, or disconnects it.
     /// Queues lines of the process's own, and then asks to join channels that the bot is not on, both as its pace
@@ -46,6 +47,7 @@ impl IrcConnection {
             }
         }
         self.hold();
+        self.ask_for_nick(rt.alloc(), settings, now)?;
         // These first: they come to an end, and the server may never let the bot onto a channel.
         self.tell_own(log, settings, now)?;
         self.join_again(rt.alloc(), log, settings, now)
@@ -59,6 +61,31 @@ impl IrcConnection {
             if session.is_good(self.steady) {
                 self.dialling.good();
             }
+        }
+    }
+
+    // Queues the question whether somebody has the nick that the bot wants, if that is due.
+    fn ask_for_nick(&mut self, alloc: Global, settings: &Settings, now: u64) -> Result<(), NoMemory>
+        ensures own { OnOk result (self.new.own ≡ self.old.own ++ questions self.old.session settings.now.nick now) }
+        ensures session { OnOk result (self.new.session ≡ nick_asked settings.now.nick now self.old.session) }
+        ensures same { is_some self.new.session ≡ is_some self.old.session }
+    {
+        let wanted = settings.nick.as_bytes();
+        if self.asks_for_nick(wanted, now) {
+            self.own.put(Text::new(joined(alloc, b"ISON ", wanted)?))?;
+        }
+        Ok(())
+    }
+
+    // Whether the process is due to ask whether somebody has the nick `wanted`. If it is, notes that it asks.
+    fn asks_for_nick(&mut self, wanted: &[u8], now: u64) -> bool
+        ensures asks { result ≡ asks_in self.old.session wanted.now now }
+        ensures session { self.new.session ≡ nick_asked wanted.now now self.old.session }
+        ensures own { self.new.own ≡ self.old.own }
+    {
+        match &mut self.session {
+            Some(session) => session.ask_for_nick(wanted, now),
+            None => false,
         }
     }
 

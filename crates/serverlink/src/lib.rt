@@ -27,8 +27,11 @@
 //! - a PING after 90 seconds of silence;
 //! - another nick, if the server rejects the bot's;
 //! - the lines `perform`, once after each welcome;
-//! - a JOIN for each channel, at once after each welcome, and then each minute while the bot is not on it; after a KICK,
-//!   or if the server does not let the bot in, the JOIN comes after a growing wait instead ([`Seat`]);
+//! - a JOIN for each channel, at once after each welcome, and then each minute while the bot is not on it; after a KICK
+//!   or a PART in the bot's name, or if the server does not let the bot in, the JOIN comes after a growing wait instead
+//!   ([`Seat`]);
+//! - an ISON each minute while the bot has another nick than that of the configuration, and a NICK once nobody has it
+//!   ([`Regain`]);
 //! - a PART for each channel on which the bot is no longer to be, and a NICK if the configuration has another one by now;
 //! - lines that an operator has it send, and answers to a person ([`OwnLines`]).
 //!
@@ -44,6 +47,7 @@
 //!   does.
 //! - [`cue_of`]: what a message means for the bot's registration and its channels.
 //! - [`Seat`]: a channel on which the bot is to be, and when the process asks to join it.
+//! - [`Regain`]: when the process asks whether somebody has the bot's own nick, and when it takes it back.
 //! - [`other_nick`]: the nick to try next when a server rejects the bot's own.
 //! - [`is_base_due`]: when to rewrite a journal.
 //!
@@ -70,6 +74,7 @@ mod login;
 mod nicks;
 mod own_lines;
 mod pace;
+mod regain;
 mod registering;
 mod reloading;
 mod seat;
@@ -86,6 +91,7 @@ pub use crate::line::{A_BASE, MAX_LINE, is_base_due};
 pub use crate::nicks::{SHORT_NICK, other_nick};
 pub use crate::own_lines::OwnLines;
 pub use crate::pace::{AHEAD, COST, Pace};
+pub use crate::regain::{REGAIN, Regain, UNFIT};
 pub use crate::seat::{ASK_AGAIN, LONGEST_WAIT, Seat};
 pub use crate::server_wire::ServerWire;
 pub use crate::session::Session;

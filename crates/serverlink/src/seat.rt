@@ -1,26 +1,28 @@
 // A channel on which the bot is to be.
 ghost use Rattle.std.specs.Prelude.{◌≡◌};
 ghost use Rattle.net.specs.Waits.{lost as lost_wait};
-ghost use Rattle.serverlink.specs.Seats.{begun, is_due, joined, kicked, later, lost, not_let_in, parted, rekeyed, retried, same_key, waiting, welcomed};
+ghost use Rattle.serverlink.specs.Seats.{begun, is_due, joined, later, lost, not_let_in, rekeyed, retried, same_key, taken_off, waiting, welcomed};
 
 use crate::vigil::GOOD;
 use bytetext::Text;
 use net::Redial;
 use std::marker::Model;
 
-/// The longest wait after a KICK, or after the server did not let the bot in, in seconds.
+/// The longest wait after the bot was taken off a channel, or after the server did not let it in, in seconds.
 pub const LONGEST_WAIT: u16 = 300;
 
-/// How many seconds after the bot left a channel, and after the process last asked, the process asks to join the
-/// channel.
+/// How many seconds after the process last asked to join a channel it asks again, if the server has not answered.
 pub const ASK_AGAIN: u64 = 60;
 
 /// A channel on which the bot is to be: its key, whether the bot is on it, and when the process asks to join it.
 ///
 /// The process asks as soon as the server has welcomed the bot, and then each minute while the bot is not on the
-/// channel; also a minute after the bot has left. After a KICK, and each time that the server does not let the bot in, it asks
+/// channel. After a KICK, after a PART in the bot's name, and each time that the server does not let the bot in, it asks
 /// after a wait instead. That wait grows from 2 to 300 seconds, until the bot has stayed for two minutes. The process
 /// asks nothing before the server has welcomed the bot.
+///
+/// The process itself leaves a channel only if the bot is no longer to be there, and then the channel has no seat. So
+/// each PART that a seat hears of is one that the process did not ask for.
 #[derive(Drop)]
 pub struct Seat {
     channel: Text,
@@ -137,14 +139,6 @@ impl Seat {
         self.since = now;
     }
 
-    /// Notes that the bot left the channel at second `now`, by its own PART or because the server had it leave.
-    pub fn part(&mut self, now: u64)
-        ensures { self.new ≡ parted self.old now }
-    {
-        self.is_on = false;
-        self.asks = later(now);
-    }
-
     /// Notes that the bot lost its server. The process asks nothing until another welcomes the bot.
     pub fn lose(&mut self)
         ensures { self.new ≡ lost self.old }
@@ -153,10 +147,10 @@ impl Seat {
         self.asks = None;
     }
 
-    /// Notes that the bot was kicked off the channel at second `now`.
-    pub fn kick(&mut self, now: u64)
+    /// Notes that the bot was taken off the channel at second `now`, by a KICK or by a PART in its name.
+    pub fn take_off(&mut self, now: u64)
         requires { now < MOMENTS_END }
-        ensures { self.new ≡ kicked self.old now }
+        ensures { self.new ≡ taken_off self.old now }
     {
         let was_good = now.saturating_sub(self.since) >= GOOD;
         self.wait(now, was_good);

@@ -2,9 +2,12 @@
 ghost use Rattle.std.specs.Prelude.{◌≡◌, None, length};
 ghost use Rattle.streams.specs.Accounts.{nothing_yet};
 ghost use Rattle.serverlink.specs.Casings.{unannounced};
+ghost use Rattle.serverlink.specs.Regains.{begun as no_nick};
 ghost use Rattle.serverlink.specs.Vigils.{begun, care_of};
+ghost use Rattle.serverlink.specs.Wanting.{is_nick_due, with_question};
 
 use crate::casing::Casing;
+use crate::regain::Regain;
 use crate::server_wire::ServerWire;
 use crate::vigil::{Care, Vigil};
 use net::AnySocket;
@@ -26,6 +29,8 @@ pub struct Session {
     pub(crate) login: Option<Registration>,
     // How the server compares names.
     pub(crate) casing: Casing,
+    // The bot's nick, and when the process asks for another one.
+    pub(crate) regain: Regain,
 }
 
 // Written by hand, so that the drop is proved once, and not in each function that drops one.
@@ -39,6 +44,7 @@ impl Drop for Session {
             tried: _,
             login: _,
             casing: _,
+            regain: _,
         } = self;
     }
 }
@@ -52,6 +58,7 @@ impl Session {
         ensures vigil { result.vigil ≡ begun steady }
         ensures login { result.login ≡ None }
         ensures casing { result.casing ≡ unannounced }
+        ensures regain { result.regain ≡ no_nick }
     {
         Session {
             wire: ServerWire::new(alloc, socket),
@@ -61,12 +68,26 @@ impl Session {
             tried: 0,
             login: None,
             casing: Casing::unannounced(),
+            regain: Regain::new(),
         }
     }
 
     // Whether the process may send a line of its own at second `now`.
     pub(crate) fn may_tell(&self, now: u64) -> bool {
         self.is_welcomed && self.wire.pace.may(now)
+    }
+
+    // Whether the process is due to ask at second `now` whether somebody has the nick `wanted`, while the bot has another
+    // one. If it is, notes that it asks.
+    pub(crate) fn ask_for_nick(&mut self, wanted: &[u8], now: u64) -> bool
+        ensures due { result ≡ is_nick_due self.old wanted.now now }
+        ensures asked { self.new ≡ with_question wanted.now now self.old }
+    {
+        if !self.regain.is_due(self.casing.mapping(), wanted, now) {
+            return false;
+        }
+        self.regain.ask(now);
+        true
     }
 
     // Returns what to do about the connection at second `steady` of the monotonic clock. Returns `Ask` once for each

@@ -1,19 +1,22 @@
 -- What the lines of a file say together: which of them is refused after those before it, and what it adds.
-use Rattle.std.specs.Prelude.{ℕ, ◌==◌, ◌&&◌, Bool, true, false, is_some, List, [], ◌∷◌, ◌++◌, Option, None, Some}
+use Rattle.std.specs.Prelude.{ℕ, ◌==◌, ◌&&◌, not, nat_le, Bool, true, false, is_some, List, [], ◌∷◌, ◌++◌, length, Option, None, Some, if◌then◌else◌}
 use Rattle.std.specs.List.{list_any}
-use Rattle.settings.specs.declared.setting_word.SettingWord.{SettingWord}
+use Rattle.std.specs.Str.{bytes_eq}
+use Rattle.settings.specs.declared.TheConstants.{MAX_HUBS}
 use Rattle.settings.specs.declared.setting_word.SettingWord.TheVariants.{Account as account_word, Bot as bot_word, Data as data_word}
-use Rattle.settings.specs.declared.setting_word.SettingWord.TheVariants.{Exclusive as exclusive_word, Hub as hub_word, Listen as listen_word}
+use Rattle.settings.specs.declared.setting_word.SettingWord.TheVariants.{Exclusive as exclusive_word, Listen as listen_word}
 use Rattle.settings.specs.declared.setting_word.SettingWord.TheVariants.{Nick as nick_word, Page as page_word, Secret as secret_word, Zone as zone_word}
 use Rattle.settings.specs.declared.advice.SettingAdvice.{SettingAdvice}
-use Rattle.settings.specs.declared.advice.SettingAdvice.TheVariants.{Again, LeafAgain, LogFile as file_again, Once}
+use Rattle.settings.specs.declared.advice.SettingAdvice.TheVariants.{Again, Hubs as too_many_hubs, LeafAgain, LogFile as file_again}
 use Rattle.settings.specs.declared.saying.SettingSaying.{SettingSaying}
 use Rattle.settings.specs.declared.saying.SettingSaying.TheVariants.{Nothing, Wrong, Account, Bind, Bot, Channel, Data, Exclusive, Hub, Leaf, Listen}
-use Rattle.settings.specs.declared.saying.SettingSaying.TheVariants.{LogFile, LogJson, LogLines, Nick, Page, Perform, Secret, Server, Zone}
+use Rattle.settings.specs.declared.saying.SettingSaying.TheVariants.{Flood, LogFile, LogJson, LogLines, Nick, Page, Perform, Secret, Server, Zone}
+use Rattle.settings.specs.declared.settings.Address.{Address}
 use Rattle.settings.specs.declared.settings.LeafLine.{LeafLine}
 use Rattle.settings.specs.declared.settings.LeafRule.{LeafRule}
 use Rattle.settings.specs.declared.settings.LeafRule.TheVariants.{Reads, Persons}
 use Rattle.settings.specs.declared.draft.Draft.{Draft}
+use Rattle.settings.specs.Flooding.{flood_added, flood_refusal, no_flood_line, once}
 
 -- no line is read
 abbrev pub no_line : Draft
@@ -23,13 +26,14 @@ no_line = record {
   nick = None;
   channels = [];
   servers = [];
-  hub = None;
+  hubs = [];
   listen = None;
   limits = [];
   secret = None;
   account = None;
   zone = None;
   exclusive = false;
+  floods = no_flood_line;
   log_lines = false;
   log_json = false;
   log_file = None;
@@ -37,11 +41,6 @@ no_line = record {
   performs = [];
   binds = [];
 }
-
--- a line that may stand once is refused if there is one already
-abbrev pub once : SettingWord → Bool → Option SettingAdvice
-once word false = None
-once word true = Some (Once word)
 
 -- a second file for the log is refused by its own words, since the word log may stand more often
 abbrev pub once_file : Bool → Option SettingAdvice
@@ -70,6 +69,24 @@ abbrev pub again : Bool → Option SettingAdvice
 again false = None
 again true = Some Again
 
+-- two lines name the same hub
+abbrev pub same_flag : Bool → Bool → Bool
+same_flag true other = other
+same_flag false other = not other
+
+abbrev pub same_address : Address → Address → Bool
+same_address one other = one.port == other.port && (same_flag one.tls other.tls && bytes_eq one.host other.host)
+
+abbrev pub is_named : Address → List Address → Bool
+is_named address hubs = list_any (λ hub. same_address hub address) hubs
+
+-- no hub is named twice, and there are at most so many
+abbrev pub hub_refusal : Address → List Address → Option SettingAdvice
+hub_refusal address hubs =
+    if is_named address hubs then Some Again
+    else if nat_le MAX_HUBS (length hubs) then Some too_many_hubs
+    else None
+
 -- why a line is refused after these
 abbrev pub refusal_of : Draft → SettingSaying → Option SettingAdvice
 refusal_of draft Nothing = None
@@ -80,7 +97,8 @@ refusal_of draft (Bot station) = once bot_word (is_some draft.station)
 refusal_of draft (Channel channel) = None
 refusal_of draft (Data folder) = once data_word (is_some draft.folder)
 refusal_of draft Exclusive = once exclusive_word draft.exclusive
-refusal_of draft (Hub address) = once hub_word (is_some draft.hub)
+refusal_of draft (Flood saying) = flood_refusal draft.floods saying
+refusal_of draft (Hub address) = hub_refusal address draft.hubs
 refusal_of draft (Leaf leaf rule) = leaf_again (is_said_of leaf draft.limits)
 refusal_of draft (Listen address) = once listen_word (is_some draft.listen)
 refusal_of draft (LogFile path) = once_file (is_some draft.log_file)
@@ -103,7 +121,8 @@ added line draft (Bot station) = record draft { station = Some station }
 added line draft (Channel channel) = record draft { channels = draft.channels ++ channel ∷ [] }
 added line draft (Data folder) = record draft { folder = Some folder }
 added line draft Exclusive = record draft { exclusive = true }
-added line draft (Hub address) = record draft { hub = Some address }
+added line draft (Flood saying) = record draft { floods = flood_added draft.floods saying }
+added line draft (Hub address) = record draft { hubs = draft.hubs ++ address ∷ [] }
 added line draft (Leaf leaf rule) =
     record draft { limits = draft.limits ++ record { line = line; leaf = leaf; rule = rule } ∷ [] }
 added line draft (Listen address) = record draft { listen = Some address }

@@ -6,3 +6,4 @@ pub mod Vocabulary
 pub mod Grammar
 pub mod Drafts
 pub mod Reading
+pub mod Flooding

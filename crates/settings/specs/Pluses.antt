@@ -33,5 +33,8 @@ abbrev pub may_fit : ℕ → Option Address → Bool
 may_fit folder None = true
 may_fit folder (Some address) = fits folder address
 
+abbrev pub hubs_fit : ℕ → List Address → Bool
+hubs_fit folder hubs = list_all (λ hub. fits folder hub) hubs
+
 abbrev pub all_fit : ℕ → List Server → Bool
 all_fit folder servers = list_all (λ server. fits folder server.address) servers

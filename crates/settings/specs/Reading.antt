@@ -17,8 +17,9 @@ use Rattle.settings.specs.declared.settings.LeafLine.{LeafLine}
 use Rattle.settings.specs.declared.settings.Station.{Station}
 use Rattle.settings.specs.declared.draft.Draft.{Draft}
 use Rattle.settings.specs.Grammar.{saying_of}
-use Rattle.settings.specs.Pluses.{all_fit, may_fit}
+use Rattle.settings.specs.Pluses.{all_fit, hubs_fit, may_fit}
 use Rattle.settings.specs.Drafts.{no_line, refusal_of, added}
+use Rattle.settings.specs.Flooding.{flood_limits}
 
 -- ---- line by line
 
@@ -93,7 +94,7 @@ folder_len draft = length (unwrap_or draft.folder [])
 
 abbrev pub tunnels_fit : Draft → Bool
 tunnels_fit draft =
-    may_fit (folder_len draft) draft.hub && (may_fit (folder_len draft) draft.listen
+    hubs_fit (folder_len draft) draft.hubs && (may_fit (folder_len draft) draft.listen
     && all_fit (folder_len draft) draft.servers)
 
 -- the first thing that right lines lack together
@@ -102,7 +103,7 @@ lack_of draft =
     first_of_two (needs (is_some draft.folder) Data)
     (first_of_two (needs (is_some draft.nick) Nick)
     (first_of_two (needs (nat_lt 0 (length draft.servers)) Server)
-    (first_of_two (role_lack (station_of draft) (is_some draft.hub) (is_some draft.listen) (is_some draft.secret))
+    (first_of_two (role_lack (station_of draft) (nat_lt 0 (length draft.hubs)) (is_some draft.listen) (is_some draft.secret))
     (needs (tunnels_fit draft) Tunnel))))
 
 -- what lines say that lack nothing
@@ -113,13 +114,14 @@ settings_of draft = record {
   nick = unwrap_or draft.nick [];
   channels = draft.channels;
   servers = draft.servers;
-  hub = draft.hub;
+  hubs = draft.hubs;
   listen = draft.listen;
   limits = draft.limits;
   secret = draft.secret;
   account = draft.account;
   zone = unwrap_or draft.zone utc;
   exclusive = draft.exclusive;
+  floods = flood_limits draft.floods;
   log_lines = draft.log_lines;
   log_json = draft.log_json;
   log_file = draft.log_file;

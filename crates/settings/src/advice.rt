@@ -30,6 +30,8 @@ pub enum SettingAdvice {
     PageAddress,
     /// The page has no password, and could be read from other machines.
     PagePassword,
+    /// Eight lines above name a hub.
+    Hubs,
     /// The port is not a number from 1 to 65,535.
     Port,
     /// A plus stands before the port, and the host has other bytes than letters, digits, `.`, `-`, `_` and `:`.
@@ -71,11 +73,12 @@ fn words_of(advice: SettingAdvice) -> &'static str {
         SettingAdvice::PageAddress => "say an address of this machine, as in page 127.0.0.1 7180",
         SettingAdvice::PagePassword =>
             "name a FILE with a password, as in page 0.0.0.0 7180 /etc/eggnet/page: without one, say 127.0.0.1 or ::1",
+        SettingAdvice::Hubs => "say at most 8 lines hub: take this line out",
         SettingAdvice::Port => "say a port of 1 to 65535",
         SettingAdvice::TlsHost =>
             "say a name or an address before +PORT, in letters, digits, dots, dashes and colons, as in server irc.example.net +6697",
         SettingAdvice::Unknown =>
-            "begin with account, bind, bot, channel, data, exclusive, hub, leaf, listen, log, nick, page, perform, secret, server, zone or #",
+            "begin with account, bind, bot, channel, data, exclusive, flood-chan, flood-ctcp, flood-msg, hub, ignore-time, leaf, listen, log, nick, page, perform, secret, server, zone or #",
         SettingAdvice::CarriageReturn => "end lines with a line feed alone",
         SettingAdvice::Control => "write spaces for tabs, and no other control bytes",
         SettingAdvice::ByteOrderMark => "save the file without a byte order mark",
@@ -92,7 +95,14 @@ fn form_of(word: SettingWord) -> &'static str {
             "say channel NAME, as in channel #egg, and its key after that if it has one",
         SettingWord::Data => "say data FOLDER, as in data /var/lib/eggnet/egg1",
         SettingWord::Exclusive => "say exclusive alone",
+        SettingWord::FloodChan =>
+            "say flood-chan LINES:SECONDS, as in flood-chan 15:60, or flood-chan 0:0 for no limit",
+        SettingWord::FloodCtcp =>
+            "say flood-ctcp LINES:SECONDS, as in flood-ctcp 3:60, or flood-ctcp 0:0 for no limit",
+        SettingWord::FloodMsg =>
+            "say flood-msg LINES:SECONDS, as in flood-msg 5:60, or flood-msg 0:0 for no limit",
         SettingWord::Hub => "say hub HOST PORT, as in hub hub.example.net 7100",
+        SettingWord::IgnoreTime => "say ignore-time MINUTES, from 1 to 65535, as in ignore-time 10",
         SettingWord::Leaf => "say leaf N reads or leaf N persons, as in leaf 3 reads",
         SettingWord::Listen => "say listen ADDRESS PORT, as in listen 0.0.0.0 7100",
         SettingWord::Log =>

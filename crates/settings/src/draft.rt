@@ -1,14 +1,18 @@
 // What the lines so far say.
 ghost use Rattle.std.specs.Prelude.{◌≡◌, None};
-ghost use Rattle.settings.specs.Drafts.{again, is_limited, is_said_of, leaf_again, no_line, once, once_file, refusal_of, same_rule};
+ghost use Rattle.settings.specs.Drafts.{again, hub_refusal, is_limited, is_named, is_said_of, leaf_again, no_line};
+ghost use Rattle.settings.specs.Drafts.{once_file, refusal_of, same_address, same_rule};
+ghost use Rattle.settings.specs.Flooding.{once};
 ghost use Rattle.settings.specs.Reading.{lack_of, settings_of};
 
+use crate::MAX_HUBS;
 use crate::advice::SettingAdvice;
+use crate::flooding::FloodDraft;
 use crate::reading::{ALONE, utc};
 use crate::saying::SettingSaying;
 use crate::setting_word::SettingWord;
 use crate::settings::{
-    Address, BindLines, ChannelSettings, LeafLine, LeafLines, LeafRule, Login, PageSetting,
+    Address, BindLines, ChannelSettings, Hubs, LeafLine, LeafLines, LeafRule, Login, PageSetting,
     Servers, Settings, Station,
 };
 use bottimers::Zone;
@@ -27,8 +31,8 @@ pub struct Draft {
     pub channels: ChannelSettings,
     /// The servers to try, in order.
     pub servers: Servers,
-    /// Where the hub listens.
-    pub hub: Option<Address>,
+    /// The hubs to try, in order.
+    pub hubs: Hubs,
     /// Where the bot listens.
     pub listen: Option<Address>,
     /// The leaves that may only read, in order.
@@ -41,6 +45,8 @@ pub struct Draft {
     pub zone: Option<Zone>,
     /// Whether `msg` and `pub` binds ignore a text for which a `msgm` or `pubm` proc was called.
     pub exclusive: bool,
+    /// Who floods the bot.
+    pub floods: FloodDraft,
     /// Whether lines are logged.
     pub log_lines: bool,
     /// Whether each line of the log is a JSON object.
@@ -64,13 +70,14 @@ impl Drop for Draft {
             nick: _,
             channels: _,
             servers: _,
-            hub: _,
+            hubs: _,
             listen: _,
             limits: _,
             secret: _,
             account: _,
             zone: _,
             exclusive: _,
+            floods: _,
             log_lines: _,
             log_json: _,
             log_file: _,
@@ -92,13 +99,14 @@ impl Draft {
             nick: None,
             channels: ChannelSettings::empty(alloc),
             servers: Servers::empty(alloc),
-            hub: None,
+            hubs: Hubs::empty(alloc),
             listen: None,
             limits: LeafLines::empty(alloc),
             secret: None,
             account: None,
             zone: None,
             exclusive: false,
+            floods: FloodDraft::new(),
             log_lines: false,
             log_json: false,
             log_file: None,
@@ -123,7 +131,8 @@ impl Draft {
             SettingSaying::Bot(_) => once(SettingWord::Bot, self.station.is_some()),
             SettingSaying::Data(_) => once(SettingWord::Data, self.folder.is_some()),
             SettingSaying::Exclusive => once(SettingWord::Exclusive, self.exclusive),
-            SettingSaying::Hub(_) => once(SettingWord::Hub, self.hub.is_some()),
+            SettingSaying::Flood(saying) => self.floods.refusal(*saying),
+            SettingSaying::Hub(address) => hub_refusal(address, self.hubs.as_slice()),
             SettingSaying::Leaf { leaf, rule: _ } => {
                 leaf_again(is_said_of(*leaf, self.limits.as_slice()))
             }
@@ -149,13 +158,14 @@ impl Draft {
             nick,
             channels,
             servers,
-            hub,
+            hubs,
             listen,
             limits,
             secret,
             account,
             zone,
             exclusive,
+            floods,
             log_lines,
             log_json,
             log_file,
@@ -169,13 +179,14 @@ impl Draft {
             nick: nick.unwrap(),
             channels,
             servers,
-            hub,
+            hubs,
             listen,
             limits,
             secret,
             account,
             zone: zone.unwrap_or(utc()),
             exclusive,
+            floods: floods.limits(),
             log_lines,
             log_json,
             log_file,
@@ -186,8 +197,34 @@ impl Draft {
     }
 }
 
+// What to say of a line of the hub at `address`, if `hubs` are named above it.
+fn hub_refusal(address: &Address, hubs: &[Address]) -> Option<SettingAdvice>
+    ensures { result ≡ hub_refusal address.now hubs.now }
+{
+    if is_named(address, hubs) {
+        Some(SettingAdvice::Again)
+    } else if hubs.len() >= MAX_HUBS {
+        Some(SettingAdvice::Hubs)
+    } else {
+        None
+    }
+}
+
+// Whether one of `hubs` has this host and this port, and both have a plus or none.
+fn is_named(address: &Address, hubs: &[Address]) -> bool
+    ensures { result ≡ is_named address.now hubs.now }
+{
+    hubs.iter().any(|hub| same_address(hub, address))
+}
+
+fn same_address(one: &Address, other: &Address) -> bool
+    ensures { result ≡ same_address one.now other.now }
+{
+    one.port == other.port && one.tls == other.tls && one.host.as_bytes() == other.host.as_bytes()
+}
+
 // What to say of a line that may stand once, if there is one already.
-fn once(word: SettingWord, is_there: bool) -> Option<SettingAdvice>
+pub(crate) fn once(word: SettingWord, is_there: bool) -> Option<SettingAdvice>
     ensures { result ≡ once word is_there }
 {
     if is_there {

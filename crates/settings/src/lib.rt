@@ -10,7 +10,7 @@
 //! | `nick` nick | once | the nick under which it connects |
 //! | `server` host port PASS | once or more | a server to try, in turn; the PASS may be left out |
 //! | `bot` number `of` leaves | once or not at all | which bot it is; 0 is the hub; by default `bot 0 of 0` |
-//! | `hub` host port | a leaf: once | where its hub listens |
+//! | `hub` host port | a leaf: 1 to 8, each once | a hub to try, in turn |
 //! | `listen` address port | a hub with leaves: once | where it listens, such as `0.0.0.0 7100` |
 //! | `leaf` number `reads` | a hub: any, each leaf once | this leaf may only read |
 //! | `leaf` number `persons` | a hub: any, each leaf once | this leaf may ask for no change in nobody's name |
@@ -24,12 +24,18 @@
 //! | `log lines` | once or not at all | each line from and to the server is logged |
 //! | `log json` | once or not at all | each line of the log is a JSON object |
 //! | `log file PATH` | once or not at all | the log is appended to this file, instead of standard output |
+//! | `flood-msg` lines`:`seconds | once or not at all | how many lines a person may send to the bot; by default `5:60` |
+//! | `flood-ctcp` lines`:`seconds | once or not at all | how many CTCPs; by default `3:60` |
+//! | `flood-chan` lines`:`seconds | once or not at all | how many lines to channels; by default `15:60` |
+//! | `ignore-time` minutes | once or not at all | how long who sends more is ignored; by default 10 |
 //! | `page` address port FILE | once or not at all | where a page that shows the bot is served, and the file of its password |
 //!
 //! A plus before the port of a `server`, a `hub` or a `listen`, as in `server irc.example.net +6697`, says that the
 //! connection is encrypted by TLS ([`Address::tls`]). It then goes through a tunnel on this machine, whose socket is
 //! `FOLDER/tls/HOST_PORT`. So such a host has only letters, digits, `.`, `-`, `_` and `:`, and together with the folder
 //! at most [`MAX_TUNNEL`] bytes.
+//!
+//! `flood-msg 0:0` switches that limit off, and so does 0 for either number; the same holds for the other two.
 //!
 //! A `page` may lack its FILE if other machines can't reach the address ([`is_loopback`]).
 //!
@@ -49,6 +55,7 @@ mod advice;
 mod cutting;
 mod draft;
 mod fault;
+mod flooding;
 mod names;
 mod net_saying;
 mod numeral;
@@ -62,16 +69,20 @@ mod tunnels;
 pub use crate::address::{is_address, is_loopback};
 pub use crate::advice::SettingAdvice;
 pub use crate::fault::{Lack, SettingsError, SettingsFault};
+pub use crate::flooding::{FloodDraft, FloodSaying};
 pub use crate::names::is_key;
 pub use crate::numeral::value_of_digits;
 pub use crate::setting_word::SettingWord;
 pub use crate::settings::{
-    Address, BindLine, BindLines, BindWords, ChannelSetting, ChannelSettings, LeafLine, LeafLines,
-    LeafRule, Login, PageSetting, Server, Servers, Settings, Station,
+    Address, BindLine, BindLines, BindWords, ChannelSetting, ChannelSettings, Hubs, LeafLine,
+    LeafLines, LeafRule, Login, PageSetting, Server, Servers, Settings, Station,
 };
 
 /// The most bytes that a file has.
 pub const MAX_FILE: usize = 65_536;
+
+/// The most lines `hub` of a leaf.
+pub const MAX_HUBS: usize = 8;
 
 /// The most leaves that a hub has.
 pub const MAX_LEAVES: u16 = 1_000;

@@ -1,4 +1,4 @@
-// What the lines say that are about the net: which bot it is, where the hub listens, and which leaves may do less.
+// What the lines say that are about the net: which bot it is, which hubs it tries, and which leaves may do less.
 ghost use Rattle.std.specs.Prelude.{◌≡◌, IfOk};
 ghost use Rattle.settings.specs.Grammar.{bot_numbered, bot_of, bot_said, hub_said, leaf_found, leaf_said, listen_said};
 ghost use Rattle.settings.specs.Grammar.{page_placed, page_said, rule_named};

@@ -145,7 +145,7 @@ fn lack_of(draft: &Draft) -> Option<Lack>
     }
     let lack = role_lack(
         station_of(draft),
-        draft.hub.is_some(),
+        !draft.hubs.is_empty(),
         draft.listen.is_some(),
         draft.secret.is_some(),
     );

@@ -9,6 +9,10 @@ use crate::MAX_LINE;
 use crate::advice::SettingAdvice;
 use crate::cutting::{after_spaces, cut_word};
 use crate::draft::Draft;
+use crate::flooding::{
+    FloodSaying, channel_limit_said, ctcp_limit_said, flood_limit, ignore_time_said,
+    message_limit_said,
+};
 use crate::names::{is_key, is_nick};
 use crate::net_saying::{bot_said, hub_said, leaf_said, listen_said, page_said};
 use crate::numeral::port;
@@ -41,7 +45,9 @@ pub enum SettingSaying {
     Data(Text),
     /// `msg` and `pub` binds ignore a text for which a `msgm` or `pubm` proc was called.
     Exclusive,
-    /// Where the hub listens.
+    /// Who floods the bot, or how long he is ignored.
+    Flood(FloodSaying),
+    /// A hub to try.
     Hub(Address),
     /// What a leaf may do.
     Leaf {
@@ -84,6 +90,7 @@ impl Drop for SettingSaying {
             | SettingSaying::Channel(_)
             | SettingSaying::Data(_)
             | SettingSaying::Exclusive
+            | SettingSaying::Flood(_)
             | SettingSaying::Hub(_)
             | SettingSaying::Leaf { leaf: _, rule: _ }
             | SettingSaying::Listen(_)
@@ -116,7 +123,8 @@ impl SettingSaying {
             SettingSaying::Channel(channel) => draft.channels.push(channel)?,
             SettingSaying::Data(folder) => draft.folder = Some(folder),
             SettingSaying::Exclusive => draft.exclusive = true,
-            SettingSaying::Hub(address) => draft.hub = Some(address),
+            SettingSaying::Flood(saying) => draft.floods.add(saying),
+            SettingSaying::Hub(address) => draft.hubs.push(address)?,
             SettingSaying::Leaf { leaf, rule } => {
                 draft.limits.push(LeafLine { line, leaf, rule })?
             }
@@ -202,7 +210,11 @@ fn said_of(alloc: Global, word: Option<SettingWord>, rest: &[u8]) -> Result<Sett
         SettingWord::Channel => channel_said(alloc, rest),
         SettingWord::Data => data_said(alloc, rest),
         SettingWord::Exclusive => Ok(exclusive_said(rest)),
+        SettingWord::FloodChan => Ok(channel_limit_said(flood_limit(rest))),
+        SettingWord::FloodCtcp => Ok(ctcp_limit_said(flood_limit(rest))),
+        SettingWord::FloodMsg => Ok(message_limit_said(flood_limit(rest))),
         SettingWord::Hub => hub_said(alloc, rest),
+        SettingWord::IgnoreTime => Ok(ignore_time_said(rest)),
         SettingWord::Leaf => Ok(leaf_said(rest)),
         SettingWord::Listen => listen_said(alloc, rest),
         SettingWord::Log => log_said(alloc, rest),

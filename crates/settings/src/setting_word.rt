@@ -17,8 +17,16 @@ pub enum SettingWord {
     Data,
     /// Whether `msg` and `pub` binds ignore a text for which a `msgm` or `pubm` proc was called.
     Exclusive,
+    /// How many lines to channels a person may send.
+    FloodChan,
+    /// How many CTCPs a person may send.
+    FloodCtcp,
+    /// How many lines to the bot a person may send.
+    FloodMsg,
     /// Where the hub listens.
     Hub,
+    /// How long a person is ignored who sends more.
+    IgnoreTime,
     /// What a leaf may do.
     Leaf,
     /// Where the bot listens.
@@ -40,14 +48,18 @@ pub enum SettingWord {
 }
 
 // Every word.
-const ALL: [SettingWord; 16] = [
+const ALL: [SettingWord; 20] = [
     SettingWord::Account,
     SettingWord::Bind,
     SettingWord::Bot,
     SettingWord::Channel,
     SettingWord::Data,
     SettingWord::Exclusive,
+    SettingWord::FloodChan,
+    SettingWord::FloodCtcp,
+    SettingWord::FloodMsg,
     SettingWord::Hub,
+    SettingWord::IgnoreTime,
     SettingWord::Leaf,
     SettingWord::Listen,
     SettingWord::Log,
@@ -71,7 +83,11 @@ impl SettingWord {
             SettingWord::Channel => "channel",
             SettingWord::Data => "data",
             SettingWord::Exclusive => "exclusive",
+            SettingWord::FloodChan => "flood-chan",
+            SettingWord::FloodCtcp => "flood-ctcp",
+            SettingWord::FloodMsg => "flood-msg",
             SettingWord::Hub => "hub",
+            SettingWord::IgnoreTime => "ignore-time",
             SettingWord::Leaf => "leaf",
             SettingWord::Listen => "listen",
             SettingWord::Log => "log",

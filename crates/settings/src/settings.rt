@@ -2,6 +2,7 @@
 use crate::draft::is_limited;
 use bottimers::Zone;
 use bytetext::{Seq, Text, Texts};
+use floods::Limits;
 
 /// What a configuration file says.
 #[derive(Debug)]
@@ -16,8 +17,9 @@ pub struct Settings {
     pub channels: ChannelSettings,
     /// The servers that it tries, in turn: one or more.
     pub servers: Servers,
-    /// Where the hub listens; a leaf has it, and no other bot.
-    pub hub: Option<Address>,
+    /// Where the hubs listen that a leaf tries, in turn: 1 to [`MAX_HUBS`](crate::MAX_HUBS) at a leaf, each once, and none
+    /// at any other bot.
+    pub hubs: Hubs,
     /// Where the bot listens; a hub with leaves has it, and no leaf. The host spells an IP address
     /// ([`is_address`](crate::is_address)).
     pub listen: Option<Address>,
@@ -31,6 +33,8 @@ pub struct Settings {
     pub zone: Zone,
     /// Whether `msg` and `pub` binds ignore a text for which a `msgm` or `pubm` proc was called.
     pub exclusive: bool,
+    /// How many lines a person may send, and how long who sends more is ignored.
+    pub floods: Limits,
     /// Whether each line from and to the server is logged.
     pub log_lines: bool,
     /// Whether each line of the log is a JSON object.
@@ -54,13 +58,14 @@ impl Drop for Settings {
             nick: _,
             channels: _,
             servers: _,
-            hub: _,
+            hubs: _,
             listen: _,
             limits: _,
             secret: _,
             account: _,
             zone: _,
             exclusive: _,
+            floods: _,
             log_lines: _,
             log_json: _,
             log_file: _,
@@ -175,6 +180,9 @@ impl Drop for ChannelSetting {
 
 /// Channels, in order.
 pub type ChannelSettings = Seq<ChannelSetting>;
+
+/// Hubs, in order.
+pub type Hubs = Seq<Address>;
 
 /// Servers, in order.
 pub type Servers = Seq<Server>;

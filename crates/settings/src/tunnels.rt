@@ -1,6 +1,6 @@
 // Whether the paths of the tunnels' sockets are short enough.
 ghost use Rattle.std.specs.Prelude.{◌≡◌};
-ghost use Rattle.settings.specs.Pluses.{all_fit, fits, may_fit};
+ghost use Rattle.settings.specs.Pluses.{all_fit, fits, hubs_fit, may_fit};
 ghost use Rattle.settings.specs.Reading.{folder_len, tunnels_fit};
 
 use crate::MAX_TUNNEL;
@@ -12,9 +12,15 @@ pub fn tunnels_fit(draft: &Draft) -> bool
     ensures { result ≡ tunnels_fit draft.now }
 {
     let folder = folder_len(draft);
-    may_fit(folder, &draft.hub)
+    hubs_fit(folder, draft.hubs.as_slice())
         && may_fit(folder, &draft.listen)
         && all_fit(folder, draft.servers.as_slice())
+}
+
+fn hubs_fit(folder: usize, hubs: &[Address]) -> bool
+    ensures { result ≡ hubs_fit folder hubs.now }
+{
+    hubs.iter().all(|hub| fits(folder, hub))
 }
 
 fn all_fit(folder: usize, servers: &[Server]) -> bool

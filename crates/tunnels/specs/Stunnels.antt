@@ -1,6 +1,6 @@
 -- What stunnel is told of a bot's tunnels.
 use Rattle.std.specs.Prelude.{ℕ, ◌==◌, ◌&&◌, ◌||◌, not, Bool, false, List, [], ◌∷◌, ◌++◌, Option, None, Some, if◌then◌else◌, codes, decimal}
-use Rattle.std.specs.List.{list_any}
+use Rattle.std.specs.List.{flat_map, list_any}
 use Rattle.std.specs.Str.{bytes_eq}
 use Rattle.settings.specs.Addresses.{is_address}
 use Rattle.settings.specs.declared.settings.Address.{Address}
@@ -17,7 +17,7 @@ uses_tls (Some address) = address.tls
 
 abbrev pub has_tunnels : Settings → Bool
 has_tunnels settings =
-    uses_tls settings.hub || (uses_tls settings.listen || list_any (λ server. server.address.tls) settings.servers)
+    list_any (λ hub. hub.tls) settings.hubs || (uses_tls settings.listen || list_any (λ server. server.address.tls) settings.servers)
 
 -- two lines with a plus name the same
 abbrev pub same_address : Address → Address → Bool
@@ -74,9 +74,12 @@ unfoldable pub hub_section : List ℕ → Address → ℕ → List ℕ
 hub_section folder address leaf =
     accept_options folder address ++ (connect_option address ++ (identity_option leaf ++ key_options folder))
 
-abbrev pub hub_part : List ℕ → Option Address → ℕ → List ℕ
-hub_part folder None leaf = []
-hub_part folder (Some address) leaf = if address.tls then hub_section folder address leaf else []
+abbrev pub hub_part : List ℕ → ℕ → Address → List ℕ
+hub_part folder leaf hub = if hub.tls then hub_section folder hub leaf else []
+
+-- no two hubs have the same address
+abbrev pub hubs_text : List ℕ → ℕ → List Address → List ℕ
+hubs_text folder leaf hubs = flat_map (λ hub. hub_part folder leaf hub) hubs
 
 -- a section that accepts at the address
 unfoldable pub door_options : Address → List ℕ
@@ -104,4 +107,4 @@ head_text = HEAD.now
 abbrev pub stunnel_text : Settings → List ℕ
 stunnel_text settings =
     head_text ++ (servers_text settings.folder settings.servers
-    ++ (hub_part settings.folder settings.hub settings.station.number ++ listen_part settings.folder settings.listen))
+    ++ (hubs_text settings.folder settings.station.number settings.hubs ++ listen_part settings.folder settings.listen))

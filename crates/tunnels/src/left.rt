@@ -11,7 +11,7 @@ use std::rt::Files;
 // The token of the only connection.
 const TOKEN: usize = 0;
 
-/// Removes the sockets of the tunnels to the servers and the hub of `settings` at which nobody listens: stunnel leaves
+/// Removes the sockets of the tunnels to the servers and the hubs of `settings` at which nobody listens: stunnel leaves
 /// them when it ends, and does not listen again at one that is there. A socket at which somebody listens stays, and so
 /// does one that can't be tried.
 pub fn clear_left<R: AllocGlobal + Net + Files<File = File>>(rt: &R, settings: &Settings) {
@@ -21,7 +21,7 @@ pub fn clear_left<R: AllocGlobal + Net + Files<File = File>>(rt: &R, settings: &
     for server in settings.servers.as_slice() {
         clear(rt, &watch, settings, &server.address);
     }
-    if let Some(hub) = &settings.hub {
+    for hub in settings.hubs.as_slice() {
         clear(rt, &watch, settings, hub);
     }
 }

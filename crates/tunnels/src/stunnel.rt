@@ -3,7 +3,7 @@ ghost use Rattle.std.specs.Prelude.{◌≡◌, ◌++◌, IfOk, OnOk};
 ghost use Rattle.std.specs.List.{list_any};
 ghost use Rattle.tunnels.specs.Paths.{host_port, tunnel_path};
 ghost use Rattle.tunnels.specs.Stunnels.{accept_options, bot_option, check_options, connect_option, door_options, has_tunnels, hub_part};
-ghost use Rattle.tunnels.specs.Stunnels.{head_text, hub_section, identity_option, is_named, key_options, verified_options};
+ghost use Rattle.tunnels.specs.Stunnels.{head_text, hub_section, hubs_text, identity_option, is_named, key_options, verified_options};
 ghost use Rattle.tunnels.specs.Stunnels.{listen_part, listen_section, same_address, server_part, server_section};
 ghost use Rattle.tunnels.specs.Stunnels.{servers_text, stunnel_text, uses_tls};
 
@@ -52,7 +52,9 @@ const IDENTITY: &[u8] = b"delay = yes\nPSKidentity = leaf";
 pub fn has_tunnels(settings: &Settings) -> bool
     ensures { result ≡ has_tunnels settings.now }
 {
-    uses_tls(&settings.hub) || uses_tls(&settings.listen) || has_plus(settings.servers.as_slice())
+    has_hub_plus(settings.hubs.as_slice())
+        || uses_tls(&settings.listen)
+        || has_plus(settings.servers.as_slice())
 }
 
 fn uses_tls(address: &Option<Address>) -> bool
@@ -64,6 +66,12 @@ fn uses_tls(address: &Option<Address>) -> bool
     }
 }
 
+fn has_hub_plus(hubs: &[Address]) -> bool
+    ensures { result ≡ list_any (λ hub. hub.tls) hubs.now }
+{
+    hubs.iter().any(|hub| hub.tls)
+}
+
 fn has_plus(servers: &[Server]) -> bool
     ensures { result ≡ list_any (λ server. server.address.tls) servers.now }
 {
@@ -73,7 +81,7 @@ fn has_plus(servers: &[Server]) -> bool
 /// Returns the configuration for stunnel: a section for each server of `settings` whose port has a plus, one if several
 /// lines name the same. Each listens at the server's socket ([`tunnel_path`](crate::tunnel_path)), connects to the server
 /// by TLS 1.2 or later, and refuses a certificate that no authority of `/etc/ssl/certs` has signed, or that is not the
-/// server's own. A `hub` with a plus has a section like that, and a `listen` with a plus one that listens at its address
+/// server's own. Each `hub` with a plus has a section like that, and a `listen` with a plus one that listens at its address
 /// and connects to its socket. These two know no certificate: both ends have the leaf's key of the file
 /// `FOLDER/tls/keys`.
 ///
@@ -86,7 +94,12 @@ pub fn stunnel_text(alloc: Global, settings: &Settings) -> Result<Vec<u8>, NoMem
     let mut text = Vec::new(alloc);
     put_head(&mut text)?;
     put_servers(&mut text, folder, settings.servers.as_slice())?;
-    put_hub(&mut text, folder, &settings.hub, settings.station.number)?;
+    put_hubs(
+        &mut text,
+        folder,
+        settings.hubs.as_slice(),
+        settings.station.number,
+    )?;
     put_listen(&mut text, folder, &settings.listen)?;
     Ok(text)
 }
@@ -199,19 +212,24 @@ fn put_checks(out: &mut Vec<u8>, host: &[u8]) -> Result<(), NoMemory>
     put(out, b"\n")
 }
 
-// Appends the section of the hub of the leaf numbered `leaf`, if its port has a plus.
-fn put_hub(
-    out: &mut Vec<u8>,
-    folder: &[u8],
-    hub: &Option<Address>,
-    leaf: u16,
-) -> Result<(), NoMemory>
-    ensures { OnOk result (out.new.items ≡ out.old.items ++ hub_part folder.now hub.now leaf) }
+// Appends a section for each hub with a plus of the leaf numbered `leaf`.
+fn put_hubs(out: &mut Vec<u8>, folder: &[u8], hubs: &[Address], leaf: u16) -> Result<(), NoMemory>
+    ensures { OnOk result (out.new.items ≡ out.old.items ++ hubs_text folder.now leaf hubs.now) }
 {
-    match hub {
-        Some(address) if address.tls => put_hub_section(out, folder, address, leaf),
-        Some(_) | None => Ok(()),
+    for hub in hubs {
+        put_hub(out, folder, hub, leaf)?;
     }
+    Ok(())
+}
+
+// Appends the section of a hub, if its port has a plus.
+fn put_hub(out: &mut Vec<u8>, folder: &[u8], hub: &Address, leaf: u16) -> Result<(), NoMemory>
+    ensures { OnOk result (out.new.items ≡ out.old.items ++ hub_part folder.now leaf hub.now) }
+{
+    if hub.tls {
+        put_hub_section(out, folder, hub, leaf)?;
+    }
+    Ok(())
 }
 
 #[tactic(auto, unfolding(crate::specs::Stunnels::hub_section))]

@@ -21,7 +21,7 @@ use std::rt::Files;
 pub struct Target<'a> {
     /// The bot's folder.
     pub folder: &'a [u8],
-    /// The address, of a server or of the hub.
+    /// The address, of a server or of a hub.
     pub address: &'a Address,
 }
 

@@ -7,7 +7,7 @@ use Rattle.upkeep.specs.declared.account.AccountFault.TheVariants as account
 use Rattle.upkeep.specs.declared.page_opening.PageFault.{PageFault}
 use Rattle.upkeep.specs.declared.page_opening.PageFault.TheVariants as page
 use Rattle.upkeep.specs.declared.ending.RunError.{RunError}
-use Rattle.upkeep.specs.declared.ending.RunError.TheVariants.{NoServer, Page, BindKind, BindProc, Bind, Config, LogFile, Secret, Account, NoNet, NoMade, BadDoubt, Book, Listen, Folder, OtherJournal, GenerationsSpent, Control, DiskFailed, System, NoMemory}
+use Rattle.upkeep.specs.declared.ending.RunError.TheVariants.{NoServer, Page, BindKind, BindProc, Bind, Config, LogFile, Secret, Account, NoNet, NoMade, BadDoubt, BadParent, Book, Listen, Folder, OtherJournal, GenerationsSpent, Control, DiskFailed, System, NoMemory}
 
 -- 1 for a file of the secret that holds none for this bot or that this user may not read; 3 for what the machine refuses
 abbrev pub secret_status : SecretFault → ℕ
@@ -64,6 +64,7 @@ status_of (Account fault) = account_status fault
 status_of NoNet = 1
 status_of NoMade = 1
 status_of BadDoubt = 1
+status_of BadParent = 1
 status_of (Book fault) = 1
 status_of (Listen fault) = 3
 status_of (Folder fault) = 3

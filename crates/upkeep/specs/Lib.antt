@@ -4,3 +4,4 @@ pub mod Refusing
 pub mod Reloading
 pub mod Spaces
 pub mod Stations
+pub mod Flooding

@@ -1,6 +1,6 @@
 -- What a running bot can't change when its configuration is read again.
 use Rattle.std.specs.Prelude.{ℕ, ◌==◌, ◌&&◌, not, Bool, true, false, List, Option, None, Some, if◌then◌else◌}
-use Rattle.std.specs.List.{list_all}
+use Rattle.std.specs.List.{list_all, list_any}
 use Rattle.std.specs.Str.{bytes_eq}
 use Rattle.settings.specs.Drafts.{is_limited}
 use Rattle.settings.specs.declared.setting_word.SettingWord.{SettingWord}
@@ -33,6 +33,16 @@ same_address None (Some new) = false
 same_address (Some old) None = false
 same_address (Some old) (Some new) = is_at old new
 
+-- each hub of the one list is in the other
+abbrev pub is_hub_in : Address → List Address → Bool
+is_hub_in hub others = list_any (λ other. is_at hub other) others
+
+abbrev pub are_hubs_in : List Address → List Address → Bool
+are_hubs_in hubs others = list_all (λ hub. is_hub_in hub others) hubs
+
+abbrev pub same_hubs : List Address → List Address → Bool
+same_hubs old new = are_hubs_in old new && are_hubs_in new old
+
 -- each leaf of the one list is in the other, and may do the same
 abbrev pub are_said_in : List LeafLine → List LeafLine → Bool
 are_said_in lines others = list_all (λ line. is_limited line.leaf line.rule others) lines
@@ -51,7 +61,7 @@ abbrev pub changed_word : Settings → Settings → Option SettingWord
 changed_word old new =
     if not (bytes_eq old.folder new.folder) then Some Data
     else if not (same_station old.station new.station) then Some Bot
-    else if not (same_address old.hub new.hub) then Some Hub
+    else if not (same_hubs old.hubs new.hubs) then Some Hub
     else if not (same_address old.listen new.listen) then Some Listen
     else if not (same_leaves old.limits new.limits) then Some Leaf
     else if not (same_text old.secret new.secret) then Some Secret

@@ -59,6 +59,8 @@ pub enum RunError {
     BadDoubt,
     /// The folder's book of leaves has a faulty line.
     Book(BookFault),
+    /// The folder's file `parent` does not hold a line of a promotion.
+    BadParent,
     /// The hub cannot listen at its address.
     Listen(DoorFault),
     /// The folder holds another bot's journal, or a damaged one.
@@ -125,6 +127,7 @@ impl RunError {
             | RunError::NoNet
             | RunError::NoMade
             | RunError::BadDoubt
+            | RunError::BadParent
             | RunError::Book(_)
             | RunError::OtherJournal
             | RunError::GenerationsSpent => 1,
@@ -163,6 +166,7 @@ impl RunError {
             | RunError::NoNet
             | RunError::NoMade
             | RunError::BadDoubt
+            | RunError::BadParent
             | RunError::Book(_)
             | RunError::Folder(_)
             | RunError::DiskFailed { change: _ } => { Subject::Folder }
@@ -209,6 +213,7 @@ impl Display for RunError {
             | RunError::NoNet
             | RunError::NoMade
             | RunError::BadDoubt
+            | RunError::BadParent
             | RunError::OtherJournal
             | RunError::GenerationsSpent
             | RunError::System
@@ -254,6 +259,8 @@ fn sentence(error: RunError) -> &'static str {
             "holds a file made that is no number: bring it back, 16 digits and a line feed, or remove it and have the hub renew this leaf",
         RunError::BadDoubt =>
             "holds a file doubt that no hub writes: bring it back, or remove it if this hub's journal is its newest",
+        RunError::BadParent =>
+            "holds a file parent that no promotion writes: bring it back, as promote made it",
         RunError::System =>
             "the system waits for no sockets, tells no time or draws no number: raise its limit of open files, and try again",
         RunError::NoMemory => "out of memory: free some and try again",

@@ -1,7 +1,7 @@
 // What a running bot can't change when its configuration is read again.
 ghost use Rattle.std.specs.Prelude.{◌≡◌};
-ghost use Rattle.upkeep.specs.Reloading.{are_said_in, changed_word, is_at, same_address, same_leaves, same_page};
-ghost use Rattle.upkeep.specs.Reloading.{same_station, same_text};
+ghost use Rattle.upkeep.specs.Reloading.{are_hubs_in, are_said_in, changed_word, is_at, is_hub_in, same_address, same_hubs};
+ghost use Rattle.upkeep.specs.Reloading.{same_leaves, same_page, same_station, same_text};
 
 use bytetext::Text;
 use settings::{Address, PageSetting, SettingWord, Settings, Station};
@@ -15,7 +15,7 @@ pub fn changed_word(old: &Settings, new: &Settings) -> Option<SettingWord>
         Some(SettingWord::Data)
     } else if !same_station(old.station, new.station) {
         Some(SettingWord::Bot)
-    } else if !same_address(&old.hub, &new.hub) {
+    } else if !same_hubs(old.hubs.as_slice(), new.hubs.as_slice()) {
         Some(SettingWord::Hub)
     } else if !same_address(&old.listen, &new.listen) {
         Some(SettingWord::Listen)
@@ -56,6 +56,25 @@ fn same_address(old: &Option<Address>, new: &Option<Address>) -> bool
         (Some(old), Some(new)) => is_at(old, new),
         (None, Some(_)) | (Some(_), None) => false,
     }
+}
+
+// Whether the same hubs stand there, in whatever order.
+fn same_hubs(old: &[Address], new: &[Address]) -> bool
+    ensures { result ≡ same_hubs old.now new.now }
+{
+    are_hubs_in(old, new) && are_hubs_in(new, old)
+}
+
+fn are_hubs_in(hubs: &[Address], others: &[Address]) -> bool
+    ensures { result ≡ are_hubs_in hubs.now others.now }
+{
+    hubs.iter().all(|hub| is_hub_in(hub, others))
+}
+
+fn is_hub_in(hub: &Address, others: &[Address]) -> bool
+    ensures { result ≡ is_hub_in hub.now others.now }
+{
+    others.iter().any(|other| is_at(hub, other))
 }
 
 fn is_at(old: &Address, new: &Address) -> bool

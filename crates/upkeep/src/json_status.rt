@@ -2,6 +2,7 @@
 ghost use Rattle.std.specs.Prelude.{IfOk};
 ghost use Rattle.recordjson.specs.Words.{IsPlainLine};
 
+use crate::flooding::{FloodWatch, put_ignores};
 use administrators::{Admins, Asks};
 use bytetext::NoMemory;
 use peers::{Links, put_status_json};
@@ -11,7 +12,7 @@ use settings::Settings;
 use std::alloc::Global;
 
 /// Returns the state of a bot at `version`, whose nick is `nick`, as a line of JSON: the facts that
-/// [`status_of`](crate::status_of) says.
+/// [`status_of`](crate::status_of) says, and who is ignored at `now`.
 ///
 /// # Errors
 /// `NoMemory` if an allocation fails.
@@ -23,7 +24,9 @@ pub fn status_json(
     links: &Links,
     asks: &Asks,
     admins: &Admins,
+    floods: &FloodWatch,
     settings: &Settings,
+    now: u64,
 ) -> Result<Vec<u8>, NoMemory>
     ensures plain { IfOk result (λ text. IsPlainLine text.items) }
 {
@@ -33,6 +36,7 @@ pub fn status_json(
     line.put_next(b"version")?;
     line.put_number(u64::from(version))?;
     put_irc(&mut line, nick, uplink, settings)?;
+    put_ignores(&mut line, floods, now)?;
     line.put_next(b"links")?;
     put_status_json(alloc, &mut line, links, version)?;
     put_counts(&mut line, uplink, links, asks, admins)?;

@@ -17,7 +17,7 @@ use std::fs::File;
 use std::rt::Files;
 
 // The answer to an admin who gives a hub's command to another bot.
-const NO_HUB: &[u8] = b"refused no hub: say it at the hub of the net\n";
+pub(crate) const NO_HUB: &[u8] = b"refused no hub: say it at the hub of the net\n";
 
 // The answer to an admin who trusts a hub that is not in doubt.
 const NO_DOUBT: &[u8] = b"refused no doubt: no leaf is ahead of this hub, or has other records\n";
@@ -175,7 +175,7 @@ pub fn tell_changes(
 }
 
 // Whether a bot at this station is a hub with leaves.
-fn is_hub(station: Station) -> bool
+pub(crate) fn is_hub(station: Station) -> bool
     ensures { result ≡ is_hub station }
 {
     station.number == 0 && station.leaves > 0
@@ -186,7 +186,8 @@ fn renewed(alloc: Global, leaf: u16) -> Result<Vec<u8>, NoMemory> {
     Ok(line.into_bytes())
 }
 
-fn no_such_leaf(alloc: Global, leaves: u16) -> Result<Vec<u8>, NoMemory> {
+// The answer to an admin who names a leaf that the net lacks.
+pub(crate) fn no_such_leaf(alloc: Global, leaves: u16) -> Result<Vec<u8>, NoMemory> {
     let line = format!(in alloc; "refused no such leaf: say a number from 1 to {leaves}\n")?;
     Ok(line.into_bytes())
 }

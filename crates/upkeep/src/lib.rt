@@ -7,6 +7,7 @@
 //! - [`connect`], [`wait`] and [`send`] are the parts of a turn that need no bot.
 //! - [`refusal`], [`say`], [`jump`], [`join`], [`renew`], [`status_of`] and others are what administrators ask for that needs
 //!   no step of the bot.
+//! - [`HandOver`] is a hub that hands its net over to one of its leaves, and [`leave_net`] has a leaf leave its net.
 //! - [`settings_in`] reads the configuration again, and [`Reloading`] holds it until the turn is over.
 //! - [`RunError`] is why the process ends, with its exit status and what a person is to change.
 //!
@@ -27,9 +28,12 @@ mod connections;
 mod copying;
 mod ending;
 mod fixed_words;
+mod flooding;
 mod folder_opening;
+mod hand_over;
 mod json_status;
 mod keeping;
+mod leaving;
 mod log_opening;
 mod netting;
 mod page_opening;
@@ -49,11 +53,17 @@ pub use crate::connections::{connect, send};
 pub use crate::copying::{backup, reopen};
 pub use crate::ending::{RunError, Subject, of_folder};
 pub use crate::fixed_words::changed_word;
+pub use crate::flooding::{FloodWatch, put_ignores};
 pub use crate::folder_opening::{door_of, folder_of, forget_journal, space_of};
+pub use crate::hand_over::{
+    HAND_OVER_SECONDS, HandOver, HandOverEntry, HandOverState, NoHandOver, end_handed_over,
+    handed_over_answer, no_hand_over_answer, not_handed_over_answer, taken_requests,
+};
 pub use crate::json_status::status_json;
 pub use crate::keeping::{
     enter_new_leaves, keep_new_doubt, keep_new_net, renew, tell_changes, trust,
 };
+pub use crate::leaving::leave_net;
 pub use crate::log_opening::log_of;
 pub use crate::netting::{begin_net, links_of, secret_of, tunnel_keys, warn};
 pub use crate::page_opening::{PageFault, page_of};

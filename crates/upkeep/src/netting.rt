@@ -10,7 +10,7 @@ use net::{DoorFault, Log, Registry, literal};
 use peers::{
     Book, Doubted, DrawnNumber, HubConnection, HubLinks, HubStation, LeafLimit, LeafRights,
     LeafStation, Links, ListenFault, ListenPlace, Secret, SecretFault, doubt_in, key_of, leaf_key,
-    tunnel_key_line,
+    parent_in, tunnel_key_line,
 };
 use sealing::Key;
 use settings::{LeafLine, LeafRule, Settings, Station};
@@ -196,7 +196,7 @@ fn is_nets(secret: Option<Secret>) -> bool {
 /// Creates a bot's connections to the others. None is connected yet. `version` is the version of the bot's records.
 ///
 /// # Errors
-/// `NoNet`, `NoMade`, `BadDoubt`, `Book`, `Listen`, `Folder`, `System` and `NoMemory`, as [`RunError`] describes them.
+/// `NoNet`, `NoMade`, `BadDoubt`, `BadParent`, `Book`, `Listen`, `Folder`, `System` and `NoMemory`, as [`RunError`] describes them.
 pub fn links_of<R: AllocGlobal + Net + Files<File = File> + RandomSource>(
     rt: &R,
     registry: &Registry,
@@ -255,7 +255,8 @@ fn leaf_links<R: AllocGlobal + Files<File = File> + RandomSource>(
         made: made_of(rt, folder)?,
         net,
     };
-    Ok(Links::Leaf(HubConnection::new(rt.alloc(), station)?))
+    let hubs = settings.hubs.len();
+    Ok(Links::Leaf(HubConnection::new(rt.alloc(), station, hubs)?))
 }
 
 // Opens the hub's connections.
@@ -285,6 +286,7 @@ fn open_hub<R: AllocGlobal + Net + Files<File = File>>(
         limits: limits_of(rt.alloc(), settings)?,
         book: book_of(rt, folder, settings.station.leaves)?,
         doubt: doubt_of(rt, folder)?,
+        parent: parent_of(rt, folder)?,
     };
     match HubLinks::open(rt, registry, place, station) {
         Ok(hub) => Ok(Links::Hub(hub)),
@@ -350,6 +352,21 @@ fn doubt_of<R: AllocGlobal + Files<File = File>>(
         Ok(Some(bytes)) => match doubt_in(bytes.as_slice()) {
             Some(doubted) => Ok(Some(doubted)),
             None => Err(RunError::BadDoubt),
+        },
+        Ok(None) => Ok(None),
+        Err(error) => Err(of_folder(error)),
+    }
+}
+
+// Reads the number of the net that an heir's hub goes on from; none if this hub is no heir.
+fn parent_of<R: AllocGlobal + Files<File = File>>(
+    rt: &R,
+    folder: &BotFolder,
+) -> Result<Option<DrawnNumber>, RunError> {
+    match folder.parent(rt) {
+        Ok(Some(line)) => match parent_in(line.as_slice()) {
+            Some(parent) => Ok(Some(parent)),
+            None => Err(RunError::BadParent),
         },
         Ok(None) => Ok(None),
         Err(error) => Err(of_folder(error)),

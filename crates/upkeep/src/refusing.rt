@@ -21,8 +21,12 @@ const PERSONS: &[u8] =
 const NEW: &[u8] =
     b"refused never linked: this leaf takes changes once its hub has welcomed it: ask at the hub, or see what status says\n";
 
+// The answer to an admin who asks for a change at a hub that is being handed over.
+const HANDED: &[u8] =
+    b"refused the hub is being handed over: ask at the heir, or here again if the log says that it was not handed over\n";
+
 /// Returns the answer that refuses `command`, if the bot does not execute it now: it has no room on its disk, or it is a
-/// hub in doubt, or a leaf that was never linked or may ask for no change in nobody's name, as an admin's is.
+/// hub that is being handed over, as `hands_over` says, or one in doubt, or a leaf that was never linked or may ask for no change in nobody's name, as an admin's is.
 ///
 /// # Errors
 /// `NoMemory` if an allocation fails.
@@ -30,8 +34,11 @@ pub fn refusal(
     alloc: Global,
     links: &Links,
     space: &Space,
+    hands_over: bool,
     command: &AdminCommand,
 ) -> Result<Option<Vec<u8>>, NoMemory>
+    // A hub that is being handed over refuses each change.
+    ensures hands_over { hands_over ≡ true → is_change command.now ≡ true → IfOk result IsSome }
     // A bot that may not ask for changes refuses each change.
     ensures asks { may_ask links.now ≡ false → is_change command.now ≡ true → IfOk result IsSome }
     // An admin's change is in nobody's name.
@@ -42,6 +49,9 @@ pub fn refusal(
     }
     if !is_change(command) {
         return Ok(None);
+    }
+    if hands_over {
+        return Ok(Some(Vec::from_slice(alloc, HANDED)?));
     }
     if let Some(doubt) = links.doubt() {
         return Ok(Some(in_doubt(alloc, doubt)?));
@@ -73,7 +83,8 @@ fn found(refusal: HandshakeRefusal) -> &'static str {
     match refusal {
         HandshakeRefusal::Ahead => "is ahead of this hub",
         HandshakeRefusal::Records => "has other records at the hub's version",
-        HandshakeRefusal::Net
+        HandshakeRefusal::Heir
+        | HandshakeRefusal::Net
         | HandshakeRefusal::Count
         | HandshakeRefusal::Other
         | HandshakeRefusal::Older => "was refused",
@@ -98,11 +109,13 @@ fn is_change(command: &AdminCommand) -> bool
         | AdminCommand::Part(_)
         | AdminCommand::Bind(_)
         | AdminCommand::Unbind(_)
+        | AdminCommand::Unignore(_)
         | AdminCommand::Say(_)
         | AdminCommand::Compact
         | AdminCommand::Jump
         | AdminCommand::Renew(_)
         | AdminCommand::Trust
+        | AdminCommand::HandOver(_)
         | AdminCommand::Die(_) => false,
     }
 }
@@ -126,8 +139,10 @@ fn needs_room(command: &AdminCommand) -> bool {
         | AdminCommand::Part(_)
         | AdminCommand::Bind(_)
         | AdminCommand::Unbind(_)
+        | AdminCommand::Unignore(_)
         | AdminCommand::Say(_)
         | AdminCommand::Jump
+        | AdminCommand::HandOver(_)
         | AdminCommand::Die(_) => false,
     }
 }

@@ -1,4 +1,5 @@
 // A bot's state, as lines.
+use crate::flooding::FloodWatch;
 use administrators::{Admins, Asks};
 use bytetext::NoMemory;
 use itoa::Buffer;
@@ -7,7 +8,8 @@ use serverlink::{IrcConnection, Session};
 use settings::Settings;
 use std::alloc::Global;
 
-/// Returns the lines that describe the state of a bot at `version`, whose nick is `nick`.
+/// Returns the lines that describe the state of a bot at `version`, whose nick is `nick`, and say who is
+/// ignored at `now`.
 ///
 /// # Errors
 /// `NoMemory` if an allocation fails.
@@ -19,7 +21,9 @@ pub fn status_of(
     links: &Links,
     asks: &Asks,
     admins: &Admins,
+    floods: &FloodWatch,
     settings: &Settings,
+    now: u64,
 ) -> Result<Vec<u8>, NoMemory> {
     let mut text = Vec::new(alloc);
     put_count(&mut text, b"version ", u64::from(version))?;
@@ -27,6 +31,7 @@ pub fn status_of(
     for place in 0..uplink.channels.len() {
         put_channel(&mut text, uplink, place)?;
     }
+    floods.put_status(&mut text, now)?;
     put_status(&mut text, links, version)?;
     if links.is_leaf() {
         put_count(&mut text, b"asks ", asks.len() as u64)?;

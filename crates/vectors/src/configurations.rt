@@ -90,7 +90,9 @@ fn put_settings(alloc: Global, settings: &Settings, out: &mut Sink) -> Result<()
     for server in settings.servers.as_slice() {
         put_server(server, out);
     }
-    put_address(b" ; hub", settings.hub.as_ref(), out);
+    for hub in settings.hubs.as_slice() {
+        put_address(b" ; hub", Some(hub), out);
+    }
     put_address(b" ; listen", settings.listen.as_ref(), out);
     for line in settings.limits.as_slice() {
         put_limit(line, out);

@@ -1,5 +1,7 @@
 // What a case of the edge of a bot as a process asks for.
-use crate::{books, configurations, handshakes, lookups, records, registrations, seconds, wires};
+use crate::{
+    books, configurations, handshakes, lookups, records, registrations, seconds, uplinks, wires,
+};
 use bytetext::Text;
 use caselines::{CaseError, NO_SUCH_CASE, Sink};
 use std::alloc::Global;
@@ -13,6 +15,7 @@ pub fn answer(
 ) -> Result<(), CaseError> {
     match first {
         b"book" => books::book(alloc, words, out),
+        b"cue" => uplinks::cue(alloc, words, out),
         b"hmac" => books::hmac(words, out),
         b"hosts" => lookups::hosts(alloc, words, out),
         b"hub" => handshakes::hub(alloc, words, out),
@@ -25,9 +28,11 @@ pub fn answer(
         b"pbkdf2" => registrations::pbkdf2(alloc, words, out),
         b"query" => lookups::query(words, out),
         b"redial" => seconds::redial(words, out),
+        b"regain" => uplinks::regain(alloc, words, out),
         b"register" => registrations::register(alloc, words, out),
         b"reply" => lookups::reply(alloc, words, out),
         b"seal" => records::seal(alloc, words, out),
+        b"seat" => uplinks::seat(alloc, words, out),
         b"secret" => books::secret(alloc, words, out),
         b"servers" => lookups::servers(alloc, words, out),
         b"settings" => configurations::settings(alloc, words, out),

@@ -13,7 +13,7 @@ pub fn hub(alloc: Global, words: &[Text], out: &mut Sink) -> Result<(), CaseErro
     let [secret, net, leaves, nonce, heard @ ..] = words else {
         return Err(BAD_WORDS);
     };
-    let hub = hub_side(secret, net, leaves, nonce)?;
+    let hub = hub_side(secret, net, None, leaves, nonce)?;
     out.put(b"says");
     out.quoted(hub.greeting().as_bytes());
     for word in heard {
@@ -37,12 +37,13 @@ fn show_hub(hears: &HubHears, out: &mut Sink) {
     }
 }
 
-/// Answers `judge SECRET NET LEAVES NONCE PLACE VERSION SUM LAST MAY HEARD` on `out`: what a hub that has come so far
-/// answers a leaf whose folder has this place, and the keys of the records.
+/// Answers `judge SECRET NET PARENT LEAVES NONCE PLACE VERSION SUM LAST MAY HEARD` on `out`: what a hub that has come so
+/// far answers a leaf whose folder has this place, and the keys of the records.
 pub fn judge(alloc: Global, words: &[Text], out: &mut Sink) -> Result<(), CaseError> {
     let [
         secret,
         net,
+        parent,
         leaves,
         nonce,
         place,
@@ -55,7 +56,7 @@ pub fn judge(alloc: Global, words: &[Text], out: &mut Sink) -> Result<(), CaseEr
     else {
         return Err(BAD_WORDS);
     };
-    let hub = hub_side(secret, net, leaves, nonce)?;
+    let hub = hub_side(secret, net, kept_net(parent)?, leaves, nonce)?;
     let own = progress_of(version, sum, last)?;
     let may = rights_of(may)?;
     let bytes = bytes_of(alloc, heard)?;
@@ -180,6 +181,7 @@ fn show_fault(fault: HandshakeFault, out: &mut Sink) {
 fn show_refusal(front: &[u8], refusal: HandshakeRefusal, out: &mut Sink) {
     out.put(front);
     out.put(match refusal {
+        HandshakeRefusal::Heir => b"heir".as_slice(),
         HandshakeRefusal::Net => b"net".as_slice(),
         HandshakeRefusal::Count => b"count".as_slice(),
         HandshakeRefusal::Other => b"other".as_slice(),
@@ -199,10 +201,17 @@ pub fn late(words: &[Text], out: &mut Sink) -> Result<(), CaseError> {
     Ok(())
 }
 
-fn hub_side(secret: &Text, net: &Text, leaves: &Text, nonce: &Text) -> Result<HubSide, CaseError> {
+fn hub_side(
+    secret: &Text,
+    net: &Text,
+    parent: Option<DrawnNumber>,
+    leaves: &Text,
+    nonce: &Text,
+) -> Result<HubSide, CaseError> {
     Ok(HubSide {
         key: Key::new(secret.as_bytes()),
         net: drawn(net)?,
+        parent,
         leaves: number(leaves.as_bytes())?,
         nonce: nonce_of(nonce)?,
     })

@@ -59,7 +59,7 @@
 //! | `tunnels LINE..` | what stunnel is told of a configuration file of these lines |
 //! | `secret BYTES` | whose key a file of these bytes holds, and the code of the empty text under it, or why it holds none |
 //! | `hub SECRET NET LEAVES NONCE HEARD..` | what a hub says first, and then what it makes of each HEARD |
-//! | `judge SECRET NET LEAVES NONCE PLACE VERSION SUM LAST MAY HEARD` | what a hub answers the leaf in HEARD |
+//! | `judge SECRET NET PARENT LEAVES NONCE PLACE VERSION SUM LAST MAY HEARD` | what a hub answers the leaf in HEARD |
 //! | `leaf SECRET NUMBER LEAVES NET MADE VERSION SUM LAST NONCE HEARD..` | what a leaf makes of each HEARD, in turn |
 //! | `book LEAVES LINES NUMBER MADE..` | the place of each leaf that shows a folder, or which line is bad |
 //! | `late BEGAN NOW` | whether a handshake that began then is too late now |
@@ -70,6 +70,9 @@
 //! | `query NUMBER NAME 4\|6` | the bytes of the query for NAME's addresses of this family, or `no name` |
 //! | `reply NUMBER NAME 4\|6 BYTES` | what BYTES answer to that query: addresses, `nothing` or `no answer` |
 //! | `hosts NAME LINE..` | the addresses of NAME in a file of hosts of these lines, or `none` |
+//! | `cue NICK LINE` | what the line means for a bot with this nick |
+//! | `regain WANTED STEP..` | what the process does after each step for the nick WANTED, which the bot is to have |
+//! | `seat NUMBER STEP..` | the second at which the bot of this number asks to join its channel after each step, `on` or `never` |
 //! | `servers LINE..` | the name servers in a configuration of the resolver of these lines |
 //!
 //! A ZONE is the minutes by which a clock is ahead of UTC, or a rule of POSIX as one word.
@@ -126,11 +129,17 @@
 //! it took, its answer, or `none` if nothing is unsent; `unsent` answers what is unsent. `over` answers `over` or
 //! `not over`.
 //!
+//! The steps of `regain` are words that begin with their second and a `/`. After it stands nothing, and the process asks
+//! if that is due; `nick NICK`, and the bot has this nick; or a line of the server. The answers are `ISON`, `NICK`,
+//! `named` or `none`. The steps of `seat` are `SECOND/WORD`, where WORD is `welcome`, `join`, `off`, `bar`, `ask` or
+//! `lose`.
+//!
 //! A hub or a leaf hears all bytes that came and were not used so far. The answers, with ` ; ` between, are `more`, why
 //! it refuses, or how many of the bytes its line `used`, and what it `says`. The NET `-` is that of a leaf that keeps no
-//! net. In `judge` the place of the leaf's folder in the hub's book is `free`, `same`, `taken` or `barred`, and the MAY
-//! of the leaf is `asks`, `reads` or `persons`. Of a key the code of the empty text is shown. In a HEARD, in the BYTES of a secret
-//! and in the LINES of a book each `/` stands for a line feed.
+//! net, and the PARENT `-` that of a hub whose net is nobody's heir. In `judge` the place of the leaf's folder in the
+//! hub's book is `free`, `same`, `taken` or `barred`, and the MAY of the leaf is `asks`, `reads` or `persons`. Of a key the
+//! code of the empty text is shown. In a HEARD, in the BYTES of a secret and in the LINES of a book each `/` stands for a
+//! line feed.
 //!
 //! `register` is a registration with the account NAME, `-` for none. ALLOWED has a letter for each mechanism that is
 //! allowed: `w` for SCRAM-SHA-512, `s` for SCRAM-SHA-256, `e` for EXTERNAL and `p` for PLAIN. WANTED has the first letter
@@ -170,6 +179,7 @@ mod registrations;
 mod seconds;
 mod spellings;
 mod timers;
+mod uplinks;
 mod wires;
 
 use bytetext::Text;

@@ -7,7 +7,8 @@ use outqueue::{PutError, Queue, QueueFault, QueueSet, Queues};
 use std::alloc::Global;
 
 /// Answers `queues STEP..` on `out`: what each step answers, with ` ; ` between. A step is one word.
-/// `put QUEUE COUNT LINE` puts a line COUNT times and answers `ok` or the code of the first refusal, and
+/// `put QUEUE COUNT LINE` puts a line COUNT times and answers `ok` or the code of the first refusal, `once QUEUE COUNT
+/// LINE` does so where lines stand once and shares are fair, and
 /// `reserved QUEUE LINE` puts it into room that was reserved before. `take NOW` and `drain NOW` answer the lines that
 /// are sent or `none`. `len QUEUE` and `clear QUEUE` answer a number. QUEUE is `mode`, `server` or `help`, and for the
 /// last two also `all`. The queues are copied before each step.
@@ -27,15 +28,26 @@ enum Step {
     Clear,
     Drain,
     Len,
+    Once,
     Put,
     Reserved,
     Take,
 }
 
-const STEPS: [(&[u8], Step); 6] = [
+// How a line is put.
+#[derive(Clone, Copy)]
+enum Way {
+    // Whatever waits.
+    Each,
+    // Where lines stand once and shares are fair.
+    Once,
+}
+
+const STEPS: [(&[u8], Step); 7] = [
     (b"clear", Step::Clear),
     (b"drain", Step::Drain),
     (b"len", Step::Len),
+    (b"once", Step::Once),
     (b"put", Step::Put),
     (b"reserved", Step::Reserved),
     (b"take", Step::Take),
@@ -58,7 +70,8 @@ fn make(alloc: Global, queues: &mut Queues, step: &[u8], out: &mut Sink) -> Resu
         Step::Len => out.number(queues.len(which(rest)?) as u64),
         Step::Take => take(queues, moment(rest)?, out),
         Step::Drain => return drain(alloc, queues, moment(rest)?, out),
-        Step::Put => return put(alloc, queues, rest, out),
+        Step::Put => return put(alloc, queues, Way::Each, rest, out),
+        Step::Once => return put(alloc, queues, Way::Once, rest, out),
         Step::Reserved => return reserved(alloc, queues, rest, out),
     }
     Ok(())
@@ -103,13 +116,19 @@ fn drain(alloc: Global, queues: &mut Queues, now: u64, out: &mut Sink) -> Result
 }
 
 // QUEUE COUNT LINE
-fn put(alloc: Global, queues: &mut Queues, rest: &[u8], out: &mut Sink) -> Result<(), CaseError> {
+fn put(
+    alloc: Global,
+    queues: &mut Queues,
+    way: Way,
+    rest: &[u8],
+    out: &mut Sink,
+) -> Result<(), CaseError> {
     let (name, rest) = cut(rest, b' ');
     let (count, line) = cut(rest, b' ');
     let QueueSet::One(queue) = which(name)? else {
         return Err(BAD_WORDS);
     };
-    match put_often(alloc, queues, queue, number(count)?, line)? {
+    match put_often(alloc, queues, (way, queue), number(count)?, line)? {
         Some(fault) => out.put(fault.code().as_bytes()),
         None => out.put(b"ok"),
     }
@@ -120,18 +139,26 @@ fn put(alloc: Global, queues: &mut Queues, rest: &[u8], out: &mut Sink) -> Resul
 fn put_often(
     alloc: Global,
     queues: &mut Queues,
-    queue: Queue,
+    (way, queue): (Way, Queue),
     count: u32,
     line: &[u8],
 ) -> Result<Option<QueueFault>, CaseError> {
     for _ in 0..count {
-        match queues.put(queue, Text::from_slice(alloc, line)?) {
+        match put_one(queues, way, queue, Text::from_slice(alloc, line)?) {
             Ok(()) => {}
             Err(PutError::Refused(fault)) => return Ok(Some(fault)),
             Err(PutError::NoMemory) => return Err(CaseError::NoMemory),
         }
     }
     Ok(None)
+}
+
+// Puts a line in this way.
+fn put_one(queues: &mut Queues, way: Way, queue: Queue, line: Text) -> Result<(), PutError> {
+    match way {
+        Way::Each => queues.put(queue, line),
+        Way::Once => queues.put_once(queue, line),
+    }
 }
 
 // QUEUE LINE

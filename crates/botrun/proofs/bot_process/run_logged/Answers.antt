@@ -49,11 +49,11 @@ make_turns-requires g c =
 
 pub give_up-requires-clause-allowed : goal.give_up-requires-clause-allowed
 give_up-requires-clause-allowed g c =
-    may_forget _ _ _ _ _ _ c.in_ok-above.ensures.at (rw c.in-Some.is at c.in_ok-above.ensures.again)
+    may_forget _ _ _ _ _ _ c.in_ok-above.ensures.at (rw c.in-BeginsAbove.is at c.in_ok-above.ensures.again)
 
 pub loop-life-preserved : goal.loop-life-preserved
 loop-life-preserved g c = record {
-  lawful = forgets_lawful _ _ _ _ _ _ _ c.in_ok-above.ensures.at (rw c.in-Some.is at c.in_ok-above.ensures.again) c.give_up.ensures.past;
+  lawful = forgets_lawful _ _ _ _ _ _ _ c.in_ok-above.ensures.at (rw c.in-BeginsAbove.is at c.in_ok-above.ensures.again) c.give_up.ensures.past;
   numbers = numbers_again _ _ _ _ c.give_up.ensures.past;
   station = c.in_ok-above.ensures.station ∙ c.loop-life.invariant.station;
   some = c.in_ok-above.ensures.some c.loop-life.invariant.some;

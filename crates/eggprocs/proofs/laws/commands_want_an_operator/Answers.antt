@@ -1,6 +1,7 @@
 use Rattle.eggprocs.specs.declared.proc_name.ProcName.TheVariants as which
 use Rattle.eggprocs.proofs.LawLemmas.{does-nothing, is_from_op-bot, is_from_voice-bot, autoop-bot, op-refused, deop-refused, kick-refused, topic-refused, invite-refused, ban-refused, unban-refused, voice-refused, devoice-refused}
 use Rattle.eggprocs.proofs.KeepingLemmas.{protectops-bot, bitch-bot, guard-bot, enforcebans-bot}
+use Rattle.eggprocs.proofs.ChannelLemmas.{keepmodes-bot, dynamicbans-bot}
 use Rattle.eggprocs.proofs.laws.commands_want_an_operator.Goals as goal
 
 pub returns-clause-op : goal.returns-clause-op
@@ -44,3 +45,9 @@ returns-clause-guard c = guard-bot
 
 pub returns-clause-enforcebans : goal.returns-clause-enforcebans
 returns-clause-enforcebans c = enforcebans-bot
+
+pub returns-clause-keepmodes : goal.returns-clause-keepmodes
+returns-clause-keepmodes c = keepmodes-bot
+
+pub returns-clause-dynamicbans : goal.returns-clause-dynamicbans
+returns-clause-dynamicbans c = dynamicbans-bot

@@ -15,5 +15,6 @@ returns c = record {
   invite = left-to-first which.Invite refl;
   ban = left-to-first which.Ban refl;
   unban = left-to-first which.Unban refl;
+  keepmodes = left-to-first which.KeepModes refl;
   guard = guard-left-to-first;
 }

@@ -1,6 +1,6 @@
 use Rattle.std.proofs.Common.{◌∷◌, refl}
 use Rattle.heirs.proofs.Requests.{stands_once}
-use Rattle.heirs.proofs.Lines.{begins, lost_nothing, descends_stands, net_same_records, ancestors_agree, hub_not_below, hands_over, net_never_back}
+use Rattle.heirs.proofs.Lines.{begins, lost_nothing, stands_whole, descends_stands, net_same_records, ancestors_agree, hub_not_below, hands_over, net_never_back}
 use Rattle.heirs.proofs.Calls.{net_same_calls, ancestors_same_calls}
 use Rattle.heirs.proofs.Example.{catches_up}
 use Rattle.heirs.proofs.Folders.{can_show, is_founded}
@@ -11,6 +11,9 @@ returns-clause-begins g c = λ old h st bot version count w is. begins old h st 
 
 pub returns-clause-nothing_lost : goal.returns-clause-nothing_lost
 returns-clause-nothing_lost g c = lost_nothing
+
+pub returns-clause-all_stands : goal.returns-clause-all_stands
+returns-clause-all_stands g c = stands_whole
 
 pub returns-clause-stands : goal.returns-clause-stands
 returns-clause-stands g c =

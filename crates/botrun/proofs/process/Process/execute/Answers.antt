@@ -1,6 +1,7 @@
-use Rattle.std.proofs.Common.{Result, Ok, Err, OnOk, refl}
+use Rattle.std.proofs.Common.{Result, Ok, Err, OnOk, ap, refl}
 use Rattle.watching.proofs.FollowingLemmas.{at_watched}
 use Rattle.watching.proofs.SendingLemmas.{up_quiet}
+use Rattle.botrun.proofs.StationLemmas.{up_same}
 use Rattle.botrun.proofs.process.Process.execute.Goals as goal
 
 -- what holds in any case holds where a call succeeds
@@ -16,6 +17,21 @@ unbind-requires g c = record { watched = at_watched _ _ _ _ _ _ c.requires.up.ev
 
 pub returns-in-Show : goal.returns-in-Show
 returns-in-Show g c = record { up = always c.show.result c.requires.up }
+
+pub returns-in-Changes : goal.returns-in-Changes
+returns-in-Changes g c = record { up = always c.changes.result c.requires.up }
+
+pub returns-in-Status : goal.returns-in-Status
+returns-in-Status g c = record { up = always c.status.result c.requires.up }
+
+pub returns-in-StatusJson : goal.returns-in-StatusJson
+returns-in-StatusJson g c = record { up = always c.status_json.result c.requires.up }
+
+pub returns-in-HandOver : goal.returns-in-HandOver
+returns-in-HandOver g c = record {
+  up = always c.begin_hand_over.result (up_same _ _ _ _ _ _ _ _ _ c.begin_hand_over.ensures.bot
+      (ap (λ mail. mail.account.told) c.begin_hand_over.ensures.mail) c.requires.up);
+}
 
 pub returns-in-Bind : goal.returns-in-Bind
 returns-in-Bind g c = record {

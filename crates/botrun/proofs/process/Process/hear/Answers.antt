@@ -1,7 +1,12 @@
-use Rattle.std.proofs.Common.{◌∙◌, false, refl, sym}
+use Rattle.std.proofs.Common.{◌∙◌, Bool, false, ap, refl, sym}
+use Rattle.floods.specs.Sifting.{sifted}
+use Rattle.peers.specs.Tells.{granted}
+use Rattle.upkeep.specs.Flooding.{begun_with}
+use Rattle.botrun.specs.Trusting.{trusts}
+use Rattle.upkeep.specs.Spaces.{admitted}
 use Rattle.watching.proofs.FollowingLemmas.{at_watched}
 use Rattle.watching.proofs.SendingLemmas.{even_heard, lets_all, up_sent}
-use Rattle.botrun.proofs.TakingLemmas.{all_admitted, goes_on_from}
+use Rattle.botrun.proofs.TakingLemmas.{all_admitted, all_taken, goes_on_from}
 use Rattle.botrun.proofs.process.Process.hear.Goals as goal
 
 pub watched_packets-requires : goal.watched_packets-requires
@@ -9,7 +14,9 @@ watched_packets-requires g c =
     record { watched = at_watched _ _ _ _ _ _ c.requires.even.at; told = c.requires.even.settled.told_is }
 
 pub take_turn-told-requires-clause-heard : goal.take_turn-told-requires-clause-heard
-take_turn-told-requires-clause-heard g c = all_admitted _ _ _ _ c.admit-packets.ensures.packets c.in_ok-waiting.ensures.heard
+take_turn-told-requires-clause-heard g c =
+    all_admitted _ _ _ _ c.admit-packets.ensures.packets
+    (all_taken _ _ _ _ c.taken_requests-granted.ensures.packets c.in_ok-waiting.ensures.heard)
 
 pub take_turn-told-requires-clause-watched : goal.take_turn-told-requires-clause-watched
 take_turn-told-requires-clause-watched g c = c.watched_packets.ensures.watched
@@ -44,18 +51,22 @@ returns g c = record {
   hears = record {
     heard = record {
       connected = c.args.connected;
-      bytes = c.take_heard-bytes.result;
+      bytes = c.in_ok-bytes.bytes;
       packets = c.admit-packets.result;
       changes = c.new-changes.result;
       now = c.args.now;
       pump = c.is_pump_due-pumps.result;
       compact = false;
     };
-    same = c.take_heard-bytes.ensures.all;
+    same = c.in_ok-bytes.ensures
+        ∙ ap (sifted (trusts c.args.self.now.bot) c.args.now (begun_with c.args.settings.now.floods c.args.connected c.args.self.now.floods))
+        (c.as_slice-sent.ensures.value ∙ c.take_heard-heard.ensures.all);
     left = c.watched_packets.new.mailbox.mail.links;
     waiting = c.in_ok-waiting.waiting.items;
     taken = c.in_ok-waiting.ensures.gives;
-    packets = c.admit-packets.ensures.packets;
+    packets = c.admit-packets.ensures.packets
+        ∙ ap (admitted c.args.self.now.space.room) (c.taken_requests-granted.ensures.packets
+        ∙ ap (λ (b : Bool). granted b c.in_ok-waiting.waiting.items) c.hands_over-hands_over.ensures);
     told = c.take_turn-told.result;
     mid = c.take_turn-told.new.bot;
     between = c.take_turn-told.new.lines;

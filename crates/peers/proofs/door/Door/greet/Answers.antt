@@ -29,6 +29,6 @@ returns g c =
       nonces = draws_one c.in-Ok.nonce c.in-Ok.ensures.rolled (among_same (
           ap (λ (door : Door). nonces_of door.guests.list.items) c.name.ensures
           ∙ c.in_ok-arrive.ensures.comes
-          ∙ ap (λ nonce. old ++ nonce ∷ []) (ap (λ (side : HubSide). side.nonce) c.in_ok-guest.ensures ∙ c.side.ensures)
+          ∙ ap (λ nonce. old ++ nonce ∷ []) (ap (λ (side : HubSide). side.nonce) c.in_ok-guest.ensures ∙ c.side.ensures.nonce)
           ) (among_self _));
     }

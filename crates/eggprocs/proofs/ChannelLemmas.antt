@@ -1,0 +1,167 @@
+-- What the procs request that keep a channel by themselves, and when they request nothing.
+use Rattle.std.proofs.Common.{◌≡◌, ◌∙◌, ◌&&◌, ◌||◌, ◌∷◌, not, ℕ, List, [], Bool, true, false, refl, ap, codes, if◌then◌else◌, Option, Some, None}
+use Rattle.std.specs.Prelude.{slice_index}
+use Rattle.std.specs.List.{list_all}
+use Rattle.std.specs.Str.{bytes_eq}
+use Rattle.userfile.specs.declared.flags.PersonFlags.{PersonFlags}
+use Rattle.chanstate.specs.declared.member.Member.{Member}
+use Rattle.chanstate.specs.Views.{member_in, members_in, is_op}
+use Rattle.outqueue.specs.declared.queue.Queue.TheVariants.{Mode as mode_queue, Server}
+use Rattle.procs.specs.declared.action.Action.{Action}
+use Rattle.procs.specs.declared.call.Call.{Call}
+use Rattle.procs.specs.Seen.{Seen}
+use Rattle.eggprocs.specs.declared.proc_name.ProcName.TheVariants as which
+use Rattle.eggprocs.specs.Args.{channel_of, mode_change}
+use Rattle.eggprocs.specs.ChannelLaws.{is_reverse, is_gift_to, is_gift, LeavesNobodyBehind, IsOnlyWithoutOp, IsOnlyForOwn, SparesSticky, IsOnlyToBot, IsOnlyForTexts}
+use Rattle.eggprocs.specs.Channel.{put}
+use Rattle.eggprocs.specs.Ctcp.{is_raw, is_request, is_tagged, addressee_of, command_of, text_of, sender_of, untagged, answer_to, answered}
+use Rattle.eggprocs.specs.Cycling.{leaver_of, is_made_again, lacks_op, is_self_or, is_left_alone, cycled}
+use Rattle.eggprocs.specs.Dynamic.{is_sticky, later_lift, lifted_at}
+use Rattle.eggprocs.specs.Ends.{call_on}
+use Rattle.eggprocs.specs.Everyone.{is_own_nick, flags_of_member}
+use Rattle.eggprocs.specs.Keeping.{is_change_here, is_by_bot, is_change_by_untrusted}
+use Rattle.eggprocs.specs.Laws.{IsOnlyByOps, IsOnlyForOthers, LeavesTrusted, DoesOnly, has_one_of, op_letters, is_line, is_line_in_turn}
+use Rattle.eggprocs.specs.Lines.{mode, plain_mode, part, join}
+use Rattle.eggprocs.specs.Modes.{other_sign, is_plain, undoing, undone}
+use Rattle.eggprocs.specs.Needs.{needed_on, needed_by, may_give, op_for}
+use Rattle.eggprocs.specs.Procs.{wanted_by}
+use Rattle.eggprocs.specs.Rights.{has_bot, has_op, is_bot_op}
+use Rattle.eggprocs.proofs.KeepingLemmas.{false-and, nothing-if, by_untrusted-bot, by_untrusted-own, by_untrusted-trusted, is_change_here-bot, is_line-put, lone-line, test-kept}
+use Rattle.eggprocs.proofs.LawLemmas.{and-false, alone-kept, shares-kept, does-nothing, has_one_of-ops}
+
+-- ---- modes
+
+keepmodes-none : (call : Call) (seen : Seen) → is_change_by_untrusted (mode_change call) call seen ≡ false → wanted_by which.KeepModes call seen ≡ []
+unfolding wanted_by
+keepmodes-none call seen =
+    nothing-if (is_change_by_untrusted (mode_change call) call seen) (undone call (undoing seen.sight.channels.support (mode_change call)))
+
+pub keepmodes-bot : IsOnlyByOps (codes "keepmodes")
+keepmodes-bot call seen denied =
+    does-nothing which.KeepModes call seen (keepmodes-none call seen (by_untrusted-bot (mode_change call) call seen denied))
+
+pub keepmodes-own : IsOnlyForOthers (codes "keepmodes")
+keepmodes-own call seen own = does-nothing which.KeepModes call seen (keepmodes-none call seen (by_untrusted-own (mode_change call) call seen own))
+
+pub keepmodes-trusted : LeavesTrusted (codes "keepmodes")
+keepmodes-trusted call seen trusted =
+    does-nothing which.KeepModes call seen (keepmodes-none call seen (by_untrusted-trusted (mode_change call) call seen trusted))
+
+-- the reverse of a change is that line, and the mode is a plain one
+reverse-only : (may plain : Bool) (call : Call) (change : List ℕ)
+    → list_all (λ action. plain && is_line_in_turn (plain_mode (channel_of call) change) action)
+    (if may then undone call (if plain then Some change else None) else []) ≡ true
+reverse-only false plain call change = refl
+reverse-only true false call change = refl
+reverse-only true true call change = lone-line true (plain_mode (channel_of call) change)
+
+pub keepmodes-only : DoesOnly is_reverse (codes "keepmodes")
+unfolding wanted_by
+keepmodes-only call seen =
+    let change : List ℕ = other_sign (slice_index (mode_change call) 0) ∷ slice_index (mode_change call) 1 ∷ [] in
+    shares-kept which.KeepModes call seen (is_reverse call seen)
+    (test-kept call seen (is_plain seen.sight.channels.support (mode_change call)) (plain_mode (channel_of call) change))
+    (reverse-only (is_change_by_untrusted (mode_change call) call seen) (is_plain seen.sight.channels.support (mode_change call)) call change)
+
+-- ---- a channel without operators
+
+cycled-none : (leaver : List ℕ) (call : Call) (seen : Seen) → is_left_alone leaver call seen ≡ false → cycled (Some leaver) call seen ≡ []
+cycled-none leaver call seen none =
+    nothing-if (is_made_again (channel_of call) && is_left_alone leaver call seen)
+    (put Server (part (channel_of call)) ∷ put Server (join (channel_of call)) ∷ [])
+    (and-false (is_made_again (channel_of call)) (is_left_alone leaver call seen) none)
+
+pub cycle-alone : LeavesNobodyBehind (codes "cycle")
+unfolding wanted_by
+cycle-alone call seen leaver by some =
+    let own : Option Member = member_in (channel_of call) seen.sight.channels.nick seen.sight.channels in
+    does-nothing which.Cycle call seen
+    (ap (λ (named : Option (List ℕ)). cycled named call seen) by
+    ∙ cycled-none leaver call seen
+    (and-false (not (is_own_nick seen leaver) && lacks_op own) (list_all (is_self_or leaver seen) (members_in (channel_of call) seen.sight.channels)) some))
+
+lacks_op-none : (member : Option Member) → is_op member ≡ true → lacks_op member ≡ false
+lacks_op-none None is = refl
+lacks_op-none (Some member) is = ap not is
+
+cycled-op : (leaver : Option (List ℕ)) (call : Call) (seen : Seen) → is_bot_op call seen ≡ true → cycled leaver call seen ≡ []
+cycled-op None call seen is = refl
+cycled-op (Some leaver) call seen is =
+    let own : Option Member = member_in (channel_of call) seen.sight.channels.nick seen.sight.channels in
+    cycled-none leaver call seen
+    (false-and (not (is_own_nick seen leaver) && lacks_op own) (list_all (is_self_or leaver seen) (members_in (channel_of call) seen.sight.channels))
+    (and-false (not (is_own_nick seen leaver)) (lacks_op own) (lacks_op-none own is)))
+
+pub cycle-without_op : IsOnlyWithoutOp (codes "cycle")
+unfolding wanted_by
+cycle-without_op call seen is = does-nothing which.Cycle call seen (cycled-op (leaver_of call) call seen is)
+
+-- ---- the bot's own bans
+
+dynamic-none : (call : Call) (seen : Seen) → (is_change_here (codes "+b") call seen && is_by_bot call seen) ≡ false → wanted_by which.DynamicBans call seen ≡ []
+unfolding wanted_by
+dynamic-none call seen = nothing-if (is_change_here (codes "+b") call seen && is_by_bot call seen) (lifted_at seen.second call seen)
+
+pub dynamicbans-bot : IsOnlyByOps (codes "dynamicbans")
+dynamicbans-bot call seen denied =
+    does-nothing which.DynamicBans call seen
+    (dynamic-none call seen (false-and (is_change_here (codes "+b") call seen) (is_by_bot call seen) (is_change_here-bot (codes "+b") call seen denied)))
+
+pub dynamicbans-own : IsOnlyForOwn (codes "dynamicbans")
+dynamicbans-own call seen other =
+    does-nothing which.DynamicBans call seen (dynamic-none call seen (and-false (is_change_here (codes "+b") call seen) (is_by_bot call seen) other))
+
+lifted-sticky : (test sticky : Bool) (action : Action) → sticky ≡ true → (if test then (if sticky then [] else action ∷ []) else []) ≡ []
+lifted-sticky false sticky action is = refl
+lifted-sticky true sticky action is = ap (λ (b : Bool). if b then [] else action ∷ []) is
+
+pub dynamicbans-sticky : SparesSticky (codes "dynamicbans")
+unfolding wanted_by
+dynamicbans-sticky call seen second at is =
+    let test : Bool = is_change_here (codes "+b") call seen && is_by_bot call seen in
+    does-nothing which.DynamicBans call seen
+    (ap (λ (shown : Option ℕ). if test then lifted_at shown call seen else []) at ∙ lifted-sticky test (is_sticky second call seen) (later_lift call) is)
+
+-- ---- op for other bots
+
+lone-put : (test : Bool) (line : List ℕ) → list_all (λ action. test && is_line line action) (if test then put mode_queue line ∷ [] else []) ≡ true
+lone-put false line = refl
+lone-put true line = ap (λ (b : Bool). b && true) (is_line-put line)
+
+gift-only : (may : Bool) (channel : List ℕ) (member : Option Member) (seen : Seen)
+    → list_all (is_gift_to channel member seen) (if may then op_for channel member seen else []) ≡ true
+gift-only false channel member seen = refl
+gift-only true channel None seen = refl
+gift-only true channel (Some member) seen =
+    let flags : PersonFlags = flags_of_member (call_on channel) seen member in
+    let line : List ℕ = mode channel (codes "+o") member.nick in
+    ap (λ (known : Bool). list_all (λ action. (has_bot flags && known) && is_line line action) (if has_bot flags && has_op flags then put mode_queue line ∷ [] else []))
+    (has_one_of-ops flags)
+    ∙ lone-put (has_bot flags && has_op flags) line
+
+pub giveop-only : DoesOnly is_gift (codes "giveop")
+unfolding wanted_by
+giveop-only call seen reply kept =
+    ap (list_all (is_gift call seen)) (alone-kept which.GiveOp call seen reply refl kept)
+    ∙ gift-only (may_give call seen) (needed_on call)
+    (member_in (needed_on call) (needed_by call) seen.sight.channels) seen
+
+-- ---- requests of other programs
+
+ctcp-none : (call : Call) (seen : Seen) → is_request call seen ≡ false → wanted_by which.Ctcp call seen ≡ []
+unfolding wanted_by
+ctcp-none call seen = nothing-if (is_request call seen) (answered (sender_of call) (answer_to (untagged (text_of call)) seen.second))
+
+pub ctcp-own : IsOnlyToBot (codes "ctcp")
+ctcp-own call seen other =
+    let command : Bool = is_raw call.kind && bytes_eq (command_of call) (codes "PRIVMSG") in
+    let own : Bool = is_own_nick seen (addressee_of call) in
+    does-nothing which.Ctcp call seen
+    (ctcp-none call seen (and-false command (own && is_tagged (text_of call)) (false-and own (is_tagged (text_of call)) other)))
+
+pub ctcp-texts : IsOnlyForTexts (codes "ctcp")
+ctcp-texts call seen other =
+    let command : Bool = bytes_eq (command_of call) (codes "PRIVMSG") in
+    does-nothing which.Ctcp call seen
+    (ctcp-none call seen
+    (false-and (is_raw call.kind && command) (is_own_nick seen (addressee_of call) && is_tagged (text_of call)) (and-false (is_raw call.kind) command other)))

@@ -1,0 +1,4 @@
+pub mod Speaking
+pub mod Windows
+pub mod Watching
+pub mod Sifting
