@@ -217,11 +217,11 @@ def lines_of(end):
 
 
 class Guest:
-    """A person at a server, by a bare socket. What it hears it keeps, line by line; a PING is answered."""
+    """A person at a server, by a bare socket, from an address. What it hears it keeps, line by line; a PING is answered."""
 
-    def __init__(self, server, nick, user=None):
+    def __init__(self, server, nick, user=None, address="127.0.0.1"):
         self.nick, self.lines, self.is_open = nick, [], True
-        self.socket = socket.create_connection(("127.0.0.1", server.port), PATIENCE)
+        self.socket = socket.create_connection(("127.0.0.1", server.port), PATIENCE, (address, 0))
         self.socket.settimeout(None)
         if server.password:
             self.say("PASS guest")

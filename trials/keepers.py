@@ -89,15 +89,21 @@ class Side:
         found = [re.match(rf":([^!]+)!\S+ ((?:MODE|KICK) {self.channel} .+)", line) for line in self.chief.lines[since:]]
         return [act for it in found if it and it[1] in self.nicks for act in acts_of(it[2].split())]
 
-    def tried(self, what, does, wanted, soon=SOON, quiet=QUIET):
-        """Has something happen, and judges what the bots do then: what is wanted, soon, and each act once."""
+    def tried(self, what, does, wanted, soon=SOON, quiet=QUIET, by_each=False):
+        """Has something happen, and judges what the bots do then: what is wanted, soon, and each act once, or once by each
+        bot. How many seconds it took; none if something is lacking."""
         mark, since, began = self.mark(), len(self.chief.lines), time.monotonic()
         does()
         comes(lambda: set(wanted(since)) <= set(self.seen(since)), soon + 20)
         took = time.monotonic() - began
         lacking = set(wanted(since)) - set(self.seen(since))
         time.sleep(quiet)
-        self.judge(what, lacking, took, soon, self.sent(mark), Counter(wanted(since)))
+        if by_each:
+            self.judge(what, lacking, took, soon, [], Counter())
+            self.judge_each(what, mark)
+        else:
+            self.judge(what, lacking, took, soon, self.sent(mark), Counter(wanted(since)))
+        return None if lacking else took
 
     def say(self, text):
         self.tally.say(f"{self.server.name}: {self.name}: {text}")
@@ -145,11 +151,22 @@ class Ours(Side):
     def mark(self):
         return [len(it.logged()) for it in self.bots]
 
+    def lines(self, mark):
+        """Who sent which MODE or KICK since a mark."""
+        return [(bot.nick, line) for bot, place in zip(self.bots, mark)
+                for line in re.findall(rf"^\d+ > ((?:MODE|KICK) {self.channel} \S.*)", bot.logged()[place:], re.M)]
+
     def sent(self, mark):
         """Who sent which act since a mark."""
-        return [(bot.nick, act) for bot, place in zip(self.bots, mark)
-                for line in re.findall(rf"^\d+ > ((?:MODE|KICK) {self.channel} \S.*)", bot.logged()[place:], re.M)
-                for act in acts_of(line.split())]
+        return [(nick, act) for nick, line in self.lines(mark) for act in acts_of(line.split())]
+
+    def judge_each(self, what, mark):
+        """Waits until the bots have sent all that waits, and notes whether each has sent each line once at most."""
+        sent = self.lines(mark)
+        while comes(lambda: len(self.lines(mark)) > len(sent), QUIET / 4):
+            sent = self.lines(mark)
+        wrong = [f"{nick}: {line} {count} times" for (nick, line), count in Counter(sent).items() if count > 1]
+        self.note(f"{what}: each bot sends each line once at most", not wrong, "; ".join([f"{len(sent)} sent", *wrong])[:300])
 
     def judge(self, what, lacking, took, soon, sent, wanted):
         """Notes whether all was done soon, and whether each act was sent once."""
@@ -195,6 +212,10 @@ class Theirs(Side):
 
     def sent(self, mark):
         return [("drop", act) for act in self.seen(mark)]
+
+    def judge_each(self, what, mark):
+        """Tells what it did."""
+        self.say(f"{what}: {', '.join(act for _, act in self.sent(mark))}"[:300])
 
     def judge(self, what, lacking, took, _, sent, __):
         """Tells what it did."""

@@ -9,8 +9,10 @@ and an Eggdrop is op on another one. The same happens on each: three ops of the 
 with op takes op from three ops, bans a bot and an op, and changes modes; twenty strangers under one recorded ban join; a bot is left
 alone on a channel without op; an op bans somebody for a minute, and all bots are killed and started again in that minute. Of our
 net, a leaf loses op too, and the bot that acts first is stopped. Each time the bots answer soon, and all their logs together have
-one MODE or KICK for each thing to do. What Eggdrop does is told, and counts as nothing. So does what none of our procs promises: to
-take off a stranger's key, or the op that a master gave him.
+one MODE or KICK for each thing to do. The twenty strangers are more than the first bot can kick in the five seconds after which the
+next one looks, so several bots kick them: none sends a line twice, and they are out as fast as from Eggdrop's channel.
+What else Eggdrop does is told, and counts as nothing. So does what none of our procs promises: to take off a stranger's key, or the
+op that a master gave him.
 The last line is 'N well, M bad'; the status is 1 where any is bad.
 """
 import re
@@ -28,6 +30,8 @@ from bots import Guest, Inspircd, Ngircd, Tally, comes, end_all, program_of
 from keepers import BACK, OPS, QUIET, SOON, Ours, Theirs
 
 CLONES = 20
+TOOK = {}  # the seconds in which a side kicked the clones at a server, for each who got in
+SLOWER = 1.1  # how much longer our bots may take for a kick
 
 
 def deops(side):
@@ -63,7 +67,7 @@ def modes(side):
 
 
 def clones(side):
-    """Strangers under a recorded ban join: who gets in is kicked, and the ban is set once."""
+    """Strangers under a recorded ban join: who gets in is kicked. How many seconds each of these takes stands in TOOK."""
     them = [Guest(side.server, f"clone{number}{side.end}") for number in range(CLONES)]
 
     def join():
@@ -75,7 +79,11 @@ def clones(side):
         joins = [re.match(rf":(clone\w+)!\S+ JOIN :?{side.channel}$", line) for line in side.chief.lines[since:]]
         return ["+b clone*!*@*", *[f"KICK {it[1]}" for it in joins if it]]
     try:
-        side.tried(f"{CLONES} clones join", join, wanted, 60)
+        before = len(side.chief.lines)
+        took = side.tried(f"{CLONES} clones join", join, wanted, 60, by_each=True)
+        got_in = len(wanted(before)) - 1
+        side.say(f"{got_in} clones got in")
+        TOOK[side.server.name, side.name] = took and took / max(got_in, 1)
     finally:
         end_all(*them)
 
@@ -163,6 +171,11 @@ def main(words):
             it.start()
         for it in threads:
             it.join()
+        for it in servers:
+            ours, theirs = (TOOK.get((it.name, side)) for side in ("ours", "Eggdrop"))
+            if theirs:
+                shown = " and ".join("never" if took is None else f"{took:.2f} s" for took in (ours, theirs))
+                tally.note(f"{it.name}: the clones are out as fast as Eggdrop's", bool(ours) and ours <= theirs * SLOWER, f"{shown} for each")
         end_all(*servers)
     return tally.end()
 

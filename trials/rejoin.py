@@ -39,6 +39,7 @@ NAMES = {"#parted": "a PART in its name", "#kicked": "a KICK", "#unanswered": "n
 TIMES = 2  # each is refused, and the bot is taken off, so often
 SOON = 70  # seconds
 IN_ADVANCE = 12  # lines
+REST = 8  # seconds before the welcome, so that the lines of a registration no longer count for the pace
 
 
 class Refusing(SmallServer):
@@ -47,6 +48,11 @@ class Refusing(SmallServer):
     def __init__(self):
         super().__init__()
         self.joins = {}
+
+    def answer(self, visitor, line):
+        if line.startswith("USER "):
+            time.sleep(REST)
+        super().answer(visitor, line)
 
     def join(self, visitor, channel):
         joins = self.joins.setdefault(channel, [])

@@ -8,8 +8,9 @@ by SCRAM-SHA-256 and SCRAM-SHA-512 (RFC 5802, RFC 7677) made of Python's hashlib
 lets it: with either hash, with many iterations, after another mechanism failed, by EXTERNAL. It never goes on without its
 login: a wrong password, no login offered, no mechanism that may be used, a server that lets it in at once, services that do
 not answer, a server that does not know the password, and one without capabilities each end the connection with a line of the
-log that says what to do, and the next server is tried. The password is in no line of the connection and in no line of the log,
-which shows all lines. A bot without an account says what it always said, at a server with capabilities too.
+log that says what to do, and the next server is tried. The password is in no line of a connection without a plus and in no line
+of the log, which shows all lines. Through a tunnel the bot logs in by PLAIN too, where nothing better is offered. A bot without an
+account asks for those capabilities that it goes by and the server offers, and for nothing else, and ends the negotiation.
 The last line is 'N well, M bad'; the status is 1 where any is bad.
 """
 import base64
@@ -17,8 +18,10 @@ import hashlib
 import hmac
 import os
 import re
+import socket
 import sys
 import tempfile
+import threading
 import time
 from pathlib import Path
 
@@ -38,10 +41,10 @@ def b64(text):
 class Services(SmallServer):
     """The small server with capabilities and a login; `offers` is what it says of sasl, none for a server without CAP."""
 
-    def __init__(self, offers="sasl=PLAIN,SCRAM-SHA-256,SCRAM-SHA-512,EXTERNAL", *, password=PASSWORD, count=4096, rejects=(), lies=False, hurries=False,
+    def __init__(self, offers="sasl=PLAIN,SCRAM-SHA-256,SCRAM-SHA-512,EXTERNAL", *, also=("account-notify away-notify", "multi-prefix"), password=PASSWORD, count=4096, rejects=(), lies=False, hurries=False,
                  is_silent=False, external=False):
         super().__init__()
-        self.offers, self.known, self.count, self.rejects = offers, password, count, rejects
+        self.offers, self.also, self.known, self.count, self.rejects = offers, also, password, count, rejects
         self.lies, self.hurries, self.is_silent, self.external = lies, hurries, is_silent, external
         self.exchange, self.logins, self.bad = {}, [], []
 
@@ -64,7 +67,7 @@ class Services(SmallServer):
         if self.offers is None:
             visitor.say(f":{NAME} 421 {visitor.nick} CAP :Unknown command")
         elif rest.startswith("LS"):
-            visitor.say(f":{NAME} CAP {visitor.nick} LS * :account-notify away-notify", f":{NAME} CAP {visitor.nick} LS :multi-prefix {self.offers}")
+            visitor.say(f":{NAME} CAP {visitor.nick} LS * :{self.also[0]}", f":{NAME} CAP {visitor.nick} LS :{self.also[1]} {self.offers}")
         elif rest.startswith("REQ"):
             visitor.say(f":{NAME} CAP {visitor.nick} ACK {rest.partition(' ')[2]}")
         elif rest == "END" and hasattr(visitor, "user"):
@@ -82,6 +85,8 @@ class Services(SmallServer):
                 visitor.say("AUTHENTICATE +")
         elif exchange.get("mechanism") == "EXTERNAL":
             self.end(visitor, self.external and rest == "+")
+        elif exchange.get("mechanism") == "PLAIN":
+            self.end(visitor, rest == b64(f"\0{ACCOUNT}\0{self.known}".encode()))
         elif exchange.get("mechanism") in HASHES:
             self.scram(visitor, exchange, rest)
         else:
@@ -138,6 +143,48 @@ def is_secret_kept(bot, server):
     return not any(it in text for text in (told, bot.logged()) for it in (PASSWORD, plain, b64(PASSWORD.encode()))) and not re.search("AUTHENTICATE [^\n]", bot.logged())
 
 
+class Tunnel:
+    """What stands at the socket of a bot's tunnel, and passes on to the server what comes there."""
+
+    host, password = "localhost", ""
+
+    def __init__(self, server):
+        self.server, self.port, self.door = server, f"+{server.port}", None
+
+    def listen(self, bot):
+        """Listens as soon as the bot has its folder."""
+        path = Path(bot.folder) / "tls" / f"localhost_{self.server.port}"
+        comes(lambda: os.path.isdir(bot.folder))
+        path.parent.mkdir(mode=0o700, exist_ok=True)
+        self.door = socket.socket(socket.AF_UNIX)
+        self.door.bind(str(path))
+        self.door.listen()
+        threading.Thread(target=self.let_in, daemon=True).start()
+
+    def let_in(self):
+        while True:
+            try:
+                near, _ = self.door.accept()
+            except OSError:
+                return
+            far = socket.create_connection((self.server.host, self.server.port))
+            for one, other in ((near, far), (far, near)):
+                threading.Thread(target=self.pass_on, args=(one, other), daemon=True).start()
+
+    @staticmethod
+    def pass_on(one, other):
+        try:
+            while piece := one.recv(4096):
+                other.sendall(piece)
+            other.shutdown(socket.SHUT_WR)
+        except OSError:
+            pass
+
+    def stop(self):
+        if self.door:
+            self.door.close()
+
+
 class Trial:
     def __init__(self, program, tally, room):
         self.program, self.tally, self.room, self.count = program, tally, room, 0
@@ -180,16 +227,33 @@ class Trial:
         finally:
             end_all(bot, server, after)
 
-    def alone(self, what, **how):
-        """A bot without an account, which says nothing of a login."""
+    def alone(self, what, asks, **how):
+        """A bot without an account, which asks for capabilities, and says nothing of a login."""
         server = Services(**how)
         bot = self.bot(server, account=False)
         try:
             on = comes(lambda: any(it.said("^JOIN #eggs") for it in server.visitors))
             lines = [line for it in server.visitors for _, line in it.lines]
-            self.tally.note(f"{what}: it joins, and says nothing of capabilities", bool(on) and lines[:1] == ["NICK egg"] and not any(re.match("CAP|AUTH", it) for it in lines), lines[:3])
+            self.tally.note(f"{what}: it joins", bool(on), bot.logged()[-400:] if not on else "")
+            self.tally.note(f"{what}: CAP LS 302 is its first line", lines[:2] == ["CAP LS 302", "NICK egg"], lines[:3])
+            self.tally.note(f"{what}: of capabilities and a login it says this alone", [it for it in lines if re.match("CAP|AUTH", it)] == ["CAP LS 302", *asks], lines[:6])
+            self.tally.note(f"{what}: the log says nothing of a login", "accepts the login" not in bot.logged())
         finally:
             end_all(bot, server)
+
+    def private(self, what, **how):
+        """The bot logs in by PLAIN, through a tunnel."""
+        server = Services(**how)
+        tunnel = Tunnel(server)
+        bot = self.bot(tunnel)
+        tunnel.listen(bot)
+        try:
+            on = comes(lambda: any(it.said("^JOIN #eggs") for it in server.visitors), LONG)
+            self.tally.note(f"{what}: it logs in and joins", bool(on), bot.logged()[-400:] if not on else f"by {server.logins}")
+            self.tally.note(f"{what}: by PLAIN, once", server.logins == ["PLAIN"] and not server.bad, (server.logins, server.bad))
+            self.tally.note(f"{what}: the log has no password", not any(it in bot.logged() for it in (PASSWORD, b64(f"\0{ACCOUNT}\0{PASSWORD}".encode()))))
+        finally:
+            end_all(bot, server, tunnel)
 
     def refused(self, what, says, text=None, path=None):
         """The bot does not start."""
@@ -219,8 +283,11 @@ def tried(trial, room):
     trial.fails("a server without the password", "server lost: the server does not show that it knows the password", password="another", lies=True)
     trial.fails("no CAP", "server lost: the server knows no logins", offers=None)
     trial.fails("services that do not answer", "server lost: it did not welcome the bot for 60 seconds", is_silent=True)
-    trial.alone("without an account, a server with CAP")
-    trial.alone("without an account, no CAP", offers=None)
+    trial.private("PLAIN alone, through a tunnel", offers="sasl=PLAIN")
+    trial.private("PLAIN after both hashes, through a tunnel", rejects=[*HASHES, "EXTERNAL"])
+    trial.alone("without an account, a server with CAP", ["CAP REQ :account-notify multi-prefix", "CAP END"])
+    trial.alone("without an account, a server with other capabilities", ["CAP END"], offers="sasl", also=("away-notify", "batch"))
+    trial.alone("without an account, no CAP", [], offers=None)
     trial.refused("an empty file", "the account's password must have 1 to 255 bytes", b"\n")
     trial.refused("a long password", "the account's password must have 1 to 255 bytes", b"x" * 256 + b"\n")
     trial.refused("a password beyond ASCII", "letters, digits, spaces and signs of ASCII alone", "pässword\n".encode())

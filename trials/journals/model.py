@@ -49,8 +49,8 @@ def is_account(text):
 
 
 def is_person(text):
-    """nick!user@host."""
-    return is_mask(text) and not is_account(text) and not any(b in b"*?" for b in text)
+    """nick!user@host, or $a:NAME."""
+    return is_mask(text) and not any(b in b"*?" for b in text)
 
 
 def is_channel(text):

@@ -6,7 +6,7 @@ use Rattle.procs.specs.declared.action.Action.{Action}
 use Rattle.procs.specs.declared.action.Action.TheVariants.{Ask, Timer, Utimer, KillTimer, SendBot, Put}
 use Rattle.procs.specs.declared.call.Call.{Call}
 use Rattle.procs.specs.declared.call_kind.CallKind.{CallKind}
-use Rattle.procs.specs.declared.call_kind.CallKind.TheVariants.{Raw, Msg, Msgm, Notc, Pub, Pubm, Join, Part, Sign, Kick, Nick, Mode, Topc}
+use Rattle.procs.specs.declared.call_kind.CallKind.TheVariants.{Raw, Msg, Msgm, Notc, Pub, Pubm, Join, Part, Sign, Kick, Nick, Mode, Topc, Account}
 use Rattle.procs.specs.declared.call_kind.CallKind.TheVariants.{Bot, Time, Cron, Timer as timer_kind}
 use Rattle.procs.specs.declared.made_call.MadeCall.{MadeCall}
 use Rattle.sharewire.specs.declared.packet.Packet.{Packet}
@@ -80,6 +80,7 @@ is_spoken Kick = false
 is_spoken Nick = false
 is_spoken Mode = false
 is_spoken Topc = false
+is_spoken Account = false
 is_spoken Bot = false
 is_spoken Time = false
 is_spoken Cron = false

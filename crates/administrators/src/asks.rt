@@ -194,6 +194,7 @@ fn is_spoken(kind: CallKind) -> bool
         | CallKind::Nick
         | CallKind::Mode
         | CallKind::Topc
+        | CallKind::Account
         | CallKind::Bot
         | CallKind::Time
         | CallKind::Cron

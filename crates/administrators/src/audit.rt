@@ -7,7 +7,7 @@ use sharewire::Packet;
 
 /// Who asked a proc for a change: the event's first three arguments, if they name a person.
 #[derive(Clone, Copy)]
-pub struct Requester<'a> {
+pub struct IrcCaller<'a> {
     /// The nick.
     pub nick: &'a [u8],
     /// `user@host`.
@@ -16,7 +16,7 @@ pub struct Requester<'a> {
     pub handle: &'a [u8],
 }
 
-impl Requester<'_> {
+impl IrcCaller<'_> {
     // Whether this is the person, who is written as `nick!user@host`.
     pub(crate) fn is_person(&self, person: &[u8]) -> bool {
         let Some([b'!', host @ ..]) = person.strip_prefix(self.nick) else {
@@ -64,12 +64,12 @@ fn log_accepted(log: &mut Log, packets: &[Outgoing], now: u64) {
 }
 
 // Returns who caused a call, if a person did.
-fn requester_of(call: &MadeCall) -> Option<Requester<'_>> {
+fn requester_of(call: &MadeCall) -> Option<IrcCaller<'_>> {
     if !names_person(call.call.kind) {
         return None;
     }
     match call.call.args.as_slice() {
-        [nick, host, handle, ..] => Some(Requester {
+        [nick, host, handle, ..] => Some(IrcCaller {
             nick: nick.as_bytes(),
             host: host.as_bytes(),
             handle: handle.as_bytes(),
@@ -92,7 +92,8 @@ fn names_person(kind: CallKind) -> bool {
         | CallKind::Kick
         | CallKind::Nick
         | CallKind::Mode
-        | CallKind::Topc => true,
+        | CallKind::Topc
+        | CallKind::Account => true,
         CallKind::Raw | CallKind::Bot | CallKind::Time | CallKind::Cron | CallKind::Timer => false,
     }
 }

@@ -43,7 +43,7 @@ pub use crate::answers::{
     refused_answer,
 };
 pub use crate::asks::{Asks, Recipient, asks_in, is_ask_fault};
-pub use crate::audit::{Requester, log_changes};
+pub use crate::audit::{IrcCaller, log_changes};
 pub use crate::change_outcome::ChangeOutcome;
 pub use crate::change_words::ChangeWords;
 pub use crate::log_entry::LogEntry;

@@ -1,5 +1,5 @@
 // What the log says, except about the server.
-use crate::audit::Requester;
+use crate::audit::IrcCaller;
 use crate::change_words::{Acceptance, EditWords, NameWords};
 use serverlink::{Shown, put};
 use std::fmt;
@@ -32,7 +32,7 @@ pub enum LogEntry<'a> {
     /// An admin asks for this.
     Asked(&'a [u8]),
     /// A person on IRC asks a proc for this change.
-    AskedOnIrc(Requester<'a>, &'a Change),
+    AskedOnIrc(IrcCaller<'a>, &'a Change),
     /// This proc asks for the change by itself.
     AskedByProc(&'a [u8], &'a Change),
     /// What a hub accepted under this number, and the bot that asked for it.
@@ -111,7 +111,7 @@ fn put_left_out<W: fmt::Write>(f: &mut fmt::Formatter<W>, word: &str, proc: &[u8
 
 fn put_asked_on_irc<W: fmt::Write>(
     f: &mut fmt::Formatter<W>,
-    source: Requester<'_>,
+    source: IrcCaller<'_>,
     change: &Change,
 ) -> fmt::Result {
     put(f, "asked on IRC by ", &Shown(source.nick))?;

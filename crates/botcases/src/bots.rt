@@ -56,6 +56,7 @@ fn config_of(
         channels: Texts::new(copies_of(alloc, channels)?),
         exclusive: false,
         sends_at_once: false,
+        leaves_bans: false,
         zone,
     })
 }
@@ -129,6 +130,7 @@ pub fn bot_of(alloc: Global, number: u16, setting: &[u8]) -> Result<Bot<MemDisk>
         channels: Texts::empty(alloc),
         exclusive,
         sends_at_once,
+        leaves_bans: false,
         zone: Zone::fixed(0).unwrap(),
     };
     match new_bot(alloc, config) {
@@ -257,6 +259,7 @@ fn word_of(kind: CallKind) -> &'static [u8] {
         CallKind::Nick => b"nick",
         CallKind::Mode => b"mode",
         CallKind::Topc => b"topc",
+        CallKind::Account => b"account",
         CallKind::Bot => b"bot",
         CallKind::Time => b"time",
         CallKind::Cron => b"cron",

@@ -112,6 +112,7 @@ fn hub_of(alloc: Global, leaves: u16) -> Result<Bot<MemDisk>, CaseError> {
         channels: Texts::empty(alloc),
         exclusive: false,
         sends_at_once: false,
+        leaves_bans: false,
         zone: Zone::fixed(0).unwrap(),
     };
     match Bot::create(alloc, config, MemDisk::new(alloc), MemDisk::new(alloc)) {

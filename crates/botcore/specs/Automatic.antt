@@ -173,6 +173,11 @@ mode_wishes bans now who params s =
 
 -- ---- any message
 
+-- a bot that leaves bans to its procs queues no lines for them by itself
+unfoldable pub unless_left : Bool → List PutWish → List PutWish
+unless_left true wishes = []
+unless_left false wishes = wishes
+
 -- which message makes the bot queue lines, by the command
 abbrev pub numeric_cue : Numeric → WatchedCommand
 numeric_cue Welcome = cue.RplWelcome
@@ -219,10 +224,12 @@ abbrev pub lines_by : WatchedCommand → Config → ChanState → List Ban → O
 lines_by cue.Ping config s bans last welcomed message =
     if_there (slice_get message.params 0) (λ text. pong_wish text ∷ [])
 lines_by cue.Join config s bans last welcomed message =
-    flat_map (barred (mapping_of s) bans (unwrap_or last 0) (source_of message.prefix))
-    (watched (source_of message.prefix) message.params s)
+    unless_left config.leaves_bans
+    (flat_map (barred (mapping_of s) bans (unwrap_or last 0) (source_of message.prefix))
+    (watched (source_of message.prefix) message.params s))
 lines_by cue.Mode config s bans last welcomed message =
-    mode_wishes bans (unwrap_or last 0) (source_of message.prefix) message.params (after message s)
+    unless_left config.leaves_bans
+    (mode_wishes bans (unwrap_or last 0) (source_of message.prefix) message.params (after message s))
 lines_by cue.RplWelcome config s bans last welcomed message =
     if_there (slice_get message.params 0) (λ nick. map join_wish config.channels)
 lines_by cue.ErrNicknameInUse config s bans last welcomed message = other_nick welcomed message.params

@@ -26,6 +26,7 @@ impl<D: Disk> Bot<D> {
 
     // Returns the lines that a bot queues for a message, by its channels before the message. It does not allocate if
     // there are none and nobody else joins a channel on which the bot is op.
+    #[tactic(auto, unfolding(crate::specs::Automatic::unless_left))]
     pub(crate) fn automatic_lines(
         &self,
         alloc: Global,
@@ -42,27 +43,29 @@ impl<D: Disk> Bot<D> {
         match cue_of(message.command.as_bytes()) {
             WatchedCommand::Ping => answer(alloc, params),
             WatchedCommand::Join => {
-                let from = source(message.prefix.as_bytes());
-                let now = self.clock.last().unwrap_or(0);
+                if self.config.leaves_bans {
+                    return Ok(Vec::new(alloc));
+                }
                 on_join(
                     alloc,
-                    from,
+                    source(message.prefix.as_bytes()),
                     params,
                     self.channels.current(),
                     self.userfile(),
-                    now,
+                    self.clock.last().unwrap_or(0),
                 )
             }
             WatchedCommand::Mode => {
-                let from = source(message.prefix.as_bytes());
-                let now = self.clock.last().unwrap_or(0);
+                if self.config.leaves_bans {
+                    return Ok(Vec::new(alloc));
+                }
                 on_mode(
                     alloc,
-                    from,
+                    source(message.prefix.as_bytes()),
                     params,
                     self.channels.current(),
                     self.userfile(),
-                    now,
+                    self.clock.last().unwrap_or(0),
                 )
             }
             WatchedCommand::RplWelcome => join_all(alloc, params, self.config.channels.as_slice()),

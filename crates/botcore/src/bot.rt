@@ -80,7 +80,7 @@ impl<D: Disk> Bot<D> {
     ghost use Rattle.sharelink.specs.BotLinks.{MayLeave};
     ghost use Rattle.sharelink.specs.Telling.{end_tail, end_last_request, end_last_reply, end_held};
     ghost use Rattle.botcore.specs.Links.{ask_count, link_records, link_version};
-    ghost use Rattle.chanstate.specs.Views.{is_op, mapping_of, member_in};
+    ghost use Rattle.chanstate.specs.Views.{account_in, is_op, mapping_of, member_in};
 
     /// Returns the configuration with which the bot was made.
     pub fn config(&self) -> &Config
@@ -168,6 +168,14 @@ impl<D: Disk> Bot<D> {
         ensures { result ≡ mapping_of self.now.channels }
     {
         self.channels.current().casemapping()
+    }
+
+    /// Returns the account of the network's services under which the member of this `nick` is logged in, as far as its
+    /// server has said; empty if none is known. Does not allocate.
+    pub fn account_of(&self, nick: &[u8]) -> &[u8]
+        ensures { result.now ≡ account_in nick.now self.now.channels }
+    {
+        self.channels.current().account_of(nick)
     }
 
     /// Returns whether it is an operator of `channel`, as far as its server has said.

@@ -32,6 +32,9 @@ pub struct Config {
     /// [`Queues::put_once`](outqueue::Queues::put_once), and the user name is the first 10 letters and digits of the nick,
     /// or `bot` if it has none.
     pub sends_at_once: bool,
+    /// Whether the bot leaves recorded bans to its procs: it then queues no line by itself when somebody joins whom a ban
+    /// keeps off, or when somebody removes a sticky ban from a channel.
+    pub leaves_bans: bool,
     /// How far its clock is ahead of UTC.
     pub zone: Zone,
 }
@@ -46,6 +49,7 @@ impl Drop for Config {
             channels: _,
             exclusive: _,
             sends_at_once: _,
+            leaves_bans: _,
             zone: _,
         } = self;
     }
@@ -79,6 +83,7 @@ impl TryCopy for Config {
             channels,
             exclusive: self.exclusive,
             sends_at_once: self.sends_at_once,
+            leaves_bans: self.leaves_bans,
             zone: self.zone.copy(alloc)?,
         })
     }

@@ -1,10 +1,11 @@
 -- Whom a bot never ignores.
 use Rattle.std.specs.Prelude.{ℕ, Bool, List, [], ◌||◌}
 use Rattle.flagexpr.specs.Letters.{has_letter}
-use Rattle.rfccase.specs.declared.casemappings.Casemapping.{Casemapping}
-use Rattle.userfile.specs.Persons.{flags_of, handle_of}
+use Rattle.userfile.specs.Persons.{flags_of}
 use Rattle.userfile.specs.declared.user.User.{User}
-use Rattle.chanstate.specs.Views.{mapping_of}
+use Rattle.ircline.specs.Sources.{Source, Nobody, Server, Person, source_of}
+use Rattle.chanstate.specs.Views.{account_in, mapping_of}
+use Rattle.procs.specs.Identity.{handle_by}
 use Rattle.botcore.specs.Bots.{Bot}
 use Rattle.botcore.specs.Links.{link_records}
 
@@ -12,10 +13,17 @@ use Rattle.botcore.specs.Links.{link_records}
 abbrev pub is_of_trust : ℕ → Bool
 is_of_trust flags = has_letter flags 109 || (has_letter flags 110 || has_letter flags 111)
 
--- the user whose hostmask decides who the person is has one of these flags
-abbrev pub is_trusted_by : Casemapping → List User → List ℕ → Bool
-is_trusted_by mapping users person = is_of_trust (flags_of users (handle_of mapping users person) []).global
+-- the nick of a person
+abbrev pub nick_in : Source → List ℕ
+nick_in Nobody = []
+nick_in (Server name) = []
+nick_in (Person nick user host) = nick
 
--- the same by a bot's records and its server's casemapping
+-- the handle by which a bot knows a person: by the account that it knows of the nick first, and else by nick!user@host
+abbrev pub handle_at : Bot → List ℕ → List ℕ
+handle_at bot person =
+    handle_by (mapping_of bot.channels) (link_records bot.link).users (account_in (nick_in (source_of person)) bot.channels) person
+
+-- whether a bot trusts a person: the user of that handle has one of these flags
 abbrev pub trusts : Bot → List ℕ → Bool
-trusts bot person = is_trusted_by (mapping_of bot.channels) (link_records bot.link).users person
+trusts bot person = is_of_trust (flags_of (link_records bot.link).users (handle_at bot person) []).global

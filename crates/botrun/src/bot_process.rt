@@ -10,7 +10,7 @@ ghost use Rattle.botrun.specs.Watched.{station_of};
 use crate::others::Others;
 use crate::page_view::serve;
 use crate::process::{Process, Turned};
-use crate::starting::{bind_all, bot_of};
+use crate::starting::{BAN_KEEPER, bind_all, bot_of};
 use administrators::{LogEntry, requests_in};
 use botcore::{BotEvent, End};
 use botfolder::BotFolder;
@@ -124,7 +124,17 @@ where
     warn(log, settings, secret, timeline.read_clocks(rt)?);
     let mut last = 0;
     for _life in 0..u64::MAX {
-        let mut process = begin(rt, &watch, folder, settings, file, secret, last, watcher)?;
+        let mut process = begin(
+            rt,
+            &watch,
+            folder,
+            settings,
+            file,
+            secret,
+            last,
+            store.holds(BAN_KEEPER),
+            watcher,
+        )?;
         bind_all(rt.alloc(), &mut process.bot, store, settings, watcher)?;
         let up = timeline.read_clocks(rt)?;
         look_back(rt.alloc(), &mut process, store, up, watcher)?;
@@ -224,7 +234,7 @@ where
 }
 
 // Creates the process of the bot in a folder. It is not connected to anybody yet. If the folder holds no journal, a
-// leaf's requests are numbered above `last`.
+// leaf's requests are numbered above `last`. `leaves_bans` says whether the bot leaves recorded bans to its procs.
 fn begin<R, W: Watcher>(
     rt: &R,
     watch: &Watch,
@@ -233,6 +243,7 @@ fn begin<R, W: Watcher>(
     file: &str,
     secret: Option<Secret>,
     last: u32,
+    leaves_bans: bool,
     watcher: &mut W,
 ) -> Result<Process, RunError>
 where
@@ -247,7 +258,7 @@ where
         HasBegun (station_of settings.now) (W.past watcher.old) (W.past watcher.new) process.bot) }
 {
     let uplink = uplink_of(rt, settings)?;
-    let bot = bot_of(rt, &folder, settings, last, watcher)?;
+    let bot = bot_of(rt, &folder, settings, last, leaves_bans, watcher)?;
     let links = links_of(
         rt,
         watch.registry(),

@@ -6,12 +6,12 @@ ghost use Rattle.watching.specs.Following.{HasBegun, IsWatched, Lets, StepsQuiet
 ghost use Rattle.botrun.specs.Watched.{station_of};
 
 use crate::binding::new_bind;
-use botcore::{Bot, BotError, BotEvent, BotFault, Config, End, Refusal};
+use botcore::{Bot, BotError, BotEvent, BotFault, Config, End, NewBind, Refusal};
 use botfolder::{Begun, BotFolder, FolderFault};
 use bytejournal::JournalFault;
-use bytetext::{Failure, NoMemory, Texts, TryCopy};
+use bytetext::{Failure, NoMemory, Text, Texts, TryCopy};
 use disks::{FileDisk, Pair};
-use procs::{ProcStore, Promise, Run};
+use procs::{BindKind, ProcStore, Promise, Run};
 use settings::{BindLine, Settings};
 use std::alloc::Global;
 use std::fs::File;
@@ -22,20 +22,24 @@ use turns::watched_step;
 use upkeep::{RunError, begin_net, of_folder, of_line};
 use watching::Watcher;
 
+// The name of the proc to which a bot leaves recorded bans. Only a store that lacks it leaves them to the bot itself.
+pub(crate) const BAN_KEEPER: &[u8] = b"keepbans";
+
 // Opens the bot whose journal the folder holds, or creates it if there is none: then a leaf's requests are numbered above
-// `last`.
+// `last`. `leaves_bans` says whether the bot leaves recorded bans to its procs.
 pub(crate) fn bot_of<R: AllocGlobal + Files<File = File> + RandomSource + Clock, W: Watcher>(
     rt: &R,
     folder: &BotFolder,
     settings: &Settings,
     last: u32,
+    leaves_bans: bool,
     watcher: &mut W,
 ) -> Result<Bot<FileDisk>, RunError>
     requires lets { Lets (MayBegin (station_of settings.now)) W.may (W.past watcher.old) }
     requires numbers { NumbersAbove (W.past watcher.old) last }
     ensures { IfOk result (HasBegun (station_of settings.now) (W.past watcher.old) (W.past watcher.new)) }
 {
-    let config = config_of(rt.alloc(), settings)?;
+    let config = config_of(rt.alloc(), settings, leaves_bans)?;
     match folder.begin(rt) {
         Ok(Begun::Found(disks)) => found(rt.alloc(), config, disks, watcher),
         Ok(Begun::Empty(disks)) => {
@@ -103,7 +107,7 @@ fn made<R: AllocGlobal + Files<File = File>, W: Watcher>(
 
 // The configuration with which the bot is opened or created. The bot itself joins no channel: which those are can change
 // while it runs, so the connection to the server joins all of them.
-fn config_of(alloc: Global, settings: &Settings) -> Result<Config, NoMemory>
+fn config_of(alloc: Global, settings: &Settings, leaves_bans: bool) -> Result<Config, NoMemory>
     ensures { IfOk result (λ config. station_in config ≡ station_of settings.now) }
 {
     Ok(Config {
@@ -113,12 +117,28 @@ fn config_of(alloc: Global, settings: &Settings) -> Result<Config, NoMemory>
         channels: Texts::empty(alloc),
         exclusive: settings.exclusive,
         sends_at_once: true,
+        leaves_bans,
         zone: settings.zone.copy(alloc)?,
     })
 }
 
-// Makes the binds of a configuration.
+// Makes the binds of a configuration, and then those that every bot has.
 pub(crate) fn bind_all<P: Promise, B: Run, W: Watcher>(
+    alloc: Global,
+    bot: &mut Bot<FileDisk>,
+    store: &ProcStore<P, B>,
+    settings: &Settings,
+    watcher: &mut W,
+) -> Result<(), RunError>
+    requires watched { IsWatched P.promised store.now W.may (W.past watcher.old) bot.old }
+    ensures { StepsQuietly P.promised store.now W.may (W.past watcher.old) (W.past watcher.new) bot.new }
+{
+    bind_listed(alloc, bot, store, settings, watcher)?;
+    bind_own(alloc, bot, store, watcher)
+}
+
+// Makes the binds of a configuration.
+fn bind_listed<P: Promise, B: Run, W: Watcher>(
     alloc: Global,
     bot: &mut Bot<FileDisk>,
     store: &ProcStore<P, B>,
@@ -157,6 +177,54 @@ fn bind_one<P: Promise, B: Run, W: Watcher>(
         End::NoMemory => Err(RunError::NoMemory),
         End::Done | End::Refused(Refusal::Link(_) | Refusal::Clock(_)) => Ok(()),
     }
+}
+
+// Makes the binds that every bot has, if the store holds their proc: of joins, and of bans that somebody removes.
+fn bind_own<P: Promise, B: Run, W: Watcher>(
+    alloc: Global,
+    bot: &mut Bot<FileDisk>,
+    store: &ProcStore<P, B>,
+    watcher: &mut W,
+) -> Result<(), RunError>
+    requires watched { IsWatched P.promised store.now W.may (W.past watcher.old) bot.old }
+    ensures { StepsQuietly P.promised store.now W.may (W.past watcher.old) (W.past watcher.new) bot.new }
+{
+    if !store.holds(BAN_KEEPER) {
+        return Ok(());
+    }
+    bind_keeper(alloc, bot, store, BindKind::Join, b"*", watcher)?;
+    bind_keeper(alloc, bot, store, BindKind::Mode, b"* -b", watcher)
+}
+
+// Makes a bind of the proc that keeps bans. A bot whose table has no room for it does not run: it would keep no bans.
+fn bind_keeper<P: Promise, B: Run, W: Watcher>(
+    alloc: Global,
+    bot: &mut Bot<FileDisk>,
+    store: &ProcStore<P, B>,
+    kind: BindKind,
+    mask: &[u8],
+    watcher: &mut W,
+) -> Result<(), RunError>
+    requires watched { IsWatched P.promised store.now W.may (W.past watcher.old) bot.old }
+    ensures { StepsQuietly P.promised store.now W.may (W.past watcher.old) (W.past watcher.new) bot.new }
+{
+    let asked = keeper_bind(alloc, kind, mask)?;
+    let bound = watched_step(alloc, bot, store, BotEvent::Bind(asked), watcher);
+    match bound.end {
+        End::Refused(Refusal::Bind(fault)) => Err(RunError::Bind { line: 0, fault }),
+        End::NoMemory => Err(RunError::NoMemory),
+        End::Done | End::Refused(Refusal::Link(_) | Refusal::Clock(_)) => Ok(()),
+    }
+}
+
+// The bind of the proc that keeps bans, for anybody.
+fn keeper_bind(alloc: Global, kind: BindKind, mask: &[u8]) -> Result<NewBind, NoMemory> {
+    Ok(NewBind {
+        kind,
+        flags: Text::from_slice(alloc, b"-")?,
+        mask: Text::from_slice(alloc, mask)?,
+        proc: Text::from_slice(alloc, BAN_KEEPER)?,
+    })
 }
 
 // The error for a bot that could not be created or opened.

@@ -1,7 +1,8 @@
 // The steps of a bot in one turn of its process.
 ghost use Rattle.std.specs.Prelude.{◌<◌, IfOk, OnOk, is_some};
 ghost use Rattle.bytetext.specs.declared.moment.TheConstants.{MOMENTS_END};
-ghost use Rattle.serverlink.specs.Talks.{heard_in, talk_in};
+ghost use Rattle.serverlink.specs.Tagging.{untagged_in};
+ghost use Rattle.serverlink.specs.Talks.{talk_in};
 ghost use Rattle.floods.specs.Sifting.{sifted};
 ghost use Rattle.upkeep.specs.Flooding.{begun_with};
 ghost use Rattle.botrun.specs.Trusting.{trusts};
@@ -47,12 +48,12 @@ impl Process {
         requires moment { now < MOMENTS_END }
         requires even { IsEven P.promised store.now (station_of settings.now) W.may (W.past watcher.old) self.old.bot
             self.old.others.mail.account.told }
-        // The first turn takes the lines that pass the sieve, of those that were read from the server, and packets that
-        // wait: none if there is no room, and no request while the hub is being handed over. The bot goes on from it by
-        // turns in which it hears nothing.
+        // The first turn takes the lines that pass the sieve, of those that were read from the server, without their tags,
+        // and packets that wait: none if there is no room, and no request while the hub is being handed over. The bot goes
+        // on from it by turns in which it hears nothing.
         ensures hears { OnOk result (Hears P.promised store.now self.old.bot self.old.lines
             (sifted (trusts self.old.bot) now (begun_with settings.now.floods connected self.old.floods)
-            (heard_in (talk_in self.old.uplink.session))) self.old.space.room (is_some self.old.others.handing)
+            (untagged_in self.old.uplink.session)) self.old.space.room (is_some self.old.others.handing)
             self.old.others.mail.links self.new.bot self.new.lines) }
         ensures up { OnOk result
             (IsUp P.promised store.now (station_of settings.now) W.may (W.past watcher.new) self.new.bot

@@ -3,19 +3,20 @@ ghost use Rattle.std.specs.Prelude.{◌≡◌, ◌<◌, IfOk};
 ghost use Rattle.bytetext.specs.declared.moment.TheConstants.{MOMENTS_END};
 ghost use Rattle.floods.specs.Sifting.{sifted};
 ghost use Rattle.upkeep.specs.Flooding.{begun_with};
-ghost use Rattle.botrun.specs.Trusting.{is_of_trust, trusts};
+ghost use Rattle.ircline.specs.Sources.{source_of};
+ghost use Rattle.botrun.specs.Trusting.{handle_at, is_of_trust, nick_in, trusts};
 
 use botcore::Bot;
 use bytetext::NoMemory;
 use disks::FileDisk;
 use flagexpr::Flags;
 use floods::Trusts;
+use ircline::{Source, source};
 use net::Log;
-use rfccase::Casemapping;
+use procs::handle_by;
 use settings::Settings;
 use std::alloc::Global;
 use upkeep::FloodWatch;
-use userfile::Userfile;
 
 // The lines that pass of these `bytes` of the bot's server.
 pub(crate) fn sift(
@@ -32,29 +33,51 @@ pub(crate) fn sift(
     ensures { IfOk result (λ lines. lines.items ≡
         sifted (trusts bot.now) now (begun_with settings.now.floods connected floods.old) bytes.now) }
 {
-    let known = KnownUsers {
-        users: bot.userfile(),
-        mapping: bot.casemapping(),
-    };
-    floods.hear(alloc, log, settings.floods, connected, bytes, now, &known)
+    let trusting = TrustingBot { bot };
+    floods.hear(
+        alloc,
+        log,
+        settings.floods,
+        connected,
+        bytes,
+        now,
+        &trusting,
+    )
 }
 
-// The users of a bot, and how its server compares names.
+// A bot that says whom it trusts.
 #[derive(Clone, Copy)]
-pub(crate) struct KnownUsers<'a> {
-    pub(crate) users: &'a Userfile,
-    pub(crate) mapping: Casemapping,
+struct TrustingBot<'a> {
+    bot: &'a Bot<FileDisk>,
 }
 
 // A master, an owner and an op everywhere are trusted.
-impl Trusts for KnownUsers<'_> {
-    ghost use Rattle.botrun.specs.Trusting.{is_trusted_by};
+impl Trusts for TrustingBot<'_> {
+    ghost use Rattle.botrun.specs.Trusting.{trusts};
 
-    ghost trusted = { λ known person. is_trusted_by known.mapping known.users.now.users person };
+    ghost trusted = { λ trusting person. trusts trusting.bot.now person };
 
     fn is_trusted(&self, person: &[u8]) -> bool {
-        let handle = self.users.handle_of(self.mapping, person);
-        is_of_trust(self.users.flags_of(handle, b"").global)
+        let handle = handle_at(self.bot, person);
+        is_of_trust(self.bot.userfile().flags_of(handle, b"").global)
+    }
+}
+
+// The handle by which a bot knows a person.
+fn handle_at<'a>(bot: &'a Bot<FileDisk>, person: &[u8]) -> &'a [u8]
+    ensures { result.now ≡ handle_at bot.now person.now }
+{
+    let account = bot.account_of(nick_of(person));
+    handle_by(bot.userfile(), bot.casemapping(), account, person)
+}
+
+// The nick of a person, or the empty text for anything else.
+fn nick_of(person: &[u8]) -> &[u8]
+    ensures { result.now ≡ nick_in (source_of person.now) }
+{
+    match source(person) {
+        Source::Person(found) => found.nick,
+        Source::None | Source::Server(_) => b"",
     }
 }
 

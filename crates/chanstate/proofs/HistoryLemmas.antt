@@ -12,24 +12,25 @@ use Rattle.rfccase.specs.Casemapping.{is_same_by}
 use Rattle.chanstate.specs.Members.{is_called, with_nick}
 use Rattle.chanstate.specs.Channels.{is_named, with_topic, with_members}
 use Rattle.chanstate.specs.Items.{Item, Welcomed, Announced, Joined, Left, Departed, Renamed, ModesSet, Marked, Titled, NamesTold, Listed, Addressed}
+use Rattle.chanstate.specs.Items.{Told, ToldAtJoin, JoinsTell}
 use Rattle.chanstate.specs.Items.{read_by, items_of}
 use Rattle.chanstate.specs.declared.support.Support.{Support}
 use Rattle.chanstate.specs.Steps.{step, each_step, steps, after}
 use Rattle.chanstate.specs.Views.{connected, channel_in, members_of, member_in}
 use Rattle.chanstate.specs.History.{own, own_said, support, support_said, held, channel_said, topic, topic_said, spelling, name_said, on, nick_said, known, member_said, has_mark}
-use Rattle.chanstate.specs.History.{marked, mark_begins, mark_says, user_begins, user_says, host_begins, host_says, nick_begins, nick_says, IsAsSaid}
+use Rattle.chanstate.specs.History.{marked, mark_begins, mark_says, user_begins, user_says, host_begins, host_says, nick_begins, nick_says, account_begins, account_says, IsAsSaid}
 use Rattle.chanstate.specs.History.{Agrees, mapping_at, before, before_read, history_from, history, after_all, arrival, joins, opening}
 use Rattle.chanstate.proofs.TypedLemmas.{one_support}
 use Rattle.chanstate.proofs.FindLemmas.{list_any-find, find-agree}
 use Rattle.chanstate.proofs.AnnouncedLemmas.{announced-same}
 use Rattle.rfccase.proofs.SameLemmas.{is_same_by-left}
 use Rattle.chanstate.specs.Firsts.{first_removed, first_changed}
-use Rattle.chanstate.specs.Announced.{announced, with_join}
+use Rattle.chanstate.specs.Announced.{announced, welcomed, with_join}
 use Rattle.chanstate.proofs.DistinctLemmas.{Distinct}
 use Rattle.chanstate.proofs.OrderLemmas.{Ordered, at, on_name, arrival-alike, order-after, channels-in-order}
 use Rattle.chanstate.proofs.LookLemmas.{rename_as, rename_as-none, rename_as-some}
 use Rattle.chanstate.proofs.ItemLemmas.{nick_of_member, name_of, channel_after, channel_in-kept, distinct-step, members-after, member_after, member-after}
-use Rattle.chanstate.proofs.PartLemmas.{Has, Part, known-after, nick_part, user_part, host_part, op_part, voice_part, half_op_part}
+use Rattle.chanstate.proofs.PartLemmas.{Has, Part, known-after, nick_part, user_part, host_part, account_part, op_part, voice_part, half_op_part}
 use Rattle.rfccase.specs.declared.casemappings.Casemapping.{Casemapping}
 use Rattle.chanstate.specs.Views.{mapping_of}
 
@@ -56,6 +57,9 @@ own-step (Titled d topic) s = refl
 own-step (NamesTold channel names) s = refl
 own-step (Listed d one) s = refl
 own-step (Addressed d nick user host) s = refl
+own-step (Told nick detail) s = refl
+own-step (ToldAtJoin nick account) s = refl
+own-step (JoinsTell tell) s = refl
 
 -- ---- what the server has announced
 
@@ -72,6 +76,9 @@ support-step (Titled d topic) s = refl
 support-step (NamesTold channel names) s = refl
 support-step (Listed d one) s = refl
 support-step (Addressed d nick user host) s = refl
+support-step (Told nick detail) s = refl
+support-step (ToldAtJoin nick account) s = refl
+support-step (JoinsTell tell) s = refl
 
 -- ---- channels
 
@@ -108,6 +115,9 @@ held-after mapping (Titled d topic) me c o = some_same (is_same_by mapping c d) 
 held-after mapping (NamesTold channel names) me c o = refl
 held-after mapping (Listed d one) me c o = some_same (is_same_by mapping c d) o _ (some-map _ o)
 held-after mapping (Addressed d nick user host) me c o = some_same (is_same_by mapping c d) o _ (some-map _ o)
+held-after mapping (Told nick detail) me c o = some-map _ o
+held-after mapping (ToldAtJoin nick account) me c o = refl
+held-after mapping (JoinsTell tell) me c o = refl
 
 -- ---- topics
 
@@ -153,6 +163,9 @@ topic-after mapping (Titled d new) me c t o is = t_titled (is_same_by mapping c 
 topic-after mapping (NamesTold channel names) me c t o is = is
 topic-after mapping (Listed d one) me c t o is = t_same (is_same_by mapping c d) t _ o (t_members t _ o is) is
 topic-after mapping (Addressed d nick user host) me c t o is = t_same (is_same_by mapping c d) t _ o (t_members t _ o is) is
+topic-after mapping (Told nick detail) me c t o is = t_members t _ o is
+topic-after mapping (ToldAtJoin nick account) me c t o is = is
+topic-after mapping (JoinsTell tell) me c t o is = is
 
 -- ---- spellings
 
@@ -191,6 +204,9 @@ name-after mapping (Titled d new) me c t o is = n_same (is_same_by mapping c d) 
 name-after mapping (NamesTold channel names) me c t o is = is
 name-after mapping (Listed d one) me c t o is = n_same (is_same_by mapping c d) t _ o (n_mapped t _ (λ ch. refl) o is) is
 name-after mapping (Addressed d nick user host) me c t o is = n_same (is_same_by mapping c d) t _ o (n_mapped t _ (λ ch. refl) o is) is
+name-after mapping (Told nick detail) me c t o is = n_mapped t _ (λ ch. refl) o is
+name-after mapping (ToldAtJoin nick account) me c t o is = is
+name-after mapping (JoinsTell tell) me c t o is = is
 
 -- ---- who is on a channel
 
@@ -239,6 +255,9 @@ on-after mapping (Titled d topic) me here c x look = refl
 on-after mapping (NamesTold channel names) me here c x look = refl
 on-after mapping (Listed d one) me here c x look = o_listed (is_same_by mapping c d && (here && is_same_by mapping x one.nick)) _ (look x)
 on-after mapping (Addressed d nick user host) me here c x look = some_same (is_same_by mapping c d && is_same_by mapping x nick) (look x) _ (some-map _ (look x))
+on-after mapping (Told nick detail) me here c x look = some_same (is_same_by mapping x nick) (look x) _ (some-map _ (look x))
+on-after mapping (ToldAtJoin nick account) me here c x look = refl
+on-after mapping (JoinsTell tell) me here c x look = refl
 
 -- ---- all of it
 
@@ -257,6 +276,9 @@ nick_said-same mapping (Titled d topic) me here c x was now same = refl
 nick_said-same mapping (NamesTold channel names) me here c x was now same = refl
 nick_said-same mapping (Listed d one) me here c x was now same = refl
 nick_said-same mapping (Addressed d nick user host) me here c x was now same = refl
+nick_said-same mapping (Told nick detail) me here c x was now same = refl
+nick_said-same mapping (ToldAtJoin nick account) me here c x was now same = refl
+nick_said-same mapping (JoinsTell tell) me here c x was now same = refl
 
 member_said-same : {A : Type 0} (mapping : Casemapping) (begins : Item → A) (says : Item → Option A) (item : Item) (me c x : List ℕ) (was now : List ℕ → Bool)
     (old_values : List ℕ → A) → ((y : List ℕ) → was y ≡ now y) →
@@ -277,6 +299,9 @@ member_said-same mapping begins says (NamesTold channel names) me c x was now vs
 member_said-same mapping begins says (Listed d one) me c x was now vs same =
     ap (λ b. cond (is_same_by mapping c d && is_same_by mapping x one.nick) (cond b (unwrap_or (says (Listed d one)) (vs x)) (begins (Listed d one))) (vs x)) (same x)
 member_said-same mapping begins says (Addressed d nick user host) me c x was now vs same = refl
+member_said-same mapping begins says (Told nick detail) me c x was now vs same = refl
+member_said-same mapping begins says (ToldAtJoin nick account) me c x was now vs same = refl
+member_said-same mapping begins says (JoinsTell tell) me c x was now vs same = refl
 
 if_some : {X : Type 0} (P Q : X → Type 0) (o : Option X) → ((x : X) → P x → Q x) → IfSome o P → IfSome o Q
 if_some P Q None f is = tt
@@ -284,11 +309,11 @@ if_some P Q (Some x) f is = f x is
 
 gather : (first c : List ℕ) (past : List Item) (x : List ℕ) (o : Option Member) →
     Has (λ m. m.nick) (known nick_begins nick_says [] first c past x) o → Has (λ m. m.user) (known user_begins user_says [] first c past x) o
-    → Has (λ m. m.host) (known host_begins host_says [] first c past x) o →
+    → Has (λ m. m.host) (known host_begins host_says [] first c past x) o → Has (λ m. m.account) (known account_begins account_says [] first c past x) o →
     Has (has_mark Op) (marked Op first c past x) o → Has (has_mark Voice) (marked Voice first c past x) o
     → Has (has_mark HalfOp) (marked HalfOp first c past x) o → IfSome o (IsAsSaid first c past x)
-gather first c past x None a b d e f g = tt
-gather first c past x (Some m) a b d e f g = record { nick = a; user = b; host = d; op = e; voice = f; half_op = g }
+gather first c past x None a b d l e f g = tt
+gather first c past x (Some m) a b d l e f g = record { nick = a; user = b; host = d; account = l; op = e; voice = f; half_op = g }
 
 -- the state stands for the history, no name is twice in it, and no channel is held before a JOIN has been read
 pub record Stands (first : List ℕ) (past : List Item) (s : ChanState) : Type 0 where
@@ -409,6 +434,8 @@ agrees-step item s first past kept stands = record {
       (λ y. if_some (IsAsSaid first c past y) _ (member_in c y s) (λ m known. known.user) (stands.agrees.details c y)))
       (part_is (λ m. m.host) host_begins host_says [] host_part item s first c x past kept stands
       (λ y. if_some (IsAsSaid first c past y) _ (member_in c y s) (λ m known. known.host) (stands.agrees.details c y)))
+      (part_is (λ m. m.account) account_begins account_says [] account_part item s first c x past kept stands
+      (λ y. if_some (IsAsSaid first c past y) _ (member_in c y s) (λ m known. known.account) (stands.agrees.details c y)))
       (part_is (has_mark Op) (mark_begins Op) (mark_says Op) false op_part item s first c x past kept stands
       (λ y. if_some (IsAsSaid first c past y) _ (member_in c y s) (λ m known. known.op) (stands.agrees.details c y)))
       (part_is (has_mark Voice) (mark_begins Voice) (mark_says Voice) false voice_part item s first c x past kept stands
@@ -451,8 +478,9 @@ stands-plain item s first past is none stands =
     stands-kept item s first past (ap (λ (sup : Support). sup.casemapping) is) (still_none item s first past is none stands) stands
 
 -- a welcome
-stands-welcomed : (nick : List ℕ) (s : ChanState) (first : List ℕ) (past : List Item) → Stands first (Welcomed nick ∷ past) (step (Welcomed nick) s)
-stands-welcomed nick s first past = record {
+stands-welcomed : (nick : List ℕ) (s : ChanState) (first : List ℕ) (past : List Item) → Stands first past s
+    → Stands first (Welcomed nick ∷ past) (step (Welcomed nick) s)
+stands-welcomed nick s first past stands = record {
   names = tt;
   nicks = λ c. tt;
   places = λ c. (tt, tt);
@@ -461,7 +489,7 @@ stands-welcomed nick s first past = record {
   early = λ read. refl;
   agrees = record {
     own_nick = refl;
-    server = refl;
+    server = ap welcomed stands.agrees.server;
     channels = λ c. refl;
     names = λ c. tt;
     topics = λ c. tt;
@@ -511,7 +539,7 @@ stands-announced tokens s first past stands = by s.support.join_read refl
     by false read = stands-early tokens s first past (stands.early read) stands
 
 stands-step : (item : Item) (s : ChanState) (first : List ℕ) (past : List Item) → Stands first past s → Stands first (item ∷ past) (step item s)
-stands-step (Welcomed nick) s first past stands = stands-welcomed nick s first past
+stands-step (Welcomed nick) s first past stands = stands-welcomed nick s first past stands
 stands-step (Announced tokens) s first past stands = stands-announced tokens s first past stands
 stands-step (Joined nick user host d) s first past stands =
     let is = support-step (Joined nick user host d) s in
@@ -531,6 +559,9 @@ stands-step (NamesTold channel names) s first past stands = stands-plain (NamesT
 stands-step (Listed d one) s first past stands = stands-plain (Listed d one) s first past refl (λ none. ap (first_changed _ _) none) stands
 stands-step (Addressed d nick user host) s first past stands =
     stands-plain (Addressed d nick user host) s first past refl (λ none. ap (first_changed _ _) none) stands
+stands-step (Told nick detail) s first past stands = stands-plain (Told nick detail) s first past refl (λ none. ap (map _) none) stands
+stands-step (ToldAtJoin nick account) s first past stands = stands-plain (ToldAtJoin nick account) s first past refl (λ none. none) stands
+stands-step (JoinsTell tell) s first past stands = stands-kept (JoinsTell tell) s first past refl (λ read. stands.early read) stands
 
 stands-each : (items : List Item) (s : ChanState) (first : List ℕ) (past : List Item) → Stands first past s
     → Stands first (before past items) (each_step items s)

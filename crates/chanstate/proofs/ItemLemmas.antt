@@ -10,10 +10,13 @@ use Rattle.chanstate.specs.declared.channel.Channel.{Channel}
 use Rattle.chanstate.specs.declared.state.ChanState.{ChanState}
 use Rattle.rfccase.specs.Casemapping.{is_same_by}
 use Rattle.chanstate.specs.Firsts.{first_removed, first_changed}
-use Rattle.chanstate.specs.Members.{is_called, has_member, unmarked, with_mark, with_address, with_marks_of, with_nick, arrived, listed, renamed}
+use Rattle.chanstate.specs.Members.{is_called, has_member, unmarked, with_mark, with_address, with_detail, with_marks_of, with_nick, arrived, listed, renamed}
 use Rattle.chanstate.specs.Members.{without_namesake}
 use Rattle.chanstate.specs.Channels.{is_named, opened, with_topic, with_members, on_channel, put_last}
 use Rattle.chanstate.specs.Items.{Item, Welcomed, Announced, Joined, Left, Departed, Renamed, ModesSet, Marked, Titled, NamesTold, Listed, Addressed}
+use Rattle.chanstate.specs.Items.{Told, ToldAtJoin, JoinsTell}
+use Rattle.chanstate.specs.declared.detail.Detail.{Detail}
+use Rattle.chanstate.specs.declared.detail.Detail.TheVariants.{Account, Address}
 use Rattle.chanstate.specs.Steps.{step}
 use Rattle.chanstate.specs.Views.{channel_in, members_of}
 use Rattle.rfccase.proofs.SameLemmas.{is_same_by-left, is_same_by-right, is_same_by-apart}
@@ -115,6 +118,10 @@ mark_keeps Op set m = refl
 mark_keeps Voice set m = refl
 mark_keeps HalfOp set m = refl
 
+pub detail_keeps : (detail : Detail) (m : Member) → (with_detail detail m).nick ≡ m.nick
+detail_keeps (Account account) m = refl
+detail_keeps (Address user host) m = refl
+
 -- ---- channels
 
 -- the channel of a name after an item
@@ -134,6 +141,9 @@ channel_after mapping (NamesTold channel names) me c o = o
 channel_after mapping (Listed d one) me c o = cond (is_same_by mapping c d) (option_map (with_members (listed mapping one)) o) o
 channel_after mapping (Addressed d nick user host) me c o = cond (is_same_by mapping c d)
     (option_map (with_members (first_changed (is_called mapping nick) (with_address user host))) o) o
+channel_after mapping (Told nick detail) me c o = option_map (with_members (first_changed (is_called mapping nick) (with_detail detail))) o
+channel_after mapping (ToldAtJoin nick account) me c o = o
+channel_after mapping (JoinsTell tell) me c o = o
 
 on_channel_is : (mapping : Casemapping) (f : List Member → List Member) (c d : List ℕ) (chs : List Channel)
     → find (is_named mapping c) (on_channel mapping d f chs) ≡ cond (is_same_by mapping c d) (option_map (with_members f) (find (is_named mapping c) chs)) (find (is_named mapping c) chs)
@@ -170,6 +180,9 @@ channel_in-step (Titled d topic) s c distinct = find-changed (mapping_of s) name
 channel_in-step (NamesTold channel names) s c distinct = refl
 channel_in-step (Listed d one) s c distinct = on_channel_is (mapping_of s) (listed (mapping_of s) one) c d s.channels
 channel_in-step (Addressed d nick user host) s c distinct = on_channel_is (mapping_of s) (first_changed (is_called (mapping_of s) nick) (with_address user host)) c d s.channels
+channel_in-step (Told nick detail) s c distinct = find-map (is_named (mapping_of s) c) (is_named (mapping_of s) c) (with_members (first_changed (is_called (mapping_of s) nick) (with_detail detail))) (λ ch. refl) s.channels
+channel_in-step (ToldAtJoin nick account) s c distinct = refl
+channel_in-step (JoinsTell tell) s c distinct = refl
 
 -- by the casemapping after it, if it is the same
 pub channel_in-kept : (item : Item) (s : ChanState) (c : List ℕ) → mapping_of (step item s) ≡ mapping_of s → Distinct (mapping_of s) name_of s.channels
@@ -209,6 +222,9 @@ distinct-step (Titled d topic) s distinct = distinct-changed (mapping_of s) name
 distinct-step (NamesTold channel names) s distinct = distinct
 distinct-step (Listed d one) s distinct = distinct_on (mapping_of s) (listed (mapping_of s) one) d s.channels distinct
 distinct-step (Addressed d nick user host) s distinct = distinct_on (mapping_of s) (first_changed (is_called (mapping_of s) nick) (with_address user host)) d s.channels distinct
+distinct-step (Told nick detail) s distinct = distinct-map (mapping_of s) name_of (with_members (first_changed (is_called (mapping_of s) nick) (with_detail detail))) (λ ch. refl) s.channels distinct
+distinct-step (ToldAtJoin nick account) s distinct = distinct
+distinct-step (JoinsTell tell) s distinct = distinct
 
 -- ---- nicks stay distinct
 
@@ -254,6 +270,10 @@ members-after mapping (Addressed d nick user host) me c o distinct =
     either (DistinctMembers mapping) (is_same_by mapping c d) _ o
     (members_by mapping (first_changed (is_called mapping nick) (with_address user host))
     (distinct-changed mapping nick_of_member (is_called mapping nick) (with_address user host) (λ m. refl)) o distinct) distinct
+members-after mapping (Told nick detail) me c o distinct = members_by mapping (first_changed (is_called mapping nick) (with_detail detail))
+    (distinct-changed mapping nick_of_member (is_called mapping nick) (with_detail detail) (detail_keeps detail)) o distinct
+members-after mapping (ToldAtJoin nick account) me c o distinct = distinct
+members-after mapping (JoinsTell tell) me c o distinct = distinct
 
 -- ---- members
 
@@ -273,6 +293,9 @@ member_after mapping (Titled d topic) me here c look x = look x
 member_after mapping (NamesTold channel names) me here c look x = look x
 member_after mapping (Listed d one) me here c look x = cond (is_same_by mapping c d && (here && is_same_by mapping x one.nick)) (Some (come_as one (with_marks_of one) (look x))) (look x)
 member_after mapping (Addressed d nick user host) me here c look x = cond (is_same_by mapping c d && is_same_by mapping x nick) (option_map (with_address user host) (look x)) (look x)
+member_after mapping (Told nick detail) me here c look x = cond (is_same_by mapping x nick) (option_map (with_detail detail) (look x)) (look x)
+member_after mapping (ToldAtJoin nick account) me here c look x = look x
+member_after mapping (JoinsTell tell) me here c look x = look x
 
 nothing : {X : Type 0} (b : Bool) → ◌≡◌ {A = Option X} (cond b None None) None
 nothing true = refl
@@ -337,3 +360,6 @@ member-after mapping (Titled d topic) me c x o distinct = m_titled mapping x top
 member-after mapping (NamesTold channel names) me c x o distinct = refl
 member-after mapping (Listed d one) me c x o distinct = m_listed mapping x one (is_same_by mapping c d) o
 member-after mapping (Addressed d nick user host) me c x o distinct = m_changed mapping x nick (with_address user host) (λ m. refl) (is_same_by mapping c d) o
+member-after mapping (Told nick detail) me c x o distinct = m_changed mapping x nick (with_detail detail) (detail_keeps detail) true o
+member-after mapping (ToldAtJoin nick account) me c x o distinct = refl
+member-after mapping (JoinsTell tell) me c x o distinct = refl

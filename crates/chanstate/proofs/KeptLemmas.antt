@@ -87,7 +87,7 @@ joins_same nick [] s = refl
 joins_same nick (n ∷ ns) s = ap (λ b. join_adds nick n s || b) (joins_same nick ns s)
 
 -- a topic or an address that is there already
-same_text : (xs ys : List ℕ) → not (pointwise nat_eq xs ys) ≡ false → ys ≡ xs
+pub same_text : (xs ys : List ℕ) → not (pointwise nat_eq xs ys) ≡ false → ys ≡ xs
 same_text xs ys same = sym ((bytes_eq-Decides xs ys).0 (not-false _ same))
 
 pub same_topic : (channel topic : List ℕ) (s : ChanState) → retitles topic (channel_in channel s) ≡ false
@@ -96,7 +96,7 @@ same_topic channel topic s same =
     first_changed-kept (is_named (mapping_of s) channel) (with_topic topic) s.channels
     (λ c found. ap (λ t. record c { topic = t }) (same_text c.topic topic (ap (retitles topic) (sym found) ∙ same)))
 
-readdressed : (user host : List ℕ) (m : Member) → readdresses user host (Some m) ≡ false → with_address user host m ≡ m
+pub readdressed : (user host : List ℕ) (m : Member) → readdresses user host (Some m) ≡ false → with_address user host m ≡ m
 readdressed user host m same =
     let parts = or-parts (not (pointwise nat_eq m.user user)) (not (pointwise nat_eq m.host host)) same in
     ap (λ u. record m { user = u; host = host }) (same_text m.user user parts.0) ∙ ap (λ h. record m { host = h }) (same_text m.host host parts.1)

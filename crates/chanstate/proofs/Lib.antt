@@ -17,3 +17,4 @@ pub mod TakeLemmas
 pub mod ComeLemmas
 pub mod OrderLemmas
 pub mod ToldLemmas
+pub mod TellingLemmas

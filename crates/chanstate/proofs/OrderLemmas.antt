@@ -9,10 +9,11 @@ use Rattle.chanstate.specs.declared.channel.Channel.{Channel}
 use Rattle.chanstate.specs.declared.state.ChanState.{ChanState}
 use Rattle.rfccase.specs.Casemapping.{is_same_by}
 use Rattle.chanstate.specs.Firsts.{first_removed, first_changed}
-use Rattle.chanstate.specs.Members.{is_called, has_member, unmarked, with_mark, with_address, with_marks_of, with_nick, arrived, listed, renamed}
+use Rattle.chanstate.specs.Members.{is_called, has_member, unmarked, with_mark, with_address, with_detail, with_marks_of, with_nick, arrived, listed, renamed}
 use Rattle.chanstate.specs.Members.{without_namesake}
 use Rattle.chanstate.specs.Channels.{is_named, opened, with_topic, with_members, put_last}
 use Rattle.chanstate.specs.Items.{Item, Welcomed, Announced, Joined, Left, Departed, Renamed, ModesSet, Marked, Titled, NamesTold, Listed, Addressed}
+use Rattle.chanstate.specs.Items.{Told, ToldAtJoin, JoinsTell}
 use Rattle.chanstate.specs.Steps.{step}
 use Rattle.chanstate.specs.Views.{members_of}
 use Rattle.chanstate.specs.History.{Behind, Rising, member_said, nick_said, joins}
@@ -20,7 +21,7 @@ use Rattle.chanstate.proofs.BoolLemmas.{or-parts, or-right}
 use Rattle.rfccase.proofs.SameLemmas.{is_same_by-left, is_same_by-sym, is_same_by-refl}
 use Rattle.chanstate.proofs.FindLemmas.{list_any-find, find-removed_same, Within}
 use Rattle.chanstate.proofs.DistinctLemmas.{Distinct, at_most_one, distinct-removed, within-all, within-none}
-use Rattle.chanstate.proofs.ItemLemmas.{nick_of_member, name_of, channel_after, mark_keeps}
+use Rattle.chanstate.proofs.ItemLemmas.{nick_of_member, name_of, channel_after, mark_keeps, detail_keeps}
 use Rattle.rfccase.specs.declared.casemappings.Casemapping.{Casemapping}
 use Rattle.chanstate.specs.Views.{mapping_of}
 
@@ -236,6 +237,9 @@ arrival-alike mapping (Listed d one) me here c x y was place n same both alike o
 arrival-alike mapping (Addressed d nick user host) me here c x y was place n same both alike on =
     both_same (is_same_by mapping c d && is_same_by mapping x nick) (place x) ∙ alike on
     ∙ sym (both_same (is_same_by mapping c d && is_same_by mapping y nick) (place y))
+arrival-alike mapping (Told nick detail) me here c x y was place n same both alike on = both_same (is_same_by mapping x nick) (place x) ∙ alike on ∙ sym (both_same (is_same_by mapping y nick) (place y))
+arrival-alike mapping (ToldAtJoin nick account) me here c x y was place n same both alike on = alike on
+arrival-alike mapping (JoinsTell tell) me here c x y was place n same both alike on = alike on
 
 -- ---- members after an item
 
@@ -388,6 +392,9 @@ order-after mapping (NamesTold channel names) me c o was place n distinct on res
 order-after mapping (Listed d one) me c o was place n distinct on respects ordered = ord_listed mapping one (is_same_by mapping c d) was place n o on ordered
 order-after mapping (Addressed d nick user host) me c o was place n distinct on respects ordered = ord_changed mapping nick (with_address user host) (λ m. refl)
     (is_same_by mapping c d) place n o ordered
+order-after mapping (Told nick detail) me c o was place n distinct on respects ordered = ord_changed mapping nick (with_detail detail) (detail_keeps detail) true place n o ordered
+order-after mapping (ToldAtJoin nick account) me c o was place n distinct on respects ordered = ord_titled [] false place n o ordered
+order-after mapping (JoinsTell tell) me c o was place n distinct on respects ordered = ord_titled [] false place n o ordered
 
 -- ---- channels after an item
 
@@ -461,3 +468,7 @@ channels-in-order (NamesTold channel names) s place n distinct ordered = ordered
 channels-in-order (Listed d one) s place n distinct ordered = unjoined place place n _ (is_named (mapping_of s) d) (λ c. refl) (λ ch. refl) s.channels ordered
 channels-in-order (Addressed d nick user host) s place n distinct ordered = unjoined place place n _ (is_named (mapping_of s) d) (λ c. refl)
     (λ ch. refl) s.channels ordered
+channels-in-order (Told nick detail) s place n distinct ordered = subst (Ordered (suc n))
+    (sym (map-map (on_name place) (with_members (first_changed (is_called (mapping_of s) nick) (with_detail detail))) (λ ch. refl) s.channels)) (ordered-more n _ ordered)
+channels-in-order (ToldAtJoin nick account) s place n distinct ordered = ordered-more n _ ordered
+channels-in-order (JoinsTell tell) s place n distinct ordered = ordered-more n _ ordered

@@ -6,12 +6,15 @@ use Rattle.chanstate.specs.declared.member.Member.{Member}
 use Rattle.chanstate.specs.declared.member.Mark.{Mark}
 use Rattle.chanstate.specs.declared.member.Mark.TheVariants.{Op, Voice, HalfOp}
 use Rattle.rfccase.specs.Casemapping.{is_same_by}
-use Rattle.chanstate.specs.Members.{unmarked, with_mark, with_address, with_marks_of, with_nick}
+use Rattle.chanstate.specs.Members.{unmarked, with_mark, with_address, with_detail, with_marks_of, with_nick}
 use Rattle.chanstate.specs.Items.{Item, Welcomed, Announced, Joined, Left, Departed, Renamed, ModesSet, Marked, Titled, NamesTold, Listed, Addressed}
+use Rattle.chanstate.specs.Items.{Told, ToldAtJoin, JoinsTell}
+use Rattle.chanstate.specs.declared.detail.Detail.{Detail}
+use Rattle.chanstate.specs.declared.detail.Detail.TheVariants.{Account, Address}
 use Rattle.chanstate.specs.History.{topic, member_said, has_mark, mark_begins, mark_says, if_same_mark, user_begins, user_says, host_begins, host_says}
-use Rattle.chanstate.specs.History.{nick_begins, nick_says, before}
+use Rattle.chanstate.specs.History.{nick_begins, nick_says, account_begins, account_says, before}
 use Rattle.chanstate.proofs.LookLemmas.{come_as, come_as-none, come_as-some, rename_as, rename_as-none, rename_as-some}
-use Rattle.chanstate.proofs.ItemLemmas.{member_after, mark_keeps}
+use Rattle.chanstate.proofs.ItemLemmas.{member_after, mark_keeps, detail_keeps}
 use Rattle.rfccase.specs.declared.casemappings.Casemapping.{Casemapping}
 
 -- how a part of a member begins and changes, as the items say
@@ -24,6 +27,7 @@ pub record Part {A : Type 0} (get : Member → A) (begins : Item → A) (says : 
   pub marks : (d : List ℕ) (mark : Mark) (set : Bool) (nick : List ℕ) (m : Member)
       → get (with_mark mark set m) ≡ unwrap_or (says (Marked d mark set nick)) (get m)
   pub addresses : (d nick user host : List ℕ) (m : Member) → get (with_address user host m) ≡ unwrap_or (says (Addressed d nick user host)) (get m)
+  pub tells : (nick : List ℕ) (detail : Detail) (m : Member) → get (with_detail detail m) ≡ unwrap_or (says (Told nick detail)) (get m)
 
 abbrev pub Has : {A : Type 0} → (Member → A) → A → Option Member → Type 0
 Has get a o = IfSome o (λ m. get m ≡ a)
@@ -115,6 +119,10 @@ known-after mapping get begins says part (Listed d one) me here c x look before 
 known-after mapping get begins says part (Addressed d nick user host) me here c x look before away is =
     d_changed get (with_address user host) (says (Addressed d nick user host)) (before x) (look x) (is_same_by mapping c d && is_same_by mapping x nick)
     (part.addresses d nick user host) (is x)
+known-after mapping get begins says part (Told nick detail) me here c x look before away is =
+    d_changed get (with_detail detail) (says (Told nick detail)) (before x) (look x) (is_same_by mapping x nick) (part.tells nick detail) (is x)
+known-after mapping get begins says part (ToldAtJoin nick account) me here c x look before away is = is x
+known-after mapping get begins says part (JoinsTell tell) me here c x look before away is = is x
 
 -- ---- the parts of a member
 
@@ -127,6 +135,31 @@ mark_keeps_host : (mark : Mark) (set : Bool) (m : Member) → (with_mark mark se
 mark_keeps_host Op set m = refl
 mark_keeps_host Voice set m = refl
 mark_keeps_host HalfOp set m = refl
+
+mark_keeps_account : (mark : Mark) (set : Bool) (m : Member) → (with_mark mark set m).account ≡ m.account
+mark_keeps_account Op set m = refl
+mark_keeps_account Voice set m = refl
+mark_keeps_account HalfOp set m = refl
+
+tells_user : (nick : List ℕ) (detail : Detail) (m : Member) → (with_detail detail m).user ≡ unwrap_or (user_says (Told nick detail)) m.user
+tells_user nick (Account account) m = refl
+tells_user nick (Address user host) m = refl
+
+tells_host : (nick : List ℕ) (detail : Detail) (m : Member) → (with_detail detail m).host ≡ unwrap_or (host_says (Told nick detail)) m.host
+tells_host nick (Account account) m = refl
+tells_host nick (Address user host) m = refl
+
+tells_account : (nick : List ℕ) (detail : Detail) (m : Member) → (with_detail detail m).account ≡ unwrap_or (account_says (Told nick detail)) m.account
+tells_account nick (Account account) m = refl
+tells_account nick (Address user host) m = refl
+
+detail_keeps_mark : (mark : Mark) (detail : Detail) (m : Member) → has_mark mark (with_detail detail m) ≡ has_mark mark m
+detail_keeps_mark Op (Account account) m = refl
+detail_keeps_mark Op (Address user host) m = refl
+detail_keeps_mark Voice (Account account) m = refl
+detail_keeps_mark Voice (Address user host) m = refl
+detail_keeps_mark HalfOp (Account account) m = refl
+detail_keeps_mark HalfOp (Address user host) m = refl
 
 or_is : (a b : Bool) → (a || b) ≡ unwrap_or (cond b (Some true) None) a
 or_is true true = refl
@@ -154,6 +187,7 @@ nick_part = record {
   renames = λ old new m. refl;
   marks = λ d mark set nick m. mark_keeps mark set m;
   addresses = λ d nick user host m. refl;
+  tells = λ nick detail m. detail_keeps detail m;
 }
 
 pub user_part : Part (λ m. m.user) user_begins user_says
@@ -165,6 +199,7 @@ user_part = record {
   renames = λ old new m. refl;
   marks = λ d mark set nick m. mark_keeps_user mark set m;
   addresses = λ d nick user host m. refl;
+  tells = λ nick detail m. tells_user nick detail m;
 }
 
 pub host_part : Part (λ m. m.host) host_begins host_says
@@ -176,6 +211,19 @@ host_part = record {
   renames = λ old new m. refl;
   marks = λ d mark set nick m. mark_keeps_host mark set m;
   addresses = λ d nick user host m. refl;
+  tells = λ nick detail m. tells_host nick detail m;
+}
+
+pub account_part : Part (λ m. m.account) account_begins account_says
+account_part = record {
+  joins = λ nick user host d. refl;
+  rejoins = λ nick user host d m. refl;
+  lists = λ d one. refl;
+  relists = λ d one m. refl;
+  renames = λ old new m. refl;
+  marks = λ d mark set nick m. mark_keeps_account mark set m;
+  addresses = λ d nick user host m. refl;
+  tells = λ nick detail m. tells_account nick detail m;
 }
 
 pub op_part : Part (has_mark Op) (mark_begins Op) (mark_says Op)
@@ -187,6 +235,7 @@ op_part = record {
   renames = λ old new m. refl;
   marks = λ d mark set nick m. mark_set Op mark set m;
   addresses = λ d nick user host m. refl;
+  tells = λ nick detail m. detail_keeps_mark Op detail m;
 }
 
 pub voice_part : Part (has_mark Voice) (mark_begins Voice) (mark_says Voice)
@@ -198,6 +247,7 @@ voice_part = record {
   renames = λ old new m. refl;
   marks = λ d mark set nick m. mark_set Voice mark set m;
   addresses = λ d nick user host m. refl;
+  tells = λ nick detail m. detail_keeps_mark Voice detail m;
 }
 
 pub half_op_part : Part (has_mark HalfOp) (mark_begins HalfOp) (mark_says HalfOp)
@@ -209,4 +259,5 @@ half_op_part = record {
   renames = λ old new m. refl;
   marks = λ d mark set nick m. mark_set HalfOp mark set m;
   addresses = λ d nick user host m. refl;
+  tells = λ nick detail m. detail_keeps_mark HalfOp detail m;
 }

@@ -17,7 +17,8 @@ use Rattle.rfccase.specs.Casemapping.{folded_by, is_same_by}
 use Rattle.chanstate.specs.declared.member.Member.{Member}
 use Rattle.chanstate.specs.Seats.{SitsAt, AreIndexed, IsChanged, IsIndexedNext, Entries, place_under, has_key, seated, taken, is_seat_of, IsUnder, AreUnder}
 use Rattle.chanstate.specs.declared.member_edit.MemberEdit.{MemberEdit}
-use Rattle.chanstate.specs.declared.member_edit.MemberEdit.TheVariants.{Marked, Listed, Addressed}
+use Rattle.chanstate.specs.declared.member_edit.MemberEdit.TheVariants.{Marked, Listed, Addressed, Told}
+use Rattle.chanstate.specs.declared.detail.Detail.TheVariants.{Account, Address}
 use Rattle.chanstate.specs.declared.member.Mark.TheVariants.{Op, Voice, HalfOp}
 use Rattle.chanstate.specs.Members.{is_called, with_nick, edited}
 use Rattle.chanstate.specs.Firsts.{first_removed, first_changed}
@@ -661,6 +662,8 @@ edited-nick (Marked Voice on) m = refl
 edited-nick (Marked HalfOp on) m = refl
 edited-nick (Listed more) m = refl
 edited-nick (Addressed user host) m = refl
+edited-nick (Told (Account account)) m = refl
+edited-nick (Told (Address user host)) m = refl
 
 pub edited-indexed : (mapping : Casemapping) (edit : MemberEdit) (ps : Places) (es : Entries) (at : ℕ) (m n : Member) (o : Option Member) → at < length ps → o ≡ get_or ps at o
     → o ≡ Some m → n ≡ edited edit m → AreIndexed mapping ps es → AreIndexed mapping (set ps at (Some n)) es

@@ -41,7 +41,12 @@ unannounced = record {
   channel_types = letters_of (codes "&#+!");
   casemapping = Rfc1459;
   join_read = false;
+  joins_tell = false;
 }
+
+-- What holds after a welcome: nothing is announced, but the capabilities stay that the server acknowledged before it.
+abbrev pub welcomed : Support → Support
+welcomed s = record unannounced { joins_tell = s.joins_tell }
 
 -- a text cut at the first such byte, which is dropped; without such a byte it is not cut
 abbrev pub front_len : ℕ → List ℕ → ℕ
@@ -101,6 +106,10 @@ with_channel_types value s = if s.join_read then s else record s { channel_types
 -- a JOIN has been read
 abbrev pub with_join : Support → Support
 with_join s = record s { join_read = true }
+
+-- whether a JOIN tells the account (the capability extended-join)
+abbrev pub with_joins_tell : Bool → Support → Support
+with_joins_tell tell s = record s { joins_tell = tell }
 
 -- a token is KEY=value, or KEY alone with an empty value
 abbrev pub key_and_value : List ℕ → Option (List ℕ × List ℕ) → List ℕ × List ℕ

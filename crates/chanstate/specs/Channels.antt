@@ -5,7 +5,8 @@ use Rattle.chanstate.specs.declared.member.Member.{Member}
 use Rattle.chanstate.specs.declared.channel.Channel.{Channel}
 use Rattle.rfccase.specs.Casemapping.{is_same_by}
 use Rattle.chanstate.specs.Firsts.{first_removed, first_changed}
-use Rattle.chanstate.specs.Members.{is_called, renamed}
+use Rattle.chanstate.specs.declared.detail.Detail.{Detail}
+use Rattle.chanstate.specs.Members.{is_called, renamed, with_detail}
 use Rattle.rfccase.specs.declared.casemappings.Casemapping.{Casemapping}
 
 -- whether the channel has this name
@@ -43,6 +44,10 @@ all_without mapping nick channels = map (with_members (first_removed (is_called 
 -- the channels with the nick of a member changed
 abbrev pub all_renamed : Casemapping → List ℕ → List ℕ → List Channel → List Channel
 all_renamed mapping old new channels = map (with_members (renamed mapping old new)) channels
+
+-- the channels with what the server has told of a nick, wherever there is a member of that nick
+abbrev pub all_told : Casemapping → List ℕ → Detail → List Channel → List Channel
+all_told mapping nick detail channels = map (with_members (first_changed (is_called mapping nick) (with_detail detail))) channels
 
 -- the channels with each of these put last, in order
 abbrev pub put_each_last : Casemapping → List Channel → List Channel → List Channel

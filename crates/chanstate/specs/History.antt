@@ -11,17 +11,21 @@ use Rattle.ircline.specs.declared.message.Message.{Message}
 use Rattle.rfccase.specs.Casemapping.{is_same_by}
 use Rattle.rfccase.specs.declared.casemappings.Casemapping.{Casemapping}
 use Rattle.chanstate.specs.declared.support.Support.{Support}
-use Rattle.chanstate.specs.Announced.{unannounced, announced, with_join}
-use Rattle.chanstate.specs.Items.{Item, Welcomed, Announced, Joined, Left, Departed, Renamed, Marked, Titled, Listed, Addressed, read_by, items_of}
+use Rattle.chanstate.specs.Announced.{unannounced, welcomed, announced, with_join, with_joins_tell}
+use Rattle.chanstate.specs.declared.detail.Detail.{Detail}
+use Rattle.chanstate.specs.declared.detail.Detail.TheVariants.{Account, Address}
+use Rattle.chanstate.specs.Items.{Item, Welcomed, Announced, Joined, Left, Departed, Renamed, Marked, Titled, Listed, Addressed, Told, JoinsTell}
+use Rattle.chanstate.specs.Items.{read_by, items_of}
 use Rattle.chanstate.specs.Steps.{after}
 use Rattle.chanstate.specs.Views.{channel_in, members_in, member_in}
 
 -- What the server has announced, token by token, since it last welcomed the bot. A casemapping that it announces after
--- a JOIN does not count.
+-- a JOIN does not count. Whether JOINs tell accounts is what the last item says of that, also before the welcome.
 abbrev pub support_said : Item → Support → Support
-support_said (Welcomed nick) was = unannounced
+support_said (Welcomed nick) was = welcomed was
 support_said (Announced tokens) was = announced tokens was
 support_said (Joined nick user host c) was = with_join was
+support_said (JoinsTell tell) was = with_joins_tell tell was
 support_said item was = was
 
 abbrev pub support : List Item → Support
@@ -122,6 +126,8 @@ member_said mapping begins says (Marked d mark set nick) me c was before x =
     if is_same_by mapping c d && is_same_by mapping x nick then unwrap_or (says (Marked d mark set nick)) (before x) else before x
 member_said mapping begins says (Addressed d nick user host) me c was before x =
     if is_same_by mapping c d && is_same_by mapping x nick then unwrap_or (says (Addressed d nick user host)) (before x) else before x
+member_said mapping begins says (Told nick detail) me c was before x =
+    if is_same_by mapping x nick then unwrap_or (says (Told nick detail)) (before x) else before x
 member_said mapping begins says item me c was before x = before x
 
 abbrev pub known : {A : Type 0} → (Item → A) → (Item → Option A) → A → List ℕ → List ℕ → List Item → List ℕ → A
@@ -153,7 +159,7 @@ mark_says mark item = None
 abbrev pub marked : Mark → List ℕ → List ℕ → List Item → List ℕ → Bool
 marked mark = known (mark_begins mark) (mark_says mark) false
 
--- the user and the host, as in the join or in an answer to WHO
+-- the user and the host, as in the join, in a listing, in an answer to WHO or in the last change of them
 abbrev pub user_begins : Item → List ℕ
 user_begins (Joined nick user host d) = user
 user_begins (Listed d one) = one.user
@@ -162,6 +168,7 @@ user_begins item = []
 abbrev pub user_says : Item → Option (List ℕ)
 user_says (Joined nick user host d) = Some user
 user_says (Addressed d nick user host) = Some user
+user_says (Told nick (Address user host)) = Some user
 user_says item = None
 
 abbrev pub host_begins : Item → List ℕ
@@ -172,7 +179,18 @@ host_begins item = []
 abbrev pub host_says : Item → Option (List ℕ)
 host_says (Joined nick user host d) = Some host
 host_says (Addressed d nick user host) = Some host
+host_says (Told nick (Address user host)) = Some host
 host_says item = None
+
+-- The account: someone who joins or is listed has none. The last item that tells one says what it is, empty if the
+-- member is logged out. A change of nick keeps it, and it is gone with the member.
+abbrev pub account_begins : Item → List ℕ
+account_begins (Listed d one) = one.account
+account_begins item = []
+
+abbrev pub account_says : Item → Option (List ℕ)
+account_says (Told nick (Account account)) = Some account
+account_says item = None
 
 -- the nick's spelling, as when it was put on the channel or in the last change of nick
 abbrev pub nick_begins : Item → List ℕ
@@ -213,6 +231,7 @@ pub record IsAsSaid (first c : List ℕ) (past : List Item) (x : List ℕ) (m : 
   pub nick : m.nick ≡ known nick_begins nick_says [] first c past x
   pub user : m.user ≡ known user_begins user_says [] first c past x
   pub host : m.host ≡ known host_begins host_says [] first c past x
+  pub account : m.account ≡ known account_begins account_says [] first c past x
   pub op : m.op ≡ marked Op first c past x
   pub voice : m.voice ≡ marked Voice first c past x
   pub half_op : m.half_op ≡ marked HalfOp first c past x

@@ -14,7 +14,9 @@ use Rattle.chanstate.specs.declared.member.Member.{Member}
 use Rattle.chanstate.specs.declared.member.Mark.{Mark}
 use Rattle.chanstate.specs.declared.member.Mark.TheVariants.{Op, Voice, HalfOp}
 use Rattle.chanstate.specs.declared.support.Support.{Support}
-use Rattle.chanstate.specs.Announced.{is_in, is_sign, is_typed, takes_argument}
+use Rattle.chanstate.specs.declared.detail.Detail.{Detail}
+use Rattle.chanstate.specs.declared.detail.Detail.TheVariants.{Account, Address}
+use Rattle.chanstate.specs.Announced.{is_in, is_sign, is_typed, takes_argument, cut}
 use Rattle.chanstate.specs.declared.channel_command.ChannelCommand.{ChannelCommand}
 use Rattle.chanstate.specs.declared.channel_command.ChannelCommand.TheVariants as verb
 
@@ -43,6 +45,12 @@ pub data Item : Type 0 where
   Listed : List ℕ → Member → Item
   -- on the channel, the nick has this user and host
   Addressed : List ℕ → List ℕ → List ℕ → List ℕ → Item
+  -- of the nick, wherever it is a member, this is known
+  Told : List ℕ → Detail → Item
+  -- a JOIN says of the nick that it is logged in under this account, if JOINs tell accounts
+  ToldAtJoin : List ℕ → List ℕ → Item
+  -- whether JOINs tell accounts from now on
+  JoinsTell : Bool → Item
 
 -- what follows from a parameter, if it is present
 abbrev pub if_given : Option (List ℕ) → (List ℕ → List Item) → List Item
@@ -70,22 +78,41 @@ any_named (name ∷ more) = true
 abbrev pub signs_len : Support → List ℕ → ℕ
 signs_len s word = position_or_len (λ b. not (is_sign s b)) word
 
+-- whom a word of such a list names after the signs
+pub record Entry : Type 0 where
+  pub nick : List ℕ
+  pub user : List ℕ
+  pub host : List ℕ
+
+-- A nick, or nick!user@host (the capability userhost-in-names). After the nick, what is no user@host says nothing.
+abbrev pub addressed_as : List ℕ → Option (List ℕ × List ℕ) → Entry
+addressed_as nick None = record { nick = nick; user = []; host = [] }
+addressed_as nick (Some p) = record { nick = nick; user = p.0; host = p.1 }
+
+abbrev pub entry_at : List ℕ → Option (List ℕ × List ℕ) → Entry
+entry_at text None = record { nick = text; user = []; host = [] }
+entry_at text (Some p) = addressed_as p.0 (cut 64 p.1)
+
+abbrev pub entry_of : List ℕ → Entry
+entry_of text = entry_at text (cut 33 text)
+
 -- a word of such a list: @ is op, % is half-op, + is voice, and any other sign is none of these
-abbrev pub shown_by : List ℕ → List ℕ → Member
-shown_by signs nick = record {
-  nick = nick;
-  user = [];
-  host = [];
+abbrev pub shown_by : List ℕ → Entry → Member
+shown_by signs entry = record {
+  nick = entry.nick;
+  user = entry.user;
+  host = entry.host;
+  account = [];
   op = list_any (λ s. s == 64) signs;
   voice = list_any (λ s. s == 43) signs;
   half_op = list_any (λ s. s == 37) signs;
 }
 
-abbrev pub named_by : List ℕ → List ℕ → Option Member
-named_by signs nick = if length nick == 0 then None else Some (shown_by signs nick)
+abbrev pub named_by : List ℕ → Entry → Option Member
+named_by signs entry = if length entry.nick == 0 then None else Some (shown_by signs entry)
 
 abbrev pub named : Support → List ℕ → Option Member
-named s word = named_by (take (signs_len s word) word) (drop (signs_len s word) word)
+named s word = named_by (take (signs_len s word) word) (entry_of (drop (signs_len s word) word))
 
 abbrev pub names_in : Support → List ℕ → List Member
 names_in s text = filter_map (named s) (slice_split (λ b. b == 32) text)
@@ -140,6 +167,7 @@ abbrev pub read_by : Support → Item → List Item
 read_by s (ModesSet channel modes arguments) = markings s channel (singles s true modes arguments)
 read_by s (NamesTold channel names) = map (Listed channel) (names_in s names)
 read_by s (Joined nick user host channel) = if is_typed s channel then Joined nick user host channel ∷ [] else []
+read_by s (ToldAtJoin nick account) = if s.joins_tell then Told nick (Account account) ∷ [] else []
 read_by s item = item ∷ []
 
 -- the command of a message, as far as channels and events are concerned
@@ -157,12 +185,18 @@ word_of verb.RplTopic = codes "332"
 word_of verb.RplNoTopic = codes "331"
 word_of verb.RplNamReply = codes "353"
 word_of verb.RplWhoReply = codes "352"
+word_of verb.RplWhoSpcRpl = codes "354"
+word_of verb.Cap = codes "CAP"
+word_of verb.Account = codes "ACCOUNT"
+word_of verb.ChgHost = codes "CHGHOST"
 word_of verb.Privmsg = codes "PRIVMSG"
 word_of verb.Notice = codes "NOTICE"
 word_of verb.Other = []
 
 abbrev pub all_verbs : List ChannelCommand
 all_verbs =
+    verb.Privmsg ∷
+    verb.Notice ∷
     verb.RplWelcome ∷
     verb.RplISupport ∷
     verb.Join ∷
@@ -176,8 +210,10 @@ all_verbs =
     verb.RplNoTopic ∷
     verb.RplNamReply ∷
     verb.RplWhoReply ∷
-    verb.Privmsg ∷
-    verb.Notice ∷
+    verb.RplWhoSpcRpl ∷
+    verb.Cap ∷
+    verb.Account ∷
+    verb.ChgHost ∷
     []
 
 abbrev pub verb_of : List ℕ → ChannelCommand
@@ -191,11 +227,21 @@ rpl_welcome_items ps = if_given (slice_get ps 0) (λ nick. Welcomed nick ∷ [])
 abbrev pub rpl_isupport_items : List (List ℕ) → List Item
 rpl_isupport_items ps = Announced (drop 1 ps) ∷ []
 
--- JOIN and PART of a person
+-- the account that a parameter names; `none` stands for no account
+abbrev pub account_but : List ℕ → List ℕ → List ℕ
+account_but none text = if bytes_eq text none then [] else text
+
+-- JOIN of a person; with the capability extended-join the second parameter is the account, and * is none
+abbrev pub joined_as : List ℕ → List ℕ → List ℕ → List ℕ → Option (List ℕ) → List Item
+joined_as nick user host list None = map (Joined nick user host) (channels_in list)
+joined_as nick user host list (Some account) =
+    map (Joined nick user host) (channels_in list) ++ ToldAtJoin nick (account_but (codes "*") account) ∷ []
+
 abbrev pub join_items : Source → List (List ℕ) → List Item
-join_items (Person nick user host) ps = if_given (slice_get ps 0) (λ list. map (Joined nick user host) (channels_in list))
+join_items (Person nick user host) ps = if_given (slice_get ps 0) (λ list. joined_as nick user host list (slice_get ps 1))
 join_items who ps = []
 
+-- PART of a person
 abbrev pub part_items : Source → List (List ℕ) → List Item
 part_items (Person nick user host) ps = if_given (slice_get ps 0) (λ list. map (Left nick) (channels_in list))
 part_items who ps = []
@@ -242,6 +288,58 @@ rpl_who_reply_items ps =
     (λ channel. if_given (slice_get ps 2)
     (λ user. if_given (slice_get ps 3) (λ host. if_given (slice_get ps 5) (λ nick. Addressed channel nick user host ∷ []))))
 
+-- 354, an answer to WHO #channel %tcuhna,152: after the bot's nick it has our token, the channel, user, host, nick and
+-- account, and 0 is no account. Another token says nothing.
+abbrev pub who_items : List ℕ → List ℕ → List ℕ → List ℕ → List ℕ → List Item
+who_items channel user host nick account =
+    Addressed channel nick user host ∷ Told nick (Account (account_but (codes "0") account)) ∷ []
+
+abbrev pub rpl_whospcrpl_items : List (List ℕ) → List Item
+rpl_whospcrpl_items ps =
+    if_given (slice_get ps 1)
+    (λ token. if bytes_eq token (codes "152")
+    then if_given (slice_get ps 2)
+    (λ channel. if_given (slice_get ps 3)
+    (λ user. if_given (slice_get ps 4)
+    (λ host. if_given (slice_get ps 5) (λ nick. if_given (slice_get ps 6) (λ account. who_items channel user host nick account)))))
+    else [])
+
+-- ACCOUNT of a person (the capability account-notify): the parameter is the account, and * is none
+abbrev pub account_items : Source → List (List ℕ) → List Item
+account_items (Person nick user host) ps = if_given (slice_get ps 0) (λ account. Told nick (Account (account_but (codes "*") account)) ∷ [])
+account_items who ps = []
+
+-- CHGHOST of a person (the capability chghost): the parameters are the new user and host
+abbrev pub chghost_items : Source → List (List ℕ) → List Item
+chghost_items (Person nick user host) ps =
+    if_given (slice_get ps 0) (λ user. if_given (slice_get ps 1) (λ host. Told nick (Address user host) ∷ []))
+chghost_items who ps = []
+
+-- whether a word stands in a list of words separated by spaces
+abbrev pub has_word : List ℕ → List ℕ → Bool
+has_word word list = list_any (λ piece. bytes_eq piece word) (slice_split (λ b. b == 32) list)
+
+-- what a list of capabilities says of extended-join: CAP ACK enables each of them, and disables those after a minus;
+-- CAP DEL removes each of them
+abbrev pub acknowledged : List ℕ → List Item
+acknowledged list =
+    if has_word (codes "extended-join") list then JoinsTell true ∷ []
+    else (if has_word (codes "-extended-join") list then JoinsTell false ∷ [] else [])
+
+abbrev pub removed : List ℕ → List Item
+removed list = if has_word (codes "extended-join") list then JoinsTell false ∷ [] else []
+
+-- CAP of a server: the second parameter is ACK or DEL, the third the list
+abbrev pub capability_items : List (List ℕ) → List Item
+capability_items ps =
+    if_given (slice_get ps 1)
+    (λ what. if_given (slice_get ps 2)
+    (λ list. if bytes_eq what (codes "ACK") then acknowledged list else (if bytes_eq what (codes "DEL") then removed list else [])))
+
+abbrev pub cap_items : Source → List (List ℕ) → List Item
+cap_items (Person nick user host) ps = []
+cap_items who ps = capability_items ps
+
 abbrev pub items_by : ChannelCommand → Source → List (List ℕ) → List Item
 items_by verb.RplWelcome who ps = rpl_welcome_items ps
 items_by verb.RplISupport who ps = rpl_isupport_items ps
@@ -256,6 +354,10 @@ items_by verb.RplTopic who ps = rpl_topic_items ps
 items_by verb.RplNoTopic who ps = rpl_no_topic_items ps
 items_by verb.RplNamReply who ps = rpl_nam_reply_items ps
 items_by verb.RplWhoReply who ps = rpl_who_reply_items ps
+items_by verb.RplWhoSpcRpl who ps = rpl_whospcrpl_items ps
+items_by verb.Cap who ps = cap_items who ps
+items_by verb.Account who ps = account_items who ps
+items_by verb.ChgHost who ps = chghost_items who ps
 items_by verb.Privmsg who ps = []
 items_by verb.Notice who ps = []
 items_by verb.Other who ps = []

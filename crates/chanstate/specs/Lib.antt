@@ -18,5 +18,6 @@ pub mod Seats
 pub mod Memory
 pub mod Tasks
 pub mod Takes
+pub mod Tellings
 pub mod Plans
 pub mod Updates

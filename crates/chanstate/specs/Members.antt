@@ -5,7 +5,9 @@ use Rattle.chanstate.specs.declared.member.Member.{Member}
 use Rattle.chanstate.specs.declared.member.Mark.{Mark}
 use Rattle.chanstate.specs.declared.member.Mark.TheVariants.{Op, Voice, HalfOp}
 use Rattle.chanstate.specs.declared.member_edit.MemberEdit.{MemberEdit}
-use Rattle.chanstate.specs.declared.member_edit.MemberEdit.TheVariants.{Marked, Listed, Addressed}
+use Rattle.chanstate.specs.declared.member_edit.MemberEdit.TheVariants.{Marked, Listed, Addressed, Told}
+use Rattle.chanstate.specs.declared.detail.Detail.{Detail}
+use Rattle.chanstate.specs.declared.detail.Detail.TheVariants.{Account, Address}
 use Rattle.rfccase.specs.Casemapping.{is_same_by}
 use Rattle.chanstate.specs.Firsts.{first_removed, first_changed}
 use Rattle.rfccase.specs.declared.casemappings.Casemapping.{Casemapping}
@@ -18,13 +20,22 @@ is_called mapping nick m = is_same_by mapping nick m.nick
 abbrev pub has_member : Casemapping → List ℕ → List Member → Bool
 has_member mapping nick members = list_any (is_called mapping nick) members
 
--- a member who has no mark yet
+-- a member who has no mark yet, and of whom no account is known
 abbrev pub unmarked : List ℕ → List ℕ → List ℕ → Member
-unmarked nick user host = record { nick = nick; user = user; host = host; op = false; voice = false; half_op = false }
+unmarked nick user host = record { nick = nick; user = user; host = host; account = []; op = false; voice = false; half_op = false }
 
 -- the member with another user and host
 abbrev pub with_address : List ℕ → List ℕ → Member → Member
 with_address user host m = record m { user = user; host = host }
+
+-- the member logged in under another account
+abbrev pub with_account : List ℕ → Member → Member
+with_account account m = record m { account = account }
+
+-- the member as the server has told
+abbrev pub with_detail : Detail → Member → Member
+with_detail (Account account) m = with_account account m
+with_detail (Address user host) m = with_address user host m
 
 -- the member under another nick
 abbrev pub with_nick : List ℕ → Member → Member
@@ -45,6 +56,7 @@ abbrev pub edited : MemberEdit → Member → Member
 edited (Marked mark on) m = with_mark mark on m
 edited (Listed more) m = with_marks_of more m
 edited (Addressed user host) m = with_address user host m
+edited (Told detail) m = with_detail detail m
 
 -- someone joins: a member gets the new address, and anyone else comes last, without marks
 abbrev pub arrived : Casemapping → Member → List Member → List Member

@@ -2,6 +2,8 @@
 use Rattle.std.specs.Prelude.{ℕ, Bool, true, false, not, ◌||◌, ◌&&◌, List, Option, None, Some, nat_eq, find}
 use Rattle.std.specs.Cmp.Lexicographic.{pointwise}
 use Rattle.chanstate.specs.declared.member.Member.{Member}
+use Rattle.chanstate.specs.declared.detail.Detail.{Detail}
+use Rattle.chanstate.specs.declared.detail.Detail.TheVariants.{Account, Address}
 use Rattle.std.specs.List.{list_any}
 use Rattle.ircline.specs.declared.message.Message.{Message}
 use Rattle.chanstate.specs.declared.channel.Channel.{Channel}
@@ -12,6 +14,7 @@ use Rattle.chanstate.specs.Channels.{is_held}
 use Rattle.chanstate.specs.Announced.{is_typed}
 use Rattle.chanstate.specs.Views.{mapping_of, channel_in, member_in}
 use Rattle.chanstate.specs.Items.{Item, Welcomed, Announced, Joined, Left, Departed, Renamed, ModesSet, Marked, Titled, NamesTold, Listed, Addressed}
+use Rattle.chanstate.specs.Items.{Told, ToldAtJoin, JoinsTell}
 use Rattle.chanstate.specs.Items.{names_in, items_of}
 use Rattle.rfccase.specs.declared.casemappings.Casemapping.{Casemapping}
 
@@ -35,6 +38,19 @@ abbrev pub respells : List ℕ → Option Member → Bool
 respells nick None = false
 respells nick (Some m) = not (pointwise nat_eq m.nick nick)
 
+-- whether the member is present, and something else is known of it
+abbrev pub relogs : List ℕ → Option Member → Bool
+relogs account None = false
+relogs account (Some m) = not (pointwise nat_eq m.account account)
+
+abbrev pub retells : Detail → Option Member → Bool
+retells (Account account) o = relogs account o
+retells (Address user host) o = readdresses user host o
+
+-- whether this is so on some channel
+abbrev pub tells : List ℕ → Detail → ChanState → Bool
+tells nick detail s = list_any (λ c. retells detail (find (is_called (mapping_of s) nick) c.members)) s.channels
+
 -- whether the bot joins a channel, or another person one that is held
 abbrev pub join_adds : List ℕ → List ℕ → ChanState → Bool
 join_adds nick channel s = is_same_by (mapping_of s) nick s.nick || is_held (mapping_of s) channel s.channels
@@ -55,6 +71,9 @@ adds (Titled channel topic) s = retitles topic (channel_in channel s)
 adds (NamesTold channel names) s = list_any (λ one. lacks (mapping_of s) one.nick (channel_in channel s)) (names_in s.support names)
 adds (Listed channel one) s = lacks (mapping_of s) one.nick (channel_in channel s)
 adds (Addressed channel nick user host) s = readdresses user host (member_in channel nick s)
+adds (Told nick detail) s = tells nick detail s
+adds (ToldAtJoin nick account) s = s.support.joins_tell && tells nick (Account account) s
+adds (JoinsTell tell) s = false
 
 -- whether one of these items does
 abbrev pub any_adds : List Item → ChanState → Bool

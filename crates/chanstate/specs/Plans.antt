@@ -3,7 +3,10 @@ use Rattle.std.specs.Prelude.{◌≡◌, Bool, true, false, ◌&&◌, List, Opti
 use Rattle.ircline.specs.declared.message.Message.{Message}
 use Rattle.chanstate.specs.declared.state.ChanState.{ChanState}
 use Rattle.chanstate.specs.declared.message_plan.MessagePlan.{MessagePlan}
-use Rattle.chanstate.specs.declared.message_plan.MessagePlan.TheVariants.{Plain, Welcome, Title, Address, Open, Come, Seat}
+use Rattle.chanstate.specs.declared.message_plan.MessagePlan.TheVariants.{Plain, Welcome, Title, Address, Open, Come, Tell, Seat}
+use Rattle.chanstate.specs.declared.telling.Telling.{Telling}
+use Rattle.chanstate.specs.Tellings.{told_each}
+use Rattle.chanstate.specs.Views.{mapping_of}
 use Rattle.chanstate.specs.declared.support.Support.{Support}
 use Rattle.chanstate.specs.Announced.{with_join}
 use Rattle.chanstate.specs.Items.{Item, Welcomed, Titled, Addressed, items_of}
@@ -20,20 +23,29 @@ is_plain other = false
 abbrev pub joined_if : Bool → Support → Support
 joined_if joined s = if joined then with_join s else s
 
+-- the state once what was prepared is told of a nick
+abbrev pub told : Option Telling → ChanState → ChanState
+told None s = s
+told (Some t) s = record s { channels = told_each (mapping_of s) t.nick t.details.items s.channels }
+
+abbrev pub told_if : Bool → Option Telling → ChanState → ChanState
+told_if done telling s = if done then told telling s else s
+
 -- the state that takes in what was prepared, or gets back what was taken out for it
 abbrev pub settled : Bool → MessagePlan → ChanState → ChanState
 settled done Plain s = s
 settled done (Welcome nick) s = if done then step (Welcomed nick) s else s
 settled done (Title channel topic) s = if done then step (Titled channel topic) s else s
-settled done (Address channel nick user host) s = if done then step (Addressed channel nick user host) s else s
-settled done (Open joined o) s = record s {
+settled done (Address channel nick user host telling) s = if done then told telling (step (Addressed channel nick user host) s) else s
+settled done (Open joined o telling) s = told_if done telling (record s {
   channels = if done then o.1 else o.0;
   support = joined_if (done && joined) s.support;
-}
-settled done (Come joined takes) s = record s {
+})
+settled done (Come joined takes telling) s = told_if done telling (record s {
   channels = given done takes.items s.channels;
   support = joined_if (done && joined) s.support;
-}
+})
+settled done (Tell telling) s = told_if done (Some telling) s
 settled done (Seat own takes) s = record s {
   nick = if done then unwrap_or own s.nick else s.nick;
   channels = given done takes.items s.channels;
@@ -51,6 +63,10 @@ Suits items s (Some next) = next ≡ steps items s
 -- a plan for some items, and the state that is left meanwhile
 abbrev pub IsPlanFor : List Item → MessagePlan → ChanState → ChanState → Type 0
 IsPlanFor items plan left s = (settled false plan left ≡ s) × Suits items s (after_plan plan left)
+
+-- a plan for some items, after which what was prepared is told; it is never plain
+abbrev pub IsToldAfter : List Item → Option Telling → MessagePlan → ChanState → ChanState → Type 0
+IsToldAfter items telling plan left s = (settled false plan left ≡ s) × (after_plan plan left ≡ Some (told telling (steps items s)))
 
 -- what was prepared for a message and a state
 abbrev pub IsReady : Message → ChanState → ChanState × Option ChanState → Type 0

@@ -5,10 +5,11 @@ use Rattle.chanstate.specs.declared.state.ChanState.{ChanState}
 use Rattle.rfccase.specs.Casemapping.{is_same_by}
 use Rattle.chanstate.specs.Firsts.{first_removed, first_changed}
 use Rattle.chanstate.specs.Members.{is_called, unmarked, with_mark, with_address, arrived, listed}
-use Rattle.chanstate.specs.Channels.{is_named, opened, with_topic, on_channel, put_last, all_without, all_renamed}
-use Rattle.chanstate.specs.Announced.{unannounced, announced, with_join}
+use Rattle.chanstate.specs.Channels.{is_named, opened, with_topic, on_channel, put_last, all_without, all_renamed, all_told}
+use Rattle.chanstate.specs.Announced.{welcomed, announced, with_join, with_joins_tell}
 use Rattle.chanstate.specs.Views.{mapping_of}
 use Rattle.chanstate.specs.Items.{Item, Welcomed, Announced, Joined, Left, Departed, Renamed, ModesSet, Marked, Titled, NamesTold, Listed, Addressed}
+use Rattle.chanstate.specs.Items.{Told, ToldAtJoin, JoinsTell}
 use Rattle.chanstate.specs.Items.{read_by, items_of}
 
 -- A person joins a channel; if the person is the bot, the channel is put last as one just joined. From then on the
@@ -41,7 +42,7 @@ departed nick s =
 
 -- the state after one item that means itself; an item that stands for others changes nothing by itself
 abbrev pub step : Item → ChanState → ChanState
-step (Welcomed nick) s = record { nick = nick; channels = []; support = unannounced }
+step (Welcomed nick) s = record { nick = nick; channels = []; support = welcomed s.support }
 step (Announced tokens) s = record s { support = announced tokens s.support }
 step (Joined nick user host channel) s = joined nick user host channel s
 step (Left nick channel) s = left nick channel s
@@ -61,6 +62,9 @@ step (Listed channel one) s =
     record s { channels = on_channel (mapping_of s) channel (listed (mapping_of s) one) s.channels }
 step (Addressed channel nick user host) s =
     record s { channels = on_channel (mapping_of s) channel (first_changed (is_called (mapping_of s) nick) (with_address user host)) s.channels }
+step (Told nick detail) s = record s { channels = all_told (mapping_of s) nick detail s.channels }
+step (ToldAtJoin nick account) s = s
+step (JoinsTell tell) s = record s { support = with_joins_tell tell s.support }
 
 abbrev pub each_step : List Item → ChanState → ChanState
 each_step [] s = s

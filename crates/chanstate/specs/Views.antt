@@ -50,3 +50,15 @@ is_voice (Some member) = member.voice
 -- the names of the channels that have a member of this nick, in the order in which the bot joined them
 abbrev pub channels_with : List ℕ → ChanState → List (List ℕ)
 channels_with nick s = map (λ channel. channel.name) (filter (λ channel. has_member (mapping_of s) nick channel.members) s.channels)
+
+-- the account of a member, or none if there is none
+abbrev pub account_of : Option Member → List ℕ
+account_of None = []
+account_of (Some member) = member.account
+
+-- the account of the member of this nick on the first channel that has one of this nick
+abbrev pub account_in : List ℕ → ChanState → List ℕ
+account_in nick s =
+    account_of
+    (find (is_called (mapping_of s) nick)
+    (members_of (find (λ channel. has_member (mapping_of s) nick channel.members) s.channels)))

@@ -19,13 +19,19 @@ pub enum ChannelCommand {
     RplNoTopic,
     RplNamReply,
     RplWhoReply,
+    RplWhoSpcRpl,
+    Cap,
+    Account,
+    ChgHost,
     Privmsg,
     Notice,
     Other,
 }
 
-// Every command that has a name.
-const ALL: [ChannelCommand; 15] = [
+// Every command that has a name. Most lines are talk, so PRIVMSG is compared first.
+const ALL: [ChannelCommand; 19] = [
+    ChannelCommand::Privmsg,
+    ChannelCommand::Notice,
     ChannelCommand::RplWelcome,
     ChannelCommand::RplISupport,
     ChannelCommand::Join,
@@ -39,8 +45,10 @@ const ALL: [ChannelCommand; 15] = [
     ChannelCommand::RplNoTopic,
     ChannelCommand::RplNamReply,
     ChannelCommand::RplWhoReply,
-    ChannelCommand::Privmsg,
-    ChannelCommand::Notice,
+    ChannelCommand::RplWhoSpcRpl,
+    ChannelCommand::Cap,
+    ChannelCommand::Account,
+    ChannelCommand::ChgHost,
 ];
 
 impl ChannelCommand {
@@ -62,6 +70,10 @@ impl ChannelCommand {
             ChannelCommand::RplNoTopic => b"331",
             ChannelCommand::RplNamReply => b"353",
             ChannelCommand::RplWhoReply => b"352",
+            ChannelCommand::RplWhoSpcRpl => b"354",
+            ChannelCommand::Cap => b"CAP",
+            ChannelCommand::Account => b"ACCOUNT",
+            ChannelCommand::ChgHost => b"CHGHOST",
             ChannelCommand::Privmsg => b"PRIVMSG",
             ChannelCommand::Notice => b"NOTICE",
             ChannelCommand::Other => b"",
@@ -69,15 +81,11 @@ impl ChannelCommand {
     }
 }
 
-/// Returns the command called `command` (RFC 2812 sections 3.1, 3.2, 3.3 and 5.1; for 005 RPL_ISUPPORT of today's
-/// servers).
+/// Returns the command called `command` (RFC 2812 sections 3.1, 3.2, 3.3 and 5.1; for 005, 354, CAP, ACCOUNT and CHGHOST
+/// what today's servers send).
 pub fn read_verb(command: &[u8]) -> ChannelCommand
     ensures { result ≡ verb_of command.now }
 {
-    // Most lines are talk, so no other command is compared with theirs.
-    if command == ChannelCommand::Privmsg.word() {
-        return ChannelCommand::Privmsg;
-    }
     find_verb(command).unwrap_or(ChannelCommand::Other)
 }
 

@@ -83,6 +83,15 @@ impl Channels {
             .find(|channel| is_same(mapping, name, channel.name.as_bytes()))
     }
 
+    // Returns the first channel that has a member called `nick`.
+    pub(crate) fn find_with(&self, mapping: Casemapping, nick: &[u8]) -> Option<&Channel>
+        ensures { option_copied result ≡ find (λ channel. has_member mapping nick.now channel.members) self.now }
+    {
+        self.items
+            .iter()
+            .find(|channel| channel.members.holds(mapping, nick))
+    }
+
     // Returns the names of the channels that have a member called `nick`, in order.
     pub(crate) fn names_with(
         &self,

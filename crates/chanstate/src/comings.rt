@@ -1,9 +1,9 @@
-// The events of people who join, leave or change nick.
+// The events of people who join, leave, change nick, or log in.
 ghost use Rattle.std.specs.Prelude.{◌≡◌, [], ◌∷◌, IfOk, filter, map};
 ghost use Rattle.std.specs.List.{filter_map};
 ghost use Rattle.std.specs.Option.{option_copied, option_to_list};
 ghost use Rattle.chanstate.specs.Items.{is_channel_on};
-ghost use Rattle.chanstate.specs.Comings.{spelled, listed_in, joins, parts, signs_off, renames};
+ghost use Rattle.chanstate.specs.Comings.{spelled, listed_in, joins, parts, signs_off, renames, logins};
 ghost use Rattle.chanstate.specs.Deeds.{told};
 ghost use Rattle.chanstate.specs.Members.{has_member};
 ghost use Rattle.chanstate.specs.Views.{channels_with};
@@ -13,7 +13,7 @@ use crate::deed::{Author, Deed, joined};
 use crate::event::{EventKind, IrcEvent};
 use crate::names::is_same;
 use crate::state::ChanState;
-use crate::words::{param, text_at};
+use crate::words::{account_but, param, text_at};
 use bytetext::{NoMemory, Text};
 use rfccase::Casemapping;
 use std::alloc::Global;
@@ -99,6 +99,30 @@ pub(crate) fn rename(
         by,
         about: new,
         more: &[new],
+    };
+    on_shared(alloc, &deed, state)
+}
+
+// Returns the events of an ACCOUNT.
+pub(crate) fn login(
+    alloc: Global,
+    by: Author<'_>,
+    params: &[Text],
+    state: &ChanState,
+) -> Result<Vec<IrcEvent>, NoMemory>
+    ensures { IfOk result (λ v. v.items ≡ logins by.entry.nick.now by.entry.address.now params.now state.now) }
+{
+    let Some(text) = param(params, 0) else {
+        return Ok(Vec::new(alloc));
+    };
+    let account = account_but(b"*", text);
+    let mask = joined(alloc, by.nick, b'!', by.address)?;
+    let about = joined(alloc, mask.as_bytes(), b' ', account)?;
+    let deed = Deed {
+        kind: EventKind::Account,
+        by,
+        about: about.as_bytes(),
+        more: &[account],
     };
     on_shared(alloc, &deed, state)
 }

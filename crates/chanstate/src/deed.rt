@@ -45,6 +45,7 @@ impl Deed<'_> {
             kind: self.kind,
             subject,
             channel: Some(name),
+            account: Text::empty(alloc),
             arguments: Texts::new(arguments),
         })
     }

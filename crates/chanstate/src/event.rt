@@ -1,7 +1,7 @@
 // What a message means to procs that are bound to it.
 ghost use Rattle.std.specs.Prelude.{◌≡◌, ◌++◌, IfOk, OnOk, map};
 ghost use Rattle.std.specs.Option.{option_copied};
-ghost use Rattle.chanstate.specs.EventShape.{event_with};
+ghost use Rattle.chanstate.specs.EventShape.{event_with, with_account};
 
 use bytetext::{NoMemory, Text, Texts, TryCopy};
 use std::alloc::Global;
@@ -35,6 +35,8 @@ pub enum EventKind {
     Mode,
     /// A channel gets another topic.
     Topc,
+    /// Someone who is on a channel logs in to the network's services, or logs out.
+    Account,
 }
 
 /// An event that a message gives.
@@ -46,6 +48,9 @@ pub struct IrcEvent {
     pub subject: Text,
     /// The channel that it happens on, as the bot spells it; `None` for an event that is on no channel.
     pub channel: Option<Text>,
+    /// The account of the network's services under which the person behind the event is logged in; empty if none is
+    /// known or no person is behind it.
+    pub account: Text,
     /// The arguments of a proc. For every kind but `Raw` they begin with the nick and `user@host` of the person. The
     /// handle, which isn't among them, would come next. If a server acts, the nick is empty and its name takes the
     /// place of `user@host`.
@@ -59,13 +64,14 @@ impl Drop for IrcEvent {
             kind: _,
             subject: _,
             channel: _,
+            account: _,
             arguments: _,
         } = self;
     }
 }
 
 impl IrcEvent {
-    // Creates an event of these parts.
+    // Creates an event of these parts, without an account.
     pub(crate) fn new(
         alloc: Global,
         kind: EventKind,
@@ -85,8 +91,19 @@ impl IrcEvent {
             kind,
             subject,
             channel,
+            account: Text::empty(alloc),
             arguments: Texts::new(arguments),
         })
+    }
+}
+
+impl IrcEvent {
+    // Gives the event a copy of `account`. Allocates nothing if it is empty.
+    pub(crate) fn set_account(&mut self, alloc: Global, account: &[u8]) -> Result<(), NoMemory>
+        ensures { OnOk result (self.new ≡ with_account account.now self.old) }
+    {
+        self.account = Text::from_slice(alloc, account)?;
+        Ok(())
     }
 }
 
@@ -100,6 +117,7 @@ impl TryCopy for IrcEvent {
             kind: self.kind,
             subject: self.subject.copy(alloc)?,
             channel,
+            account: self.account.copy(alloc)?,
             arguments: self.arguments.copy(alloc)?,
         })
     }

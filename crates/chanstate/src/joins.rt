@@ -1,18 +1,20 @@
 // People join channels (RFC 2812 section 3.2.1).
-ghost use Rattle.std.specs.Prelude.{◌≡◌, ◌<◌, ◌++◌, true, false, [], ◌∷◌, length, filter, IfOk, OnOk, OnErr, MatchResult, map};
+ghost use Rattle.std.specs.Prelude.{◌≡◌, ◌<◌, ◌++◌, ◌||◌, ◌&&◌, true, false, [], ◌∷◌, length, filter, IfOk, OnOk, OnErr, MatchResult, map};
 ghost use Rattle.chanstate.specs.Channels.{is_held, opened};
-ghost use Rattle.chanstate.specs.Memory.{any_adds};
-ghost use Rattle.chanstate.specs.Seen.{joins_in};
-ghost use Rattle.chanstate.specs.Items.{any_named, channels_on, is_channel_on};
+ghost use Rattle.chanstate.specs.Memory.{any_adds, join_adds, tells};
+ghost use Rattle.chanstate.specs.Seen.{joins_in, detail_seen};
+ghost use Rattle.chanstate.specs.Items.{ToldAtJoin, any_named, channels_on, is_channel_on};
 ghost use Rattle.chanstate.specs.Views.{mapping_of};
 ghost use Rattle.chanstate.specs.Members.{arrived, unmarked};
 ghost use Rattle.std.specs.List.{list_any};
 ghost use Rattle.chanstate.specs.Takes.{AreKept, IsTaken, came_each, given};
 ghost use Rattle.rfccase.specs.Casemapping.{is_same_by};
-ghost use Rattle.chanstate.specs.Plans.{IsPlanFor};
+ghost use Rattle.chanstate.specs.Plans.{IsPlanFor, IsToldAfter, told};
+ghost use Rattle.chanstate.specs.Steps.{steps};
 
 use crate::channel::Channel;
 use crate::channels::Channels;
+use crate::detail_parts::DetailParts;
 use crate::member::Member;
 use crate::message_plan::MessagePlan;
 use crate::names::is_same;
@@ -20,6 +22,7 @@ use crate::state::ChanState;
 use crate::support::Support;
 use crate::take::{Take, is_taken};
 use crate::task::Task;
+use crate::telling::Telling;
 use bytetext::NoMemory;
 use ircline::Person;
 use rfccase::Casemapping;
@@ -88,16 +91,17 @@ impl Channels {
 }
 
 impl ChanState {
-    // Prepares the joins of the bot on the channels of `list`.
+    // Prepares the joins of the bot on the channels of `list`, and then `telling`.
     fn ready_own_join(
         &mut self,
         alloc: Global,
         person: Person<'_>,
         list: &[u8],
+        telling: Option<Telling>,
     ) -> Result<MessagePlan, NoMemory>
         requires { is_same_by (mapping_of self.old) person.nick.now self.old.nick ≡ true }
         ensures memory { OnErr result (any_adds (joins_in person.entry list.now) self.old ≡ true) }
-        ensures ready { MatchResult result (λ plan. IsPlanFor (joins_in person.entry list.now) plan self.new self.old) (λ _. self.new ≡ self.old) }
+        ensures ready { MatchResult result (λ plan. IsToldAfter (joins_in person.entry list.now) telling plan self.new self.old) (λ _. self.new ≡ self.old) }
     {
         let opened = opened_each(alloc, self.casemapping(), &self.support, person, list)?;
         let mapping = self.casemapping();
@@ -105,6 +109,7 @@ impl ChanState {
         Ok(MessagePlan::Open {
             joined: names_channel(&self.support, list),
             opening,
+            telling,
         })
     }
 
@@ -118,8 +123,41 @@ impl ChanState {
         ensures memory { OnErr result (any_adds (joins_in person.entry list.now) self.old ≡ true) }
         ensures ready { MatchResult result (λ plan. IsPlanFor (joins_in person.entry list.now) plan self.new self.old) (λ _. self.new ≡ self.old) }
     {
+        let plan = self.ready_joins(alloc, person, list, None)?;
+        Ok(plan)
+    }
+
+    // Prepares the joins of a person on the channels of a list, and then what the JOIN tells of the account.
+    pub(crate) fn ready_join_as(
+        &mut self,
+        alloc: Global,
+        person: Person<'_>,
+        list: &[u8],
+        account: &[u8],
+    ) -> Result<MessagePlan, NoMemory>
+        ensures memory { OnErr result (any_adds
+            (joins_in person.entry list.now ++ ToldAtJoin person.entry.nick.now account.now ∷ []) self.old ≡ true) }
+        ensures ready { MatchResult result (λ plan. IsPlanFor
+            (joins_in person.entry list.now ++ ToldAtJoin person.entry.nick.now account.now ∷ []) plan self.new self.old) (λ _. self.new ≡ self.old) }
+    {
+        let telling = self.ready_join_telling(alloc, person, list, account)?;
+        let plan = self.ready_joins(alloc, person, list, telling)?;
+        Ok(plan)
+    }
+
+    // Prepares the joins of a person on the channels of a list, and then `telling`.
+    fn ready_joins(
+        &mut self,
+        alloc: Global,
+        person: Person<'_>,
+        list: &[u8],
+        telling: Option<Telling>,
+    ) -> Result<MessagePlan, NoMemory>
+        ensures memory { OnErr result (any_adds (joins_in person.entry list.now) self.old ≡ true) }
+        ensures ready { MatchResult result (λ plan. IsToldAfter (joins_in person.entry list.now) telling plan self.new self.old) (λ _. self.new ≡ self.old) }
+    {
         if is_same(self.casemapping(), person.nick, self.nick.as_bytes()) {
-            return self.ready_own_join(alloc, person, list);
+            return self.ready_own_join(alloc, person, list, telling);
         }
         let mapping = self.casemapping();
         let takes = self
@@ -128,7 +166,60 @@ impl ChanState {
         Ok(MessagePlan::Come {
             joined: names_channel(&self.support, list),
             takes,
+            telling,
         })
+    }
+
+    // Returns whether `piece` names a channel, and a join of `nick` there brings a text to keep.
+    fn piece_adds(&self, nick: &[u8], piece: &[u8]) -> bool
+        ensures { result ≡ (is_channel_on self.now.support piece.now && join_adds nick.now piece.now self.now) }
+    {
+        self.support.is_channel(piece)
+            && (is_same(self.casemapping(), nick, self.nick.as_bytes()) || self.holds(piece))
+    }
+
+    // Returns whether joins of `nick` on the channels of `list` bring a text to keep.
+    fn joins_add(&self, nick: &[u8], list: &[u8]) -> bool
+        ensures { result ≡ list_any (λ name. join_adds nick.now name self.now) (channels_on self.now.support list.now) }
+    {
+        for piece in list.split(|byte| *byte == b',') {
+            if self.piece_adds(nick, piece) {
+                return true;
+            }
+        }
+        false
+    }
+
+    // Returns whether what a JOIN tells is news of a member, or the joins bring a text to keep.
+    fn tells_at_join(&self, nick: &[u8], list: &[u8], parts: DetailParts<'_>) -> bool
+        ensures { result ≡ (tells nick.now (detail_seen parts.entry) self.now
+            || list_any (λ name. join_adds nick.now name self.now) (channels_on self.now.support list.now)) }
+    {
+        self.tells(nick, parts) || self.joins_add(nick, list)
+    }
+
+    // Prepares what a JOIN tells of the account, if JOINs tell it and that may be news.
+    fn ready_join_telling(
+        &self,
+        alloc: Global,
+        person: Person<'_>,
+        list: &[u8],
+        account: &[u8],
+    ) -> Result<Option<Telling>, NoMemory>
+        ensures memory { OnErr result (any_adds
+            (joins_in person.entry list.now ++ ToldAtJoin person.entry.nick.now account.now ∷ []) self.now ≡ true) }
+        ensures told { IfOk result (λ t. told t (steps (joins_in person.entry list.now) self.now)
+            ≡ steps (joins_in person.entry list.now ++ ToldAtJoin person.entry.nick.now account.now ∷ []) self.now) }
+    {
+        let parts = DetailParts::Account(account);
+        if !self.support.joins_tell() {
+            return Ok(None);
+        }
+        if !self.tells_at_join(person.nick, list, parts) {
+            return Ok(None);
+        }
+        let telling = Telling::at_join(alloc, person.nick, parts, self.channels.as_slice(), list)?;
+        Ok(Some(telling))
     }
 }
 

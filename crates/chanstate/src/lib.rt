@@ -16,6 +16,13 @@
 //! STATUSMSG may stand before the name of a channel to which a text is sent, as in `@#a`: the text is for the members
 //! with that status, and has the events of a text on the channel.
 //!
+//! A member may be logged in to an account of the network's services. The state learns the account from servers with
+//! IRCv3 capabilities: from ACCOUNT (account-notify), from the second parameter of a JOIN if the server has acknowledged
+//! the capability extended-join, and from reply 354 to `WHO #channel %tcuhna,152`. What a line says of a person's
+//! account holds on every channel. [`ChanState::account_of`] returns it, and each event has the account of the person
+//! behind it. Someone who joins or is listed has none until a line tells it. CHGHOST gives a new address on every
+//! channel, and a list of names may have an address after each nick (userhost-in-names).
+//!
 //! Members are looked up by their nicks. A message costs a walk over the names of the held channels, and a look-up on
 //! each channel that it concerns (for QUIT and NICK on every held channel). This doesn't grow with the number of
 //! members, even when people leave and come back. Only making room for more members visits all seats of a channel, and
@@ -57,12 +64,16 @@
 //! ```
 #![tactic(auto)]
 
+mod accounts;
+mod capabilities;
 mod channel;
 mod channel_command;
 mod channels;
 mod comings;
 mod copies;
 mod deed;
+mod detail;
+mod detail_parts;
 mod event;
 mod history;
 mod joins;
@@ -90,6 +101,7 @@ mod state_update;
 mod support;
 mod take;
 mod task;
+mod telling;
 mod topics;
 mod words;
 

@@ -3,8 +3,9 @@ ghost use Rattle.std.specs.Prelude.{◌≡◌, ◌++◌, ◌∷◌, IfOk};
 ghost use Rattle.ircline.specs.Sources.{Server, Person as SomePerson};
 ghost use Rattle.chanstate.specs.Events.{typed_by, events_of};
 
+use crate::accounts::{account_behind, add_account};
 use crate::channel_command::{ChannelCommand, read_verb};
-use crate::comings::{join, part, quit, rename};
+use crate::comings::{join, login, part, quit, rename};
 use crate::deed::{Author, joined};
 use crate::event::{EventKind, IrcEvent};
 use crate::operations::{kick, mode, title};
@@ -37,6 +38,7 @@ pub fn events(
     let parts = [message.prefix.as_bytes(), command, message.rest.as_bytes()];
     let raw = IrcEvent::new(alloc, EventKind::Raw, command, None, &parts)?;
     events.insert(0, raw)?;
+    add_account(&mut events, alloc, account_behind(message, state))?;
     Ok(events)
 }
 
@@ -63,6 +65,7 @@ fn by_server(
         | ChannelCommand::Join
         | ChannelCommand::Part
         | ChannelCommand::Quit
+        | ChannelCommand::Account
         | ChannelCommand::Nick => { Ok(Vec::new(alloc)) }
         ChannelCommand::RplWelcome
         | ChannelCommand::RplISupport
@@ -70,6 +73,9 @@ fn by_server(
         | ChannelCommand::RplNoTopic
         | ChannelCommand::RplNamReply
         | ChannelCommand::RplWhoReply
+        | ChannelCommand::RplWhoSpcRpl
+        | ChannelCommand::Cap
+        | ChannelCommand::ChgHost
         | ChannelCommand::Other => Ok(Vec::new(alloc)),
     }
 }
@@ -97,6 +103,7 @@ fn by_person(
         ChannelCommand::Part => part(alloc, by, params, state),
         ChannelCommand::Quit => quit(alloc, by, params, state),
         ChannelCommand::Nick => rename(alloc, by, params, state),
+        ChannelCommand::Account => login(alloc, by, params, state),
         ChannelCommand::Kick => kick(alloc, by, params, state),
         ChannelCommand::Mode => mode(alloc, by, params, state),
         ChannelCommand::Topic => title(alloc, by, params, state),
@@ -106,6 +113,9 @@ fn by_person(
         | ChannelCommand::RplNoTopic
         | ChannelCommand::RplNamReply
         | ChannelCommand::RplWhoReply
+        | ChannelCommand::RplWhoSpcRpl
+        | ChannelCommand::Cap
+        | ChannelCommand::ChgHost
         | ChannelCommand::Other => Ok(Vec::new(alloc)),
     }
 }

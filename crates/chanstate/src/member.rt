@@ -1,7 +1,8 @@
 // One member of a channel.
 ghost use Rattle.std.specs.Prelude.{◌≡◌, ◌<◌, ◌+◌, length, IfOk, IfErr};
-ghost use Rattle.chanstate.specs.Members.{unmarked, with_mark, edited};
+ghost use Rattle.chanstate.specs.Members.{unmarked, with_detail, with_mark, edited};
 
+use crate::detail::Detail;
 use crate::member_edit::MemberEdit;
 use bytetext::{NoMemory, Text, TryCopy};
 use std::alloc::Global;
@@ -26,6 +27,8 @@ pub struct Member {
     pub user: Text,
     /// The host; empty until a line tells it.
     pub host: Text,
+    /// The account of the network's services under which the member is logged in; empty if none is known.
+    pub account: Text,
     /// Whether the member is a channel operator.
     pub op: bool,
     /// Whether the member has voice.
@@ -35,7 +38,7 @@ pub struct Member {
 }
 
 impl Member {
-    /// Creates a member called `nick` with the address `user` and `host`, without marks.
+    /// Creates a member called `nick` with the address `user` and `host`, without marks and without an account.
     ///
     /// # Errors
     /// Returns `NoMemory` if a copy can't be allocated, never if the nick, the user name and the host are all empty.
@@ -47,6 +50,7 @@ impl Member {
             nick: Text::from_slice(alloc, nick)?,
             user: Text::from_slice(alloc, user)?,
             host: Text::from_slice(alloc, host)?,
+            account: Text::empty(alloc),
             op: false,
             voice: false,
             half_op: false,
@@ -65,6 +69,20 @@ impl Member {
                 self.half_op |= more.half_op;
             }
             MemberEdit::Addressed(user, host) => {
+                self.user = user;
+                self.host = host;
+            }
+            MemberEdit::Told(detail) => self.take_detail(detail),
+        }
+    }
+
+    // Takes in what the server tells.
+    fn take_detail(&mut self, detail: Detail)
+        ensures { self.new ≡ with_detail detail self.old }
+    {
+        match detail {
+            Detail::Account(account) => self.account = account,
+            Detail::Address { user, host } => {
                 self.user = user;
                 self.host = host;
             }
@@ -89,6 +107,7 @@ impl TryCopy for Member {
             nick: self.nick.copy(alloc)?,
             user: self.user.copy(alloc)?,
             host: self.host.copy(alloc)?,
+            account: self.account.copy(alloc)?,
             op: self.op,
             voice: self.voice,
             half_op: self.half_op,

@@ -1,4 +1,5 @@
 // A change of one member.
+use crate::detail::Detail;
 use crate::member::{Mark, Member};
 use bytetext::Text;
 
@@ -11,4 +12,6 @@ pub enum MemberEdit {
     Listed(Member),
     // The user and host become these.
     Addressed(Text, Text),
+    // The server tells this.
+    Told(Detail),
 }

@@ -1,13 +1,15 @@
 // What is prepared for a message before it is taken in, so that taking it in allocates nothing.
 ghost use Rattle.std.specs.Prelude.{◌≡◌, ◌+◌, ◌≤◌, if◌then◌else◌, length, unwrap_or};
 ghost use Rattle.std.specs.Vec.{vec_len, vec_capacity};
-ghost use Rattle.chanstate.specs.Plans.{is_plain, settled};
+ghost use Rattle.chanstate.specs.Plans.{is_plain, settled, told_if};
+ghost use Rattle.chanstate.specs.Items.{Addressed};
+ghost use Rattle.chanstate.specs.Steps.{step};
 
 use crate::channel::Channel;
 use crate::channels::{Channels, put_each};
 use crate::state::ChanState;
-use crate::support::Support;
 use crate::take::Take;
+use crate::telling::Telling;
 use bytetext::Text;
 use rfccase::Casemapping;
 use std::marker::Model;
@@ -24,23 +26,28 @@ pub enum MessagePlan {
         channel: Text,
         topic: Text,
     },
-    // A member of a channel gets another address.
+    // A member of a channel gets another address. Then the account is told.
     Address {
         channel: Text,
         nick: Text,
         user: Text,
         host: Text,
+        telling: Option<Telling>,
     },
-    // The bot has joined channels. `joined` says whether the JOIN names any.
+    // The bot has joined channels. `joined` says whether the JOIN names any. Then its account is told.
     Open {
         joined: bool,
         opening: Opening,
+        telling: Option<Telling>,
     },
-    // Another person has joined channels. `joined` says whether the JOIN names any.
+    // Another person has joined channels. `joined` says whether the JOIN names any. Then the account is told.
     Come {
         joined: bool,
         takes: Vec<Take>,
+        telling: Option<Telling>,
     },
+    // Something is told of a nick on every channel.
+    Tell(Telling),
     // The members of channels change, and so does the bot's nick if `own` has one.
     Seat {
         own: Option<Text>,
@@ -107,7 +114,7 @@ impl ChanState {
                 if done {
                     self.nick = nick;
                     self.channels.clear();
-                    self.support = Support::unannounced();
+                    self.support = self.support.welcomed();
                 }
             }
             MessagePlan::Title { channel, topic } => {
@@ -121,27 +128,56 @@ impl ChanState {
                 nick,
                 user,
                 host,
+                telling,
             } => {
                 if done {
-                    let mapping = self.casemapping();
-                    self.channels
-                        .place_at(mapping, channel.as_bytes(), nick.as_bytes(), user, host);
+                    self.readdress(channel, nick, user, host);
+                    self.tell(telling);
                 }
             }
-            MessagePlan::Open { joined, opening } => {
+            MessagePlan::Open {
+                joined,
+                opening,
+                telling,
+            } => {
                 self.channels = opening.into_channels(done);
                 self.note_join(done && joined);
+                self.tell_if(done, telling);
             }
-            MessagePlan::Come { joined, takes } => {
+            MessagePlan::Come {
+                joined,
+                takes,
+                telling,
+            } => {
                 self.channels.give(takes, done);
                 self.note_join(done && joined);
+                self.tell_if(done, telling);
             }
+            MessagePlan::Tell(telling) => self.tell_if(done, Some(telling)),
             MessagePlan::Seat { own, takes } => {
                 self.channels.give(takes, done);
                 if done {
                     self.rename_own(own);
                 }
             }
+        }
+    }
+
+    // Gives a member of a channel another address.
+    fn readdress(&mut self, channel: Text, nick: Text, user: Text, host: Text)
+        ensures { self.new ≡ step (Addressed channel nick user host) self.old }
+    {
+        let mapping = self.casemapping();
+        self.channels
+            .place_at(mapping, channel.as_bytes(), nick.as_bytes(), user, host);
+    }
+
+    // Takes in what is told if `done`.
+    fn tell_if(&mut self, done: bool, telling: Option<Telling>)
+        ensures { self.new ≡ told_if done telling self.old }
+    {
+        if done {
+            self.tell(telling);
         }
     }
 

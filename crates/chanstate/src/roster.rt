@@ -3,13 +3,14 @@ ghost use Rattle.std.specs.Prelude.{◌≡◌, ◌<◌, [], ◌∷◌, not, leng
 ghost use Rattle.std.specs.List.{list_any};
 ghost use Rattle.std.specs.Option.{option_copied, option_to_list};
 ghost use Rattle.chanstate.specs.Views.{is_op};
-ghost use Rattle.chanstate.specs.Members.{is_called, has_member, with_mark, with_address, edited, shown_each};
+ghost use Rattle.chanstate.specs.Members.{is_called, has_member, with_mark, with_address, with_detail, edited, shown_each};
 ghost use Rattle.chanstate.specs.Memory.{respells};
 ghost use Rattle.chanstate.specs.Items.{named, names_in};
 ghost use Rattle.chanstate.specs.Firsts.{first_removed, first_changed};
 ghost use Rattle.chanstate.specs.Tasks.{IsKeyed, done_by};
 
 use crate::copies::{copies_of, seats_of};
+use crate::detail::Detail;
 use crate::member::{Mark, Member};
 use crate::member_edit::MemberEdit;
 use crate::seating::Seating;
@@ -19,7 +20,7 @@ use crate::seats::{
 };
 use crate::support::Support;
 use crate::task::Task;
-use crate::words::{shown, split_signs};
+use crate::words::{marks_of, split_entry, split_signs};
 use bytetext::{NoMemory, Text, TryCopy};
 use rfccase::Casemapping;
 use std::alloc::Global;
@@ -136,12 +137,20 @@ impl Roster {
         self.edit(mapping, nick, MemberEdit::Addressed(user, host));
     }
 
+    // Takes in what the server tells of the member called `nick`.
+    pub(crate) fn tell(&mut self, mapping: Casemapping, nick: &[u8], detail: Detail)
+        ensures { self.new ≡ first_changed (is_called mapping nick.now) (with_detail detail) self.old }
+    {
+        self.edit(mapping, nick, MemberEdit::Told(detail));
+    }
+
     // Returns whether `word` of a list of names names someone who is not a member.
     fn lacks(&self, mapping: Casemapping, support: &Support, word: &[u8]) -> bool
         ensures { result ≡ list_any (λ one. not (has_member mapping one.nick self.now)) (option_to_list (named support.now word.now)) }
     {
-        let (_, nick) = split_signs(support, word);
-        !nick.is_empty() && !self.holds(mapping, nick)
+        let (_, text) = split_signs(support, word);
+        let entry = split_entry(text);
+        !entry.nick.is_empty() && !self.holds(mapping, entry.nick)
     }
 
     // Returns whether the list of names `names` names someone who is not a member.
@@ -160,10 +169,14 @@ impl Roster {
     fn show(&mut self, alloc: Global, mapping: Casemapping, support: &Support, word: &[u8])
         ensures { self.new ≡ shown_each mapping (option_to_list (named support.now word.now)) self.old }
     {
-        let (signs, nick) = split_signs(support, word);
-        if !nick.is_empty() {
-            let one = shown(alloc, signs, Text::empty(alloc));
-            self.edit(mapping, nick, MemberEdit::Listed(one));
+        let (signs, text) = split_signs(support, word);
+        let entry = split_entry(text);
+        if !entry.nick.is_empty() {
+            self.edit(
+                mapping,
+                entry.nick,
+                MemberEdit::Listed(marks_of(alloc, signs)),
+            );
         }
     }
 

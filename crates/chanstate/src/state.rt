@@ -2,7 +2,7 @@
 ghost use Rattle.std.specs.Prelude.{◌≡◌, ◌<◌, true, false, length, is_some, IfOk, IfErr, OnErr, MatchResult};
 ghost use Rattle.std.specs.Option.{option_copied, option_map};
 ghost use Rattle.chanstate.specs.Channels.{is_held};
-ghost use Rattle.chanstate.specs.Views.{mapping_of, connected, channel_in, topic_in, members_in, member_in, is_op, is_voice, channels_with};
+ghost use Rattle.chanstate.specs.Views.{mapping_of, connected, channel_in, topic_in, members_in, member_in, is_op, is_voice, channels_with, account_in};
 ghost use Rattle.chanstate.specs.Steps.{after};
 ghost use Rattle.chanstate.specs.Memory.{takes_memory};
 ghost use Rattle.chanstate.specs.Items.{items_of};
@@ -134,6 +134,21 @@ impl ChanState {
         }
     }
 
+    /// Returns the account under which `nick` is logged in: that of the member of that nick on the first channel that has
+    /// one; empty if there is none or no account is known. Allocates nothing.
+    pub fn account_of(&self, nick: &[u8]) -> &[u8]
+        ensures { result.now ≡ account_in nick.now self.now }
+    {
+        let mapping = self.casemapping();
+        let Some(channel) = self.channels.find_with(mapping, nick) else {
+            return b"";
+        };
+        match channel.members.find(mapping, nick) {
+            Some(member) => member.account.as_bytes(),
+            None => b"",
+        }
+    }
+
     /// Returns the members of `channel` in the order in which they came; empty if the bot isn't on the channel.
     ///
     /// # Errors
@@ -166,8 +181,9 @@ impl ChanState {
     /// # Errors
     /// Returns `NoMemory` if an allocation fails; the state is then unchanged. Only a message that brings a text to
     /// keep allocates: a welcome, a JOIN, a NICK that changes how the bot's nick or a member's is spelled, and on held
-    /// channels another topic, another address of a member in a reply 352, and a reply 353 that names someone new. Any
-    /// other message allocates nothing, for example every PART, KICK, QUIT and MODE, and what the server announces.
+    /// channels another topic, another address or account of a member in a reply 352 or 354, in ACCOUNT or in CHGHOST,
+    /// and a reply 353 that names someone new. Any other message allocates nothing, for example every PART, KICK, QUIT
+    /// and MODE, and what the server announces.
     pub fn apply(&mut self, alloc: Global, message: &Message) -> Result<(), NoMemory>
         ensures memory { OnErr result (takes_memory message.now self.old ≡ true) }
         ensures applied { MatchResult result (λ _. self.new ≡ after message.now self.old) (λ _. self.new ≡ self.old) }
@@ -190,7 +206,13 @@ impl ChanState {
             MessageParts::Quit(_) => Ok(MessagePlan::Plain),
             MessageParts::Mode { .. } => Ok(MessagePlan::Plain),
             MessageParts::Welcome(nick) => Ok(MessagePlan::Welcome(Text::from_slice(alloc, nick)?)),
+            MessageParts::JoinsTell(_) => Ok(MessagePlan::Plain),
             MessageParts::Join { person, list } => self.ready_join(alloc, person, list),
+            MessageParts::JoinAs {
+                person,
+                list,
+                account,
+            } => self.ready_join_as(alloc, person, list, account),
             MessageParts::Nick { old, new } => self.ready_nick(alloc, old, new),
             MessageParts::Topic { channel, topic } => self.ready_topic(alloc, channel, topic),
             MessageParts::Names { channel, names } => self.ready_list(alloc, channel, names),
@@ -200,6 +222,14 @@ impl ChanState {
                 host,
                 nick,
             } => self.ready_address(alloc, channel, user, host, nick),
+            MessageParts::Who {
+                channel,
+                user,
+                host,
+                nick,
+                account,
+            } => self.ready_who(alloc, channel, user, host, nick, account),
+            MessageParts::Tell { nick, detail } => self.ready_news(alloc, nick, detail),
         }
     }
 
@@ -224,8 +254,15 @@ impl ChanState {
             MessageParts::Nick { .. } => {}
             MessageParts::Topic { .. } => {}
             MessageParts::Address { .. } => {}
+            MessageParts::Who { .. } => {}
+            MessageParts::Tell { .. } => {}
+            MessageParts::JoinsTell(tell) => self.support.set_joins_tell(tell),
             MessageParts::Announce(tokens) => self.support.announce(tokens),
             MessageParts::Join { list, .. } => {
+                let joined = names_channel(&self.support, list);
+                self.note_join(joined);
+            }
+            MessageParts::JoinAs { list, .. } => {
                 let joined = names_channel(&self.support, list);
                 self.note_join(joined);
             }

@@ -1,7 +1,7 @@
-// What a server announces (RPL_ISUPPORT, numeric 005).
+// What a server announces (RPL_ISUPPORT, numeric 005), and whether its JOINs tell accounts.
 ghost use Rattle.std.specs.Prelude.{◌≡◌, ◌≤◌, length, MatchOption, None, Some};
 ghost use Rattle.chanstate.specs.Announced.{front_len, cut, key_and_value, with_prefix, with_types, with_token, announced, unannounced, takes_argument};
-ghost use Rattle.chanstate.specs.Announced.{is_sign, is_in, has_status, with_casemapping, with_channel_types, with_join};
+ghost use Rattle.chanstate.specs.Announced.{is_sign, is_in, has_status, with_casemapping, with_channel_types, with_join, with_joins_tell, welcomed};
 ghost use Rattle.chanstate.specs.Items.{is_channel_on};
 
 use crate::letters::Letters;
@@ -26,6 +26,8 @@ pub struct Support {
     casemapping: Casemapping,
     // Whether a JOIN has been read since the welcome. From then on the casemapping and the types of channels stay.
     join_read: bool,
+    // Whether a JOIN tells the account of the person: the server has acknowledged the capability extended-join.
+    joins_tell: bool,
 }
 
 impl Support {
@@ -44,7 +46,32 @@ impl Support {
             channel_types: Letters::of(b"&#+!"),
             casemapping: Casemapping::Rfc1459,
             join_read: false,
+            joins_tell: false,
         }
+    }
+
+    // Returns what holds after a welcome: nothing is announced, but the acknowledged capabilities stay.
+    pub(crate) fn welcomed(self) -> Support
+        ensures { result ≡ welcomed self }
+    {
+        let mut support = Support::unannounced();
+        support.joins_tell = self.joins_tell;
+        support
+    }
+
+    /// Returns whether a JOIN tells the account of the person: the server has acknowledged the capability
+    /// extended-join.
+    pub fn joins_tell(&self) -> bool
+        ensures { result ≡ self.now.joins_tell }
+    {
+        self.joins_tell
+    }
+
+    // Takes in whether a JOIN tells the account.
+    pub(crate) fn set_joins_tell(&mut self, tell: bool)
+        ensures { self.new ≡ with_joins_tell tell self.old }
+    {
+        self.joins_tell = tell;
     }
 
     /// Returns whether the mode `letter` has an argument. `on` says whether the mode is set or cleared.
@@ -210,7 +237,7 @@ fn count_front(text: &[u8], byte: u8) -> usize
 }
 
 // Returns the text before and after the first `byte`.
-fn cut(text: &[u8], byte: u8) -> Option<(&[u8], &[u8])>
+pub(crate) fn cut(text: &[u8], byte: u8) -> Option<(&[u8], &[u8])>
     ensures { MatchOption result (cut byte text.now ≡ None) (λ parts. cut byte text.now ≡ Some (parts.0.now, parts.1.now)) }
 {
     let len = count_front(text, byte);

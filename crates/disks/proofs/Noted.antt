@@ -41,6 +41,13 @@ tears events past event old new at n noted at_is len_is seen_is torn image left 
     ))
     (subst (λ (es : List Event). Images es new image) noted left)
 
+-- what was left before, of the whole value
+pub before : (now : Memory) (events : List Event) (content image : List ℕ) (at n : ℕ) → events ≡ now.events → content ≡ now.content
+    → ((earlier : List ℕ) × Images events content earlier × Torn at n earlier image)
+    → (earlier : List ℕ) × Images now.events now.content earlier × Torn at n earlier image
+before now events content image at n events_is content_is was =
+    (was.0, subst (λ (es : List Event). Images es now.content was.0) events_is (subst (λ (l : List ℕ). Images events l was.0) content_is was.1), was.2)
+
 -- a write is kept in the image that a crash will leave
 pub kept : (events past : List Event) (event : Event) (content torn content' torn' : List ℕ)
     (at n same first content_room torn_room content_room' torn_room' : ℕ)

@@ -15,7 +15,7 @@ fn overwrite(bytes: &mut [u8], at: usize, text: &[u8])
 }
 
 /// Appends `text` to the bytes.
-pub(crate) fn put_after(bytes: &mut Vec<u8>, text: &[u8])
+fn put_after(bytes: &mut Vec<u8>, text: &[u8])
     requires { vec_len bytes.old + length text.now ≤ vec_capacity bytes.old }
     ensures items { bytes.new.items ≡ bytes.old.items ++ text.now }
     ensures capacity { vec_capacity bytes.new ≡ vec_capacity bytes.old }

@@ -9,7 +9,7 @@ ghost use Rattle.disks.specs.Files.{IsTold, IsKept};
 use crate::disk::{Disk, DiskFault};
 use crate::file_fault::{FileDiskError, error_of};
 use crate::folder::{folder_of, sync_folder};
-use crate::mem_disk::MemDisk;
+use crate::mirror::Mirror;
 use crate::told_file::ToldFile;
 use bytetext::NoMemory;
 use std::alloc::Global;
@@ -29,7 +29,7 @@ use std::rt::Files;
 /// file, learns what a failed write left in it.
 pub struct FileDisk {
     file: ToldFile,
-    mirror: MemDisk,
+    mirror: Mirror,
     broken: bool,
 }
 
@@ -68,10 +68,9 @@ impl FileDisk {
         ensures own { IfOk result (λ disk. pos 3 ≤ℤ disk.file.descriptor) }
     {
         let (file, content) = ToldFile::open(alloc, file)?;
-        let mirror = MemDisk::holding(alloc, content)?;
         Ok(FileDisk {
             file,
-            mirror,
+            mirror: Mirror::holding(content),
             broken: false,
         })
     }
@@ -133,7 +132,7 @@ fn open_at<R: AllocGlobal + Files<File = File>>(
 }
 
 /// Notes a fault of the file.
-fn break_off(broken: &mut bool, mirror: &mut MemDisk) -> DiskFault
+fn break_off(broken: &mut bool, mirror: &mut Mirror) -> DiskFault
     ensures broken { broken.new ≡ true }
     ensures fails { Fails mirror.old mirror.new }
 {
@@ -169,7 +168,7 @@ impl Disk for FileDisk {
         if self.broken {
             return Err(break_off(&mut self.broken, &mut self.mirror));
         }
-        self.mirror.read(at, buf)
+        Ok(self.mirror.read(at, buf))
     }
 
     /// Allocates nothing if there is room up to `end` already.
@@ -182,7 +181,7 @@ impl Disk for FileDisk {
         ensures never_fails { (state_of self.new.mirror).failed ≡ (state_of self.old.mirror).failed }
         ensures memory { OnErr result (self.old.mirror.room < end) }
     {
-        self.mirror.reserve(end, calls)
+        self.mirror.reserve(end)
     }
 
     /// At `Ok`, what the disk now holds was written to the file.
@@ -201,13 +200,7 @@ impl Disk for FileDisk {
         if self.broken {
             return Err(break_off(&mut self.broken, &mut self.mirror));
         }
-        match self.mirror.write_at(at, bytes) {
-            Ok(()) => {}
-            Err(fault) => {
-                self.broken = true;
-                return Err(fault);
-            }
-        }
+        self.mirror.write_at(at, bytes);
         match self.file.write_at(at, bytes) {
             Ok(()) => Ok(()),
             Err(_) => Err(break_off(&mut self.broken, &mut self.mirror)),
@@ -228,7 +221,10 @@ impl Disk for FileDisk {
             return Err(break_off(&mut self.broken, &mut self.mirror));
         }
         match self.file.sync() {
-            Ok(()) => self.mirror.sync(),
+            Ok(()) => {
+                self.mirror.sync();
+                Ok(())
+            }
             Err(_) => Err(break_off(&mut self.broken, &mut self.mirror)),
         }
     }
@@ -245,6 +241,6 @@ impl Disk for FileDisk {
         ensures kept { self.new.broken ≡ false → IsKept self.new }
     {
         sync_or_break_off(&mut self.file, &mut self.broken);
-        self.mirror.reopen_kept();
+        self.mirror.reopen();
     }
 }

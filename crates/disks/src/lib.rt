@@ -56,6 +56,7 @@ mod file_fault;
 mod folder;
 mod history;
 mod mem_disk;
+mod mirror;
 mod pair;
 mod tear;
 mod told_file;

@@ -4,9 +4,9 @@ ghost use Rattle.disks.specs.Events.{openings};
 ghost use Rattle.disks.specs.State.{IsSettled, may_leave};
 ghost use Rattle.disks.specs.Calls.{Holds, Tears, Elapses, HasCause, Spends, SameBytes, read_count};
 ghost use Rattle.disks.specs.Plans.{IsDue, Leaves, no_plan, with_crash, with_read, after_call, after_read, after_crash};
-ghost use Rattle.disks.specs.Memory.{state_of, empty, with_plan, Fails};
+ghost use Rattle.disks.specs.Memory.{state_of, empty, with_plan};
 
-use crate::bytes::{copy_rest, make_room, put, put_after, read_from};
+use crate::bytes::{copy_rest, make_room, put, read_from};
 use crate::countdown::{is_due, is_over};
 use crate::disk::{Disk, DiskFault};
 use crate::history::History;
@@ -98,7 +98,7 @@ impl MemDisk {
         ensures memory { IfErr result (λ _. 0 < vec_len content) }
     {
         let mut torn = Vec::with_capacity(alloc, content.len())?;
-        put_after(&mut torn, &content);
+        torn.extend_from_slice(&content)?;
         let same = content.len();
         Ok(MemDisk {
             content,
@@ -130,27 +130,6 @@ impl MemDisk {
         ensures { self.new ≡ with_plan (with_read fail_at self.old.plan) self.old }
     {
         self.reads = Some(fail_at - 1);
-    }
-
-    /// Reopens the disk when nothing that was written is lost. It ends no plan.
-    pub(crate) fn reopen_kept(&mut self)
-        ensures same { SameBytes (state_of self.old) (state_of self.new) }
-        ensures settled { IsSettled (state_of self.new) }
-        ensures opened { openings self.new.events ≡ openings self.old.events + 1 }
-        ensures failures { self.new.failures ≡ self.old.failures }
-        ensures plan { self.new.plan ≡ self.old.plan }
-        ensures left { self.new.left ≡ self.old.content }
-    {
-        self.history.note(&[2, 0, 0], &self.content);
-        copy_rest(&mut self.torn, &self.content, self.same);
-        self.same = self.content.len();
-    }
-
-    /// Notes a fault.
-    pub(crate) fn fail(&mut self)
-        ensures { Fails self.old self.new }
-    {
-        self.failures = self.failures.saturating_add(1);
     }
 }
 

@@ -42,7 +42,7 @@ use Rattle.eggprocs.specs.declared.rights.TheConstants.{OP, MASTER, OWNER}
 use Rattle.eggprocs.specs.declared.proc_name.ProcName.{ProcName}
 use Rattle.eggprocs.specs.declared.proc_name.ProcName.TheVariants as which
 use Rattle.eggprocs.specs.Args.{handle_of, channel_of, said_of, told_of, or_else}
-use Rattle.eggprocs.specs.Askers.{caller_address, in_callers_name}
+use Rattle.eggprocs.specs.Askers.{caller_claim, in_callers_name}
 use Rattle.eggprocs.specs.Bans.{mask_of, minutes_in, ban_of, deletion, delete_first, ask_of, lift_wish, lift_of, and_then, mode_of, asked_by_ban, asked_by_unban}
 use Rattle.eggprocs.specs.Infos.{info_by, set_by, asked_by_known}
 use Rattle.eggprocs.specs.Laws.{is_ask, EachAsk, AsksOnly, IsInCallersName, IsTaken, IsAllowed, KnowsCaller}
@@ -311,7 +311,7 @@ operates-op flags =
     by false false false false false false = refl
 
 op-allowed : (call : Call) (seen : Seen) → is_from_op call seen ≡ true → KnowsCaller call seen
-    → is_op (channel_of call) (user_for (mapping_of seen.sight.channels) (caller_address call) seen.sight.records.users) ≡ true
+    → is_op (channel_of call) (user_for (mapping_of seen.sight.channels) (caller_claim call seen) seen.sight.records.users) ≡ true
 op-allowed call seen may knows =
     ap (is_op (channel_of call)) knows
     ∙ operates-op (flags_by call seen)

@@ -5,14 +5,15 @@ use Rattle.std.specs.List.{list_all}
 use Rattle.std.specs.Str.{bytes_eq}
 use Rattle.userfile.specs.declared.flags.PersonFlags.{PersonFlags}
 use Rattle.chanstate.specs.declared.member.Member.{Member}
+use Rattle.chanstate.specs.declared.support.Support.{Support}
 use Rattle.chanstate.specs.Views.{member_in, members_in, is_op}
 use Rattle.outqueue.specs.declared.queue.Queue.TheVariants.{Mode as mode_queue, Server}
 use Rattle.procs.specs.declared.action.Action.{Action}
 use Rattle.procs.specs.declared.call.Call.{Call}
 use Rattle.procs.specs.Seen.{Seen}
 use Rattle.eggprocs.specs.declared.proc_name.ProcName.TheVariants as which
-use Rattle.eggprocs.specs.Args.{channel_of, mode_change}
-use Rattle.eggprocs.specs.ChannelLaws.{is_reverse, is_gift_to, is_gift, LeavesNobodyBehind, IsOnlyWithoutOp, IsOnlyForOwn, SparesSticky, IsOnlyToBot, IsOnlyForTexts}
+use Rattle.eggprocs.specs.Args.{channel_of, mode_change, mode_argument}
+use Rattle.eggprocs.specs.ChannelLaws.{is_plain_reverse, is_end_of_key, is_reverse, is_gift_to, is_gift, LeavesNobodyBehind, IsOnlyWithoutOp, IsOnlyForOwn, SparesSticky, IsOnlyToBot, IsOnlyForTexts}
 use Rattle.eggprocs.specs.Channel.{put}
 use Rattle.eggprocs.specs.Ctcp.{is_raw, is_request, is_tagged, addressee_of, command_of, text_of, sender_of, untagged, answer_to, answered}
 use Rattle.eggprocs.specs.Cycling.{leaver_of, is_made_again, lacks_op, is_self_or, is_left_alone, cycled}
@@ -22,11 +23,12 @@ use Rattle.eggprocs.specs.Everyone.{is_own_nick, flags_of_member}
 use Rattle.eggprocs.specs.Keeping.{is_change_here, is_by_bot, is_change_by_untrusted}
 use Rattle.eggprocs.specs.Laws.{IsOnlyByOps, IsOnlyForOthers, LeavesTrusted, DoesOnly, has_one_of, op_letters, is_line, is_line_in_turn}
 use Rattle.eggprocs.specs.Lines.{mode, plain_mode, part, join}
-use Rattle.eggprocs.specs.Modes.{other_sign, is_plain, undoing, undone}
+use Rattle.eggprocs.specs.Modes.{has_plain_reverse, reverse_of, plain_reverse, sets_key, undone}
 use Rattle.eggprocs.specs.Needs.{needed_on, needed_by, may_give, op_for}
 use Rattle.eggprocs.specs.Procs.{wanted_by}
 use Rattle.eggprocs.specs.Rights.{has_bot, has_op, is_bot_op}
 use Rattle.eggprocs.proofs.KeepingLemmas.{false-and, nothing-if, by_untrusted-bot, by_untrusted-own, by_untrusted-trusted, is_change_here-bot, is_line-put, lone-line, test-kept}
+use Rattle.eggprocs.proofs.TurnLemmas.{either-kept}
 use Rattle.eggprocs.proofs.LawLemmas.{and-false, alone-kept, shares-kept, does-nothing, has_one_of-ops}
 
 -- ---- modes
@@ -34,7 +36,7 @@ use Rattle.eggprocs.proofs.LawLemmas.{and-false, alone-kept, shares-kept, does-n
 keepmodes-none : (call : Call) (seen : Seen) → is_change_by_untrusted (mode_change call) call seen ≡ false → wanted_by which.KeepModes call seen ≡ []
 unfolding wanted_by
 keepmodes-none call seen =
-    nothing-if (is_change_by_untrusted (mode_change call) call seen) (undone call (undoing seen.sight.channels.support (mode_change call)))
+    nothing-if (is_change_by_untrusted (mode_change call) call seen) (undone (sets_key seen.sight.channels.support (mode_change call)) call (plain_reverse seen.sight.channels.support (mode_change call)))
 
 pub keepmodes-bot : IsOnlyByOps (codes "keepmodes")
 keepmodes-bot call seen denied =
@@ -47,21 +49,29 @@ pub keepmodes-trusted : LeavesTrusted (codes "keepmodes")
 keepmodes-trusted call seen trusted =
     does-nothing which.KeepModes call seen (keepmodes-none call seen (by_untrusted-trusted (mode_change call) call seen trusted))
 
--- the reverse of a change is that line, and the mode is a plain one
-reverse-only : (may plain : Bool) (call : Call) (change : List ℕ)
-    → list_all (λ action. plain && is_line_in_turn (plain_mode (channel_of call) change) action)
-    (if may then undone call (if plain then Some change else None) else []) ≡ true
-reverse-only false plain call change = refl
-reverse-only true false call change = refl
-reverse-only true true call change = lone-line true (plain_mode (channel_of call) change)
+-- each line is one of the two
+reverse-only : (may plain key : Bool) (call : Call) (change : List ℕ)
+    → list_all (λ action. (plain && is_line_in_turn (plain_mode (channel_of call) change) action)
+    || (key && is_line_in_turn (mode (channel_of call) (codes "-k") (mode_argument call)) action))
+    (if may then undone key call (if plain then Some change else None) else []) ≡ true
+reverse-only false plain key call change = refl
+reverse-only true true key call change =
+    let line : List ℕ = plain_mode (channel_of call) change in
+    ap (λ (b : Bool). ((b || false) || (key && is_line_in_turn (mode (channel_of call) (codes "-k") (mode_argument call)) (put mode_queue line))) && true)
+    (is_line-put line)
+reverse-only true false true call change = lone-line true (mode (channel_of call) (codes "-k") (mode_argument call))
+reverse-only true false false call change = refl
 
 pub keepmodes-only : DoesOnly is_reverse (codes "keepmodes")
 unfolding wanted_by
 keepmodes-only call seen =
-    let change : List ℕ = other_sign (slice_index (mode_change call) 0) ∷ slice_index (mode_change call) 1 ∷ [] in
+    let support : Support = seen.sight.channels.support in
+    let change : List ℕ = mode_change call in
     shares-kept which.KeepModes call seen (is_reverse call seen)
-    (test-kept call seen (is_plain seen.sight.channels.support (mode_change call)) (plain_mode (channel_of call) change))
-    (reverse-only (is_change_by_untrusted (mode_change call) call seen) (is_plain seen.sight.channels.support (mode_change call)) call change)
+    (either-kept call seen (is_plain_reverse call seen) (is_end_of_key call seen)
+    (test-kept call seen (has_plain_reverse support change) (plain_mode (channel_of call) (reverse_of change)))
+    (test-kept call seen (sets_key support change) (mode (channel_of call) (codes "-k") (mode_argument call))))
+    (reverse-only (is_change_by_untrusted change call seen) (has_plain_reverse support change) (sets_key support change) call (reverse_of change))
 
 -- ---- a channel without operators
 

@@ -31,15 +31,17 @@ use Rattle.eggprocs.specs.Cycling.{leaver_of, is_made_again, is_left_alone, cycl
 use Rattle.eggprocs.specs.Dynamic.{is_sticky, later_lift, lifted_at}
 use Rattle.eggprocs.specs.Ends.{call_on, has_ended, lifts_on, is_left, lift_if, delete_if, ends_of, is_minute, all_ends}
 use Rattle.eggprocs.specs.Everyone.{flags_of_member, is_own_join, gives_bot_op, change_of, mode_for}
+use Rattle.eggprocs.specs.Guards.{hits_guarded, removes}
 use Rattle.eggprocs.specs.Infos.{info_by, greeting}
-use Rattle.eggprocs.specs.Keeping.{is_change_here, is_by_bot, is_change_by_others, is_change_by_untrusted, mode_back, takes_op, gives_op, flags_named, op_again, op_undone, is_hit, is_spared, hits_guarded, hits_itself, kick_for}
+use Rattle.eggprocs.specs.Keeping.{is_change_here, is_by_bot, is_change_by_others, is_change_by_untrusted, mode_back, takes_op, gives_op, flags_named, op_again, op_undone, is_hit, is_spared, kick_for}
 use Rattle.eggprocs.specs.Laws.{EachAsk, AsksOnly, IsNamedOrGivesNothing, is_ask}
 use Rattle.eggprocs.specs.Lines.{privmsg, topic, invite, mode, kick, part, join, who}
 use Rattle.eggprocs.specs.Looks.{may_look, is_wanted, line_of}
-use Rattle.eggprocs.specs.Modes.{undoing, undone}
+use Rattle.eggprocs.specs.Modes.{plain_reverse, sets_key, undone}
 use Rattle.eggprocs.specs.Needs.{lacks_op_on, needs_op_on, later_need, is_for_later, is_need, need_on, all_needs, needs_now, needed_on, needed_by, is_known_bot, may_give, op_for}
 use Rattle.eggprocs.specs.People.{told}
 use Rattle.eggprocs.specs.Procs.{name_of, which_named, duty_of, wanted_by, actions_by, actions_if, ours}
+use Rattle.eggprocs.specs.Recorded.{is_newcomer, ban_on, kept_off, asked_for_join, ban_back, set_again, asked_for_removal}
 use Rattle.eggprocs.specs.Rights.{has_op, has_bot, flags_by, is_bot_op, is_from_op, is_from_voice, is_join, is_op_of, is_timer}
 use Rattle.eggprocs.specs.Turns.{share_out}
 use Rattle.eggprocs.specs.Whereabouts.{whereabouts}
@@ -156,11 +158,18 @@ enforce-known is_so call seen true =
     (λ member action is. kick-quiet call member (is_hit (mode_argument call) seen member && not (is_spared call seen member)) action is)
     (members_in (channel_of call) seen.sight.channels)))
 
-guard-known : (is_so : Change → Type 0) (call : Call) (seen : Seen) (test itself : Bool) → EachAsk is_so
-    (if test then (if itself then mode_back (codes "-b") call else share_out FirstOp call seen (mode_back (codes "-b") call)) else [])
-guard-known is_so call seen false itself = no-asks is_so [] refl
-guard-known is_so call seen true true = no-asks is_so (mode_back (codes "-b") call) refl
-guard-known is_so call seen true false = share-asks is_so FirstOp call seen (mode_back (codes "-b") call) (no-asks is_so (mode_back (codes "-b") call) refl)
+guard-known : (is_so : Change → Type 0) (call : Call) (test first : Bool) → EachAsk is_so (if test then (if first then mode_back (codes "-b") call else []) else [])
+guard-known is_so call false first = no-asks is_so [] refl
+guard-known is_so call true true = no-asks is_so (mode_back (codes "-b") call) refl
+guard-known is_so call true false = no-asks is_so [] refl
+
+kept_off-known : (is_so : Change → Type 0) (call : Call) (ban : Option Ban) → EachAsk is_so (kept_off call ban)
+kept_off-known is_so call None = no-asks is_so [] refl
+kept_off-known is_so call (Some ban) = no-asks is_so (kept_off call (Some ban)) refl
+
+set_again-known : (is_so : Change → Type 0) (call : Call) (ban : Option Ban) → EachAsk is_so (set_again call ban)
+set_again-known is_so call None = no-asks is_so [] refl
+set_again-known is_so call (Some ban) = no-asks is_so (set_again call (Some ban)) refl
 
 answered_to-known : (is_so : Change → Type 0) (nick : List ℕ) (answer : Option (List ℕ)) → EachAsk is_so (answered_to nick answer)
 answered_to-known is_so nick None = no-asks is_so [] refl
@@ -170,9 +179,9 @@ answered-known : (is_so : Change → Type 0) (sender answer : Option (List ℕ))
 answered-known is_so None answer = no-asks is_so [] refl
 answered-known is_so (Some nick) answer = answered_to-known is_so nick answer
 
-undoing-known : (is_so : Change → Type 0) (call : Call) (change : Option (List ℕ)) → EachAsk is_so (undone call change)
-undoing-known is_so call None = no-asks is_so [] refl
-undoing-known is_so call (Some change) = no-asks is_so (undone call (Some change)) refl
+undoing-known : (is_so : Change → Type 0) (key : Bool) (call : Call) (change : Option (List ℕ)) → EachAsk is_so (undone key call change)
+undoing-known is_so key call None = line-if is_so key mode_queue (mode (channel_of call) (codes "-k") (mode_argument call))
+undoing-known is_so key call (Some change) = no-asks is_so (undone key call (Some change)) refl
 
 cycled-known : (is_so : Change → Type 0) (leaver : Option (List ℕ)) (call : Call) (seen : Seen) → EachAsk is_so (cycled leaver call seen)
 cycled-known is_so None call seen = no-asks is_so [] refl
@@ -268,10 +277,10 @@ wanted-known which.Bitch call seen =
     each-if (IsNamedOrGivesNothing call seen) (gives_op call seen) (op_undone call (flags_named call seen)) []
     (undone-known (IsNamedOrGivesNothing call seen) call (flags_named call seen)) (no-asks (IsNamedOrGivesNothing call seen) [] refl)
 wanted-known which.Guard call seen =
-    guard-known (IsNamedOrGivesNothing call seen) call seen
+    guard-known (IsNamedOrGivesNothing call seen) call
     ((is_change_by_others (codes "+b") call seen && is_hostmask (mode_argument call))
     && list_any (hits_guarded (mode_argument call) call seen) (members_in (channel_of call) seen.sight.channels))
-    (hits_itself (mode_argument call) call seen)
+    (removes (mode_argument call) call seen)
 wanted-known which.EnforceBans call seen =
     enforce-known (IsNamedOrGivesNothing call seen) call seen (is_change_here (codes "+b") call seen && is_hostmask (mode_argument call))
 wanted-known which.Later call seen =
@@ -285,8 +294,9 @@ wanted-known which.Ctcp call seen =
     (no-asks (IsNamedOrGivesNothing call seen) [] refl)
 wanted-known which.KeepModes call seen =
     each-if (IsNamedOrGivesNothing call seen) (is_change_by_untrusted (mode_change call) call seen)
-    (undone call (undoing seen.sight.channels.support (mode_change call))) []
-    (undoing-known (IsNamedOrGivesNothing call seen) call (undoing seen.sight.channels.support (mode_change call)))
+    (undone (sets_key seen.sight.channels.support (mode_change call)) call (plain_reverse seen.sight.channels.support (mode_change call))) []
+    (undoing-known (IsNamedOrGivesNothing call seen) (sets_key seen.sight.channels.support (mode_change call)) call
+    (plain_reverse seen.sight.channels.support (mode_change call)))
     (no-asks (IsNamedOrGivesNothing call seen) [] refl)
 wanted-known which.Cycle call seen = cycled-known (IsNamedOrGivesNothing call seen) (leaver_of call) call seen
 wanted-known which.DynamicBans call seen =
@@ -300,6 +310,14 @@ wanted-known which.GiveOp call seen =
     (op_for (needed_on call) (member_in (needed_on call) (needed_by call) seen.sight.channels) seen) []
     (op_for-known (IsNamedOrGivesNothing call seen) (needed_on call) (member_in (needed_on call) (needed_by call) seen.sight.channels) seen)
     (no-asks (IsNamedOrGivesNothing call seen) [] refl)
+wanted-known which.KeepBans call seen =
+    let again : List Action = set_again call (ban_back call seen) in
+    each-if (IsNamedOrGivesNothing call seen) (is_join call.kind) (asked_for_join call seen) (asked_for_removal call seen)
+    (each-if (IsNamedOrGivesNothing call seen) (is_newcomer call seen) (kept_off call (ban_on call seen)) []
+    (kept_off-known (IsNamedOrGivesNothing call seen) call (ban_on call seen)) (no-asks (IsNamedOrGivesNothing call seen) [] refl))
+    (each-if (IsNamedOrGivesNothing call seen) (is_change_by_others (codes "-b") call seen) (share_out FirstOp call seen again) []
+    (share-asks (IsNamedOrGivesNothing call seen) FirstOp call seen again (set_again-known (IsNamedOrGivesNothing call seen) call (ban_back call seen)))
+    (no-asks (IsNamedOrGivesNothing call seen) [] refl))
 
 -- whatever a proc of any name answers
 pub all-asks : (name : List ℕ) → AsksOnly IsNamedOrGivesNothing name

@@ -13,7 +13,6 @@ use Rattle.procs.specs.declared.action.Action.{Action}
 use Rattle.procs.specs.declared.call.Call.{Call}
 use Rattle.procs.specs.declared.limits.TheConstants.{MAX_ACTIONS}
 use Rattle.procs.specs.Seen.{Seen}
-use Rattle.eggprocs.specs.declared.duties.Duty.TheVariants.{FirstOp}
 use Rattle.eggprocs.specs.declared.rights.TheConstants.{FRIEND}
 use Rattle.eggprocs.specs.declared.proc_name.ProcName.TheVariants as which
 use Rattle.eggprocs.specs.Everyone.{flags_of_member}
@@ -21,13 +20,13 @@ use Rattle.eggprocs.specs.Args.{nick_of, channel_of, mode_argument}
 use Rattle.eggprocs.specs.Channel.{put}
 use Rattle.eggprocs.specs.Keeping.{is_change_here, is_by_bot, is_by_server, is_by_trusted, is_change_by_others, is_change_by_untrusted}
 use Rattle.eggprocs.specs.Keeping.{mode_back, flags_named, names_bot, names_caller, takes_op, gives_op, op_again, op_undone}
-use Rattle.eggprocs.specs.Keeping.{is_hit, is_self, is_spared, is_guarded, hits_guarded, hits_itself, ban_undone, kick_for}
+use Rattle.eggprocs.specs.Guards.{is_guarded, hits_guarded, removes, ban_undone}
+use Rattle.eggprocs.specs.Keeping.{is_hit, is_self, is_spared, kick_for}
 use Rattle.eggprocs.specs.Laws.{IsOnlyByOps, IsOnlyForOthers, LeavesTrusted, LeavesServers, DoesOnly, DoesOnlyForTrusted, is_line, is_line_in_turn, has_op_flag, lacks_op_flag, is_bot_or_known}
 use Rattle.eggprocs.specs.Laws.{is_op_of_known, is_deop_of_unknown, is_end_of_ban, is_end_of_ban_on_bot, is_kick_of, is_kick_of_banned}
 use Rattle.eggprocs.specs.Lines.{mode, kick}
 use Rattle.eggprocs.specs.Procs.{wanted_by}
 use Rattle.eggprocs.specs.Rights.{has_op, has_bot, is_change, is_bot_op, is_protected}
-use Rattle.eggprocs.specs.Turns.{share_out, turn_of}
 use Rattle.eggprocs.proofs.LawLemmas.{and-false, alone-kept, shares-kept, does-nothing, has_one_of-ops, has_one_of-more}
 use Rattle.eggprocs.proofs.Lists.{any-more, all-given}
 use Rattle.eggprocs.proofs.TurnLemmas.{KeepsLooks, keeps-line}
@@ -230,18 +229,15 @@ hits-some call seen is_right right (member ∷ members) is =
     either false true c d first rest is = refl
     either false false c d first rest is = rest is
 
--- the end of a ban is that line, also if another bot comes first
+-- the end of a ban is that line, or nothing if another bot removes it
 undone-only : (call : Call) (seen : Seen) (mask line : List ℕ) → mode_back (codes "-b") call ≡ put mode_queue line ∷ []
     → list_all (is_line line) (ban_undone mask call seen) ≡ true
 undone-only call seen mask line is =
-    ap (λ (wanted : List Action). list_all (is_line line) (if hits_itself mask call seen then wanted else share_out FirstOp call seen wanted)) is
-    ∙ by (hits_itself mask call seen) (turn_of FirstOp call seen == 0)
+    ap (λ (wanted : List Action). list_all (is_line line) (if removes mask call seen then wanted else [])) is ∙ by (removes mask call seen)
   where
-    by : (itself first : Bool)
-        → list_all (is_line line) (if itself then put mode_queue line ∷ [] else if first then put mode_queue line ∷ [] else []) ≡ true
-    by true first = ap (λ (b : Bool). b && true) (is_line-put line)
-    by false true = ap (λ (b : Bool). b && true) (is_line-put line)
-    by false false = refl
+    by : (first : Bool) → list_all (is_line line) (if first then put mode_queue line ∷ [] else []) ≡ true
+    by true = ap (λ (b : Bool). b && true) (is_line-put line)
+    by false = refl
 
 -- a ban is removed only if it hits a guarded member
 unbanned-only : (may hits right : Bool) (line : List ℕ) (actions : List Action) → (hits ≡ true → right ≡ true) → list_all (is_line line) actions ≡ true

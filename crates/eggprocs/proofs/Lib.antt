@@ -5,6 +5,8 @@ pub mod DueLemmas
 pub mod EndLemmas
 pub mod EveryAsk
 pub mod EveryoneLemmas
+pub mod Firsts
+pub mod GuardLemmas
 pub mod KeepingLemmas
 pub mod LawLemmas
 pub mod LineLemmas
@@ -12,4 +14,5 @@ pub mod Lists
 pub mod LookLemmas
 pub mod Names
 pub mod RankLemmas
+pub mod RecordedLemmas
 pub mod TurnLemmas

@@ -1,6 +1,6 @@
 -- What bots do at their turns, and when a look does nothing.
 use Rattle.std.proofs.Common.{◌≡◌, ◌∙◌, ◌<◌, ◌&&◌, ◌==◌, ◌*◌, ◌∷◌, not, ℕ, List, [], take, Bool, true, false, refl, ap, subst, arith, codes, if◌then◌else◌, Option, Some, None, ◌⊎◌, inl, inr, zero, suc, sym}
-use Rattle.std.specs.List.{list_all, list_any, filter_map, cons_option}
+use Rattle.std.specs.List.{list_all, filter_map, cons_option}
 use Rattle.std.specs.Prelude.{nat_le}
 use Rattle.std.specs.Str.{bytes_eq}
 use Rattle.std.proofs.lemmas.Bool.{and_from, and_right, and_left, and_parts}
@@ -8,7 +8,8 @@ use Rattle.std.proofs.lemmas.List.Elements.{All-take}
 use Rattle.std.proofs.lemmas.List.Sums.{AllPass-from_list_all, list_all-from_AllPass}
 use Rattle.std.proofs.lemmas.Slice.Eq.{bytes_eq-Decides}
 use Rattle.bytetext.specs.Words.{first_word, after_word}
-use Rattle.chanstate.specs.Views.{members_in}
+use Rattle.chanstate.specs.declared.member.Member.{Member}
+use Rattle.chanstate.specs.Views.{member_in}
 use Rattle.outqueue.specs.declared.queue.Queue.TheVariants.{Mode as mode_queue}
 use Rattle.procs.specs.declared.action.Action.{Action}
 use Rattle.procs.specs.declared.action.Action.TheVariants.{Ask, Timer, Utimer, KillTimer, SendBot, Put}
@@ -17,24 +18,23 @@ use Rattle.procs.specs.declared.limits.TheConstants.{MAX_ACTIONS}
 use Rattle.procs.specs.declared.reply.ProcReply.{ProcReply}
 use Rattle.procs.specs.Promises.{IsKept}
 use Rattle.procs.specs.Seen.{Seen}
-use Rattle.userfile.specs.Shapes.{is_hostmask}
 use Rattle.eggprocs.specs.declared.duties.Duty.{Duty}
-use Rattle.eggprocs.specs.declared.duties.Duty.TheVariants.{FirstOp}
 use Rattle.eggprocs.specs.declared.looks.TheConstants.{LOOK_SECONDS, MAX_TURN}
 use Rattle.eggprocs.specs.declared.proc_name.ProcName.{ProcName}
 use Rattle.eggprocs.specs.declared.proc_name.ProcName.TheVariants as which
-use Rattle.eggprocs.specs.Args.{channel_of, mode_argument, timer_text}
+use Rattle.eggprocs.specs.declared.effects.LineEffect.{LineEffect}
+use Rattle.eggprocs.specs.declared.effects.LineEffect.TheVariants.{GiveOp, TakeOp, GiveVoice, TakeVoice, Ban, Kick, Other}
+use Rattle.eggprocs.specs.Args.{timer_text}
 use Rattle.eggprocs.specs.Channel.{put}
-use Rattle.eggprocs.specs.Effects.{channel_in, target_in, effect_in, is_done}
+use Rattle.eggprocs.specs.Effects.{channel_in, target_in, effect_in, is_ban, is_done}
 use Rattle.eggprocs.specs.Everyone.{address_of}
 use Rattle.eggprocs.specs.Hands.{rank}
-use Rattle.eggprocs.specs.Keeping.{is_change_by_others, hits_guarded, hits_itself, mode_back}
 use Rattle.eggprocs.specs.Laws.{DoesOnly, DoesNothing, is_line}
-use Rattle.eggprocs.specs.Looks.{look_text, look_if, address_now, look_for, line_of, is_wanted_of, is_wanted, may_look}
+use Rattle.eggprocs.specs.Looks.{look_text, look_if, address_now, look_for, line_of, is_wanted_of, is_here, is_wanted, may_look}
 use Rattle.eggprocs.specs.Procs.{duty_of, wanted_by, ours, name_of}
 use Rattle.eggprocs.specs.Rights.{is_timer, is_op_of}
-use Rattle.eggprocs.specs.TurnLaws.{is_wait, OneActs, ActsAtOnce, is_look_after, OnlyLooks, LeavesItToTheFirst, LeavesOthersBansToTheFirst}
-use Rattle.eggprocs.specs.TurnLaws.{WantsSomebody, WantsTheSamePerson, WantsItUndone, WantsOp, is_own_line}
+use Rattle.eggprocs.specs.TurnLaws.{is_wait, OneActs, ActsAtOnce, is_look_after, OnlyLooks, LeavesItToTheFirst}
+use Rattle.eggprocs.specs.TurnLaws.{WantsTheBanned, WantsSomebody, WantsTheSamePerson, WantsItUndone, WantsOp, is_own_line}
 use Rattle.eggprocs.specs.Turns.{takes_turns, turn_of, has_look, by_turn, share_out, is_each, is_heard_by_all, needs_op}
 use Rattle.eggprocs.proofs.RankLemmas.{ranks-differ}
 use Rattle.eggprocs.proofs.LawLemmas.{actions-kept, alone-kept, does-nothing}
@@ -147,7 +147,7 @@ one-acts w call one other same shared heard mine theirs apart = λ a b kept-a ke
         (sym (turn-is-rank (duty_of w) call one shared heard) ∙ is ∙ sym is_too ∙ turn-is-rank (duty_of w) call other shared heard))) [ ]
 
 -- nothing is left of what the first does alone
-silent : (duty : Duty) (turn : ℕ) (call : Call) (seen : Seen) (wanted : List Action) → takes_turns duty ≡ false → 0 < turn
+pub silent : (duty : Duty) (turn : ℕ) (call : Call) (seen : Seen) (wanted : List Action) → takes_turns duty ≡ false → 0 < turn
     → by_turn duty turn call seen wanted ≡ []
 silent duty turn call seen wanted alone above = by (turn == 0) (takes_turns duty) (nat_le turn MAX_TURN) (not-first turn above) alone
   where
@@ -161,25 +161,6 @@ pub left-to-first : (w : ProcName) → takes_turns (duty_of w) ≡ false → Lea
 left-to-first w alone call seen above = λ reply kept.
     actions-kept w call seen reply kept ∙ silent (duty_of w) (turn_of (duty_of w) call seen) call seen (wanted_by w call seen) alone above
 
--- a ban on others is left to the first
-guard-left : (call : Call) (seen : Seen) → 0 < turn_of FirstOp call seen → hits_itself (mode_argument call) call seen ≡ false
-    → wanted_by which.Guard call seen ≡ []
-unfolding wanted_by
-guard-left call seen above others =
-    let test : Bool = (is_change_by_others (codes "+b") call seen && is_hostmask (mode_argument call))
-    && list_any (hits_guarded (mode_argument call) call seen) (members_in (channel_of call) seen.sight.channels) in
-    let wanted : List Action = mode_back (codes "-b") call in
-    ap (λ (itself : Bool). if test then (if itself then wanted else share_out FirstOp call seen wanted) else []) others
-    ∙ ap (λ (actions : List Action). if test then actions else []) (silent FirstOp (turn_of FirstOp call seen) call seen wanted refl above)
-    ∙ either test []
-  where
-    either : (b : Bool) (actions : List Action) → (if b then actions else actions) ≡ actions
-    either true actions = refl
-    either false actions = refl
-
-pub guard-left-to-first : LeavesOthersBansToTheFirst (codes "guard")
-guard-left-to-first call seen above others = does-nothing which.Guard call seen (guard-left call seen above others)
-
 -- ---- looks
 
 later-none : (call : Call) (seen : Seen) → (may_look call seen && is_wanted (first_word (timer_text call)) (line_of call) seen) ≡ false
@@ -192,18 +173,51 @@ not-wanted call seen none =
     does-nothing which.Later call seen (later-none call seen
     (and_right (may_look call seen) (is_wanted (first_word (timer_text call)) (line_of call) seen) none))
 
+pub wants-the-banned : WantsTheBanned (codes "later")
+unfolding is_wanted
+wants-the-banned call seen bans nobody =
+    let line : List ℕ = line_of call in
+    let address : List ℕ = first_word (timer_text call) in
+    not-wanted call seen
+    (ap (λ (b : Bool). if b then is_here address (channel_in line) seen
+    else is_wanted_of address line (member_in (channel_in line) (target_in line) seen.sight.channels)) bans ∙ nobody)
+
+-- a look that is for no ban is for the member of its nick
+of-nick : (address line : List ℕ) (seen : Seen) → is_ban (effect_in line) ≡ false
+    → is_wanted address line seen ≡ is_wanted_of address line (member_in (channel_in line) (target_in line) seen.sight.channels)
+unfolding is_wanted
+of-nick address line seen other =
+    ap (λ (b : Bool). if b then is_here address (channel_in line) seen
+    else is_wanted_of address line (member_in (channel_in line) (target_in line) seen.sight.channels)) other
+
 pub wants-somebody : WantsSomebody (codes "later")
-wants-somebody call seen nobody = not-wanted call seen (ap (is_wanted_of (first_word (timer_text call)) (line_of call)) nobody)
+wants-somebody call seen other nobody =
+    let address : List ℕ = first_word (timer_text call) in
+    not-wanted call seen (of-nick address (line_of call) seen other ∙ ap (is_wanted_of address (line_of call)) nobody)
 
 pub wants-the-same-person : WantsTheSamePerson (codes "later")
-wants-the-same-person call seen member is another =
-    not-wanted call seen (ap (is_wanted_of (first_word (timer_text call)) (line_of call)) is
-    ∙ and_left (bytes_eq (address_of member) (first_word (timer_text call))) (not (is_done (effect_in (line_of call)) member)) another)
+wants-the-same-person call seen member other is another =
+    let address : List ℕ = first_word (timer_text call) in
+    not-wanted call seen (of-nick address (line_of call) seen other
+    ∙ ap (is_wanted_of address (line_of call)) is
+    ∙ and_left (bytes_eq (address_of member) address) (not (is_done (effect_in (line_of call)) member)) another)
+
+-- what a member shows is no ban
+shows-no-ban : (effect : LineEffect) (member : Member) → is_done effect member ≡ true → is_ban effect ≡ false
+shows-no-ban GiveOp member is = refl
+shows-no-ban TakeOp member is = refl
+shows-no-ban GiveVoice member is = refl
+shows-no-ban TakeVoice member is = refl
+shows-no-ban Ban member is = cc
+shows-no-ban Kick member is = refl
+shows-no-ban Other member is = refl
 
 pub wants-it-undone : WantsItUndone (codes "later")
 wants-it-undone call seen member is done =
-    not-wanted call seen (ap (is_wanted_of (first_word (timer_text call)) (line_of call)) is
-    ∙ and_right (bytes_eq (address_of member) (first_word (timer_text call))) (not (is_done (effect_in (line_of call)) member)) (ap not done))
+    let address : List ℕ = first_word (timer_text call) in
+    not-wanted call seen (of-nick address (line_of call) seen (shows-no-ban (effect_in (line_of call)) member done)
+    ∙ ap (is_wanted_of address (line_of call)) is
+    ∙ and_right (bytes_eq (address_of member) address) (not (is_done (effect_in (line_of call)) member)) (ap not done))
 
 pub wants-op : WantsOp (codes "later")
 wants-op call seen denied =

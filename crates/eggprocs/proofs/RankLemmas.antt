@@ -11,7 +11,8 @@ use Rattle.rfccase.specs.declared.casemappings.Casemapping.{Casemapping}
 use Rattle.rfccase.specs.Casemapping.{folded_by, is_same_by, IsSameBy}
 use Rattle.flagexpr.specs.Letters.{has_letter}
 use Rattle.userfile.specs.Records.{Records}
-use Rattle.userfile.specs.Persons.{flags_of, handle_of}
+use Rattle.userfile.specs.Persons.{flags_of}
+use Rattle.procs.specs.Identity.{handle_by}
 use Rattle.chanstate.specs.declared.member.Member.{Member}
 use Rattle.chanstate.specs.Members.{is_called}
 use Rattle.chanstate.specs.Views.{mapping_of, member_in, members_in}
@@ -24,38 +25,16 @@ use Rattle.eggprocs.specs.Hands.{is_hand, is_hand_if, is_hand_itself, comes_befo
 use Rattle.eggprocs.specs.Keeping.{is_self}
 use Rattle.eggprocs.specs.Rights.{has_bot}
 use Rattle.eggprocs.specs.TurnLaws.{SeeTheSame, RanksRise, RanksDiffer, is_first_hand, SomeoneIsFirst, LoneIsFirst, UnknownIsFirst, StrangersCountNot}
-use Rattle.eggprocs.proofs.Lists.{any-more, none-more, fewer, none-counted, count-without, find-without, found-among, among}
-
--- ---- the order of nicks
-
-less-is : (o : Ordering) → is_lt o ≡ true → o ≡ Less
-less-is Less e = refl
-less-is Equal e = cc
-less-is Greater e = cc
-
--- nothing comes before itself
-not-before-itself : (mapping : Casemapping) (nick other : List ℕ) → IsSameBy mapping nick other → comes_before mapping nick other ≡ false
-not-before-itself mapping nick other same =
-    ap (λ (text : List ℕ). is_lt (slice_cmp nat_cmp text (folded_by mapping other))) same
-    ∙ ap is_lt (tied_itself nat_list_cmp_total (folded_by mapping other))
-
-onward : (mapping : Casemapping) (a b c : List ℕ) → comes_before mapping a b ≡ true → comes_before mapping b c ≡ true
-    → comes_before mapping a c ≡ true
-onward mapping a b c first second =
-    ap is_lt (nat_list_cmp_total.trans (folded_by mapping a) (folded_by mapping b) (folded_by mapping c)
-    (less-is (slice_cmp nat_cmp (folded_by mapping a) (folded_by mapping b)) first)
-    (less-is (slice_cmp nat_cmp (folded_by mapping b) (folded_by mapping c)) second))
-
-same-is : (mapping : Casemapping) (a b : List ℕ) → is_same_by mapping a b ≡ true → IsSameBy mapping a b
-same-is mapping a b = (bytes_decides (folded_by mapping a) (folded_by mapping b)).0
+use Rattle.eggprocs.proofs.Firsts.{not-before-itself, same-is, counts-apart, first-of}
+use Rattle.eggprocs.proofs.Lists.{any-more, none-more, none-counted, count-without, find-without, found-among}
 
 -- ---- records
 
 -- whether a member is a hand, by the casemapping and the records
-abbrev hand-by : Bool → Call → Casemapping → Records → Member → Bool
+abbrev pub hand-by : Bool → Call → Casemapping → Records → Member → Bool
 hand-by needs_op call mapping records member =
     (not needs_op || member.op) && has_letter
-    (flags_of records.users (handle_of mapping records.users (address_of member)) (channel_of call)).global BOT
+    (flags_of records.users (handle_by mapping records.users member.account (address_of member)) (channel_of call)).global BOT
 
 -- whether a hand comes before a nick depends on the records and the casemapping alone
 ahead-alike : (needs_op : Bool) (call : Call) (one other : Seen) (nick : List ℕ) (members : List Member) → one.sight.records ≡ other.sight.records
@@ -76,7 +55,7 @@ hand-alike needs_op call one other (Some member) same mappings =
     ∙ ap (λ (mapping : Casemapping). hand-by needs_op call mapping other.sight.records member) mappings
 
 -- the bot itself is among the hands
-itself-among : (needs_op : Bool) (call : Call) (seen : Seen) → is_hand_itself needs_op call seen ≡ true
+pub itself-among : (needs_op : Bool) (call : Call) (seen : Seen) → is_hand_itself needs_op call seen ≡ true
     → list_any (λ member. is_called (mapping_of seen.sight.channels) seen.sight.channels.nick member && is_hand needs_op call seen member)
     (members_in (channel_of call) seen.sight.channels) ≡ true
 itself-among needs_op call seen itself = by (member_in (channel_of call) seen.sight.channels.nick seen.sight.channels) refl itself
@@ -99,32 +78,8 @@ rank-itself needs_op call seen itself = ap (λ (b : Bool). if b then hands_ahead
 ranks-apart : (needs_op : Bool) (call : Call) (seen : Seen) (nick other : List ℕ) → comes_before (mapping_of seen.sight.channels) nick other ≡ true
     → list_any (λ member. is_called (mapping_of seen.sight.channels) nick member && is_hand needs_op call seen member) (members_in (channel_of call) seen.sight.channels) ≡ true
     → hands_ahead needs_op call seen nick < hands_ahead needs_op call seen other
-ranks-apart needs_op call seen nick other before there =
-    fewer (is_ahead needs_op call seen nick) (is_ahead needs_op call seen other) wider members
-    (any-more (λ member. is_called (mapping_of seen.sight.channels) nick member && is_hand needs_op call seen member)
-    (λ member. is_ahead needs_op call seen other member && not (is_ahead needs_op call seen nick member)) members between there)
-  where
-    members : List Member
-    members = members_in (channel_of call) seen.sight.channels
-
-    mapping : Casemapping
-    mapping = mapping_of seen.sight.channels
-
-    wider : (member : Member) → is_ahead needs_op call seen nick member ≡ true → is_ahead needs_op call seen other member ≡ true
-    wider member ahead =
-        let parts = and_parts (comes_before mapping member.nick nick) (is_hand needs_op call seen member) ahead in
-        and_from (comes_before mapping member.nick other) (is_hand needs_op call seen member)
-        (onward mapping member.nick nick other parts.0 before) parts.1
-
-    between : (member : Member) → (is_called mapping nick member && is_hand needs_op call seen member) ≡ true
-        → (is_ahead needs_op call seen other member && not (is_ahead needs_op call seen nick member)) ≡ true
-    between member is =
-        let parts = and_parts (is_called mapping nick member) (is_hand needs_op call seen member) is in
-        let same : IsSameBy mapping member.nick nick = sym (same-is mapping nick member.nick parts.0) in
-        and_from (is_ahead needs_op call seen other member) (not (is_ahead needs_op call seen nick member))
-        (and_from (comes_before mapping member.nick other) (is_hand needs_op call seen member)
-        (ap (λ (text : List ℕ). is_lt (slice_cmp nat_cmp text (folded_by mapping other))) same ∙ before) parts.1)
-        (ap (λ (b : Bool). not (b && is_hand needs_op call seen member)) (not-before-itself mapping member.nick nick same))
+ranks-apart needs_op call seen =
+    counts-apart (mapping_of seen.sight.channels) (is_hand needs_op call seen) (members_in (channel_of call) seen.sight.channels)
 
 -- the count is the same for another who sees the same
 ahead-same : (needs_op : Bool) (call : Call) (one other : Seen) (nick : List ℕ) → SeeTheSame call one other
@@ -141,7 +96,7 @@ ranks-rise needs_op call one other same mine theirs before =
     let less = ranks-apart needs_op call one one.sight.channels.nick other.sight.channels.nick before (itself-among needs_op call one mine) in
     omega (arith, mine_is, theirs_is, less)
 
-same-back : (call : Call) (one other : Seen) → SeeTheSame call one other → SeeTheSame call other one
+pub same-back : (call : Call) (one other : Seen) → SeeTheSame call one other → SeeTheSame call other one
 same-back call one other same = record {
   records = sym same.records;
   mappings = sym same.mappings;
@@ -172,40 +127,16 @@ ranks-differ needs_op call one other same mine theirs equal =
 
 -- ---- the first
 
-module _ (needs_op : Bool) (call : Call) (seen : Seen) where
-  -- a hand is the first, or one comes before it, and the search goes on from that one
-  first-from : (steps : ℕ) (member : Member) → is_hand needs_op call seen member ≡ true
-      → ((q : Member → Bool) → q member ≡ true → list_any q (members_in (channel_of call) seen.sight.channels) ≡ true)
-      → hands_ahead needs_op call seen member.nick < steps
-      → list_any (is_first_hand needs_op call seen) (members_in (channel_of call) seen.sight.channels) ≡ true
-  first-from zero member hand any few = absurd (omega (arith, few))
-  first-from (suc steps) member hand any few =
-      by (first-from steps) (list_any (is_ahead needs_op call seen member.nick) (members_in (channel_of call) seen.sight.channels)) refl
-    where
-      by : ((next : Member) → is_hand needs_op call seen next ≡ true
-          → ((q : Member → Bool) → q next ≡ true → list_any q (members_in (channel_of call) seen.sight.channels) ≡ true)
-          → hands_ahead needs_op call seen next.nick < steps
-          → list_any (is_first_hand needs_op call seen) (members_in (channel_of call) seen.sight.channels) ≡ true)
-          → (some : Bool) → list_any (is_ahead needs_op call seen member.nick) (members_in (channel_of call) seen.sight.channels) ≡ some
-          → list_any (is_first_hand needs_op call seen) (members_in (channel_of call) seen.sight.channels) ≡ true
-      by from-next false none = any (is_first_hand needs_op call seen)
-          (and_from (is_hand needs_op call seen member) (hands_ahead needs_op call seen member.nick == 0) hand
-          (ap (λ (n : ℕ). n == 0) (none-counted (is_ahead needs_op call seen member.nick) (members_in (channel_of call) seen.sight.channels) none)))
-      by from-next true some =
-          let next = among (is_ahead needs_op call seen member.nick) (members_in (channel_of call) seen.sight.channels) some in
-          let parts = and_parts (comes_before (mapping_of seen.sight.channels) next.one.nick member.nick) (is_hand needs_op call seen next.one) next.passes in
-          let less = ranks-apart needs_op call seen next.one.nick member.nick parts.0
-          (next.any (λ one. is_called (mapping_of seen.sight.channels) next.one.nick one && is_hand needs_op call seen one)
-          (and_from (is_called (mapping_of seen.sight.channels) next.one.nick next.one) (is_hand needs_op call seen next.one)
-          ((bytes_decides (folded_by (mapping_of seen.sight.channels) next.one.nick) (folded_by (mapping_of seen.sight.channels) next.one.nick)).1 refl) parts.1)) in
-          from-next next.one parts.1 next.any (omega (arith, less, few))
-
 pub someone-first : (needs_op : Bool) → SomeoneIsFirst needs_op
 someone-first needs_op call seen itself =
-    let one = among (λ member. is_called (mapping_of seen.sight.channels) seen.sight.channels.nick member && is_hand needs_op call seen member)
-    (members_in (channel_of call) seen.sight.channels) (itself-among needs_op call seen itself) in
-    first-from needs_op call seen (suc (hands_ahead needs_op call seen one.one.nick)) one.one
-    (and_parts (is_called (mapping_of seen.sight.channels) seen.sight.channels.nick one.one) (is_hand needs_op call seen one.one) one.passes).1 one.any (omega arith)
+    let mapping : Casemapping = mapping_of seen.sight.channels in
+    let members : List Member = members_in (channel_of call) seen.sight.channels in
+    let first = first-of mapping (is_hand needs_op call seen) members
+    (any-more (λ member. is_called mapping seen.sight.channels.nick member && is_hand needs_op call seen member) (is_hand needs_op call seen) members
+    (λ member is. (and_parts (is_called mapping seen.sight.channels.nick member) (is_hand needs_op call seen member) is).1) (itself-among needs_op call seen itself)) in
+    first.any (is_first_hand needs_op call seen)
+    (and_from (is_hand needs_op call seen first.one) (hands_ahead needs_op call seen first.one.nick == 0) first.passes
+    (ap (λ (n : ℕ). n == 0) (none-counted (is_ahead needs_op call seen first.one.nick) members first.none)))
 
 pub lone-first : (needs_op : Bool) → LoneIsFirst needs_op
 lone-first needs_op call seen lone = by (is_hand_itself needs_op call seen)

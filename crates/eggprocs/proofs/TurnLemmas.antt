@@ -2,7 +2,7 @@
 use Rattle.std.proofs.Common.{◌≡◌, ◌∙◌, ◌||◌, ◌==◌, ◌*◌, ◌∷◌, ℕ, List, [], take, Bool, true, false, refl, ap, sym, subst, codes, if◌then◌else◌, Option, Some, None}
 use Rattle.std.specs.List.{list_all, filter_map, cons_option}
 use Rattle.std.specs.Str.{bytes_eq}
-use Rattle.std.proofs.lemmas.Bool.{and_from, and_parts}
+use Rattle.std.proofs.lemmas.Bool.{and_from, and_parts, or_right}
 use Rattle.std.proofs.lemmas.List.Elements.{All-take}
 use Rattle.std.proofs.lemmas.List.Sums.{AllPass-from_list_all, list_all-from_AllPass}
 use Rattle.std.proofs.lemmas.Slice.Eq.{bytes_eq-Decides}
@@ -45,6 +45,16 @@ share-looks duty turn call seen wanted slice actions at later looks same is =
 abbrev pub KeepsLooks : Call → Seen → (Action → Bool) → Type 0
 KeepsLooks call seen is_right =
     (turn : ℕ) (action look : Action) → look_for turn call seen action ≡ Some look → is_right action ≡ true → is_right look ≡ true
+
+-- the look passes one of two tests if the action does
+pub either-kept : (call : Call) (seen : Seen) (p q : Action → Bool) → KeepsLooks call seen p → KeepsLooks call seen q
+    → KeepsLooks call seen (λ action. p action || q action)
+either-kept call seen p q first second turn action look is right = by (p action) (q action) refl refl right
+  where
+    by : (a b : Bool) → p action ≡ a → q action ≡ b → (a || b) ≡ true → (p look || q look) ≡ true
+    by true b one other some = ap (λ (x : Bool). x || q look) (first turn action look is one)
+    by false true one other some = or_right (p look) (q look) (second turn action look is other)
+    by false false one other some = cc
 
 looks-only : (is_right : Action → Bool) (turn : ℕ) (call : Call) (seen : Seen) → KeepsLooks call seen is_right
     → (wanted : List Action) → list_all is_right wanted ≡ true → list_all is_right (filter_map (look_for turn call seen) wanted) ≡ true

@@ -7,7 +7,7 @@ use Rattle.procs.specs.declared.action.Action.{Action}
 use Rattle.procs.specs.declared.action.Action.TheVariants.{Ask, Utimer, SendBot, Put}
 use Rattle.procs.specs.declared.call.Call.{Call}
 use Rattle.procs.specs.declared.call_kind.CallKind.{CallKind}
-use Rattle.procs.specs.declared.call_kind.CallKind.TheVariants.{Raw, Msg, Msgm, Notc, Pub, Pubm, Join, Part, Sign, Kick, Nick, Mode, Topc}
+use Rattle.procs.specs.declared.call_kind.CallKind.TheVariants.{Raw, Msg, Msgm, Notc, Pub, Pubm, Join, Part, Sign, Kick, Nick, Mode, Topc, Account}
 use Rattle.procs.specs.declared.call_kind.CallKind.TheVariants.{Bot, Time, Cron, Timer}
 use Rattle.eggprocs.specs.Args.{arg_at, last_of}
 use Rattle.eggprocs.specs.Lines.{privmsg}
@@ -27,6 +27,7 @@ is_command Kick = false
 is_command Nick = false
 is_command Mode = false
 is_command Topc = false
+is_command Account = false
 is_command Bot = false
 is_command Time = false
 is_command Cron = false
@@ -59,6 +60,7 @@ place_of Kick = None
 place_of Nick = None
 place_of Mode = None
 place_of Topc = None
+place_of Account = None
 place_of Bot = None
 place_of Time = None
 place_of Cron = None

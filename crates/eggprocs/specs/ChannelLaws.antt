@@ -1,32 +1,50 @@
 -- Laws of the procs that keep a channel by themselves, and of those that answer other programs.
-use Rattle.std.specs.Prelude.{◌≡◌, ℕ, ◌&&◌, List, [], ◌∷◌, slice_index, Bool, true, false, Option, Some, None, codes}
-use Rattle.std.specs.List.{list_all}
+use Rattle.std.specs.Prelude.{◌≡◌, ◌<◌, ℕ, ◌&&◌, ◌||◌, List, [], ◌∷◌, Bool, true, false, Option, Some, None, codes}
+use Rattle.std.specs.List.{list_all, list_any}
 use Rattle.std.specs.Str.{bytes_eq}
+use Rattle.userfile.specs.declared.ban.Ban.{Ban}
+use Rattle.userfile.specs.Persons.{bars, returns_to}
 use Rattle.chanstate.specs.declared.member.Member.{Member}
-use Rattle.chanstate.specs.Views.{member_in, members_in}
+use Rattle.chanstate.specs.Views.{mapping_of, member_in, members_in}
 use Rattle.procs.specs.declared.action.Action.{Action}
 use Rattle.procs.specs.declared.call.Call.{Call}
+use Rattle.procs.specs.declared.reply.ProcReply.{ProcReply}
+use Rattle.procs.specs.Promises.{IsKept}
 use Rattle.procs.specs.Seen.{Seen}
-use Rattle.eggprocs.specs.Args.{channel_of, mode_change}
+use Rattle.eggprocs.specs.declared.duties.Duty.TheVariants.{TurnsOp}
+use Rattle.eggprocs.specs.Args.{nick_of, channel_of, mode_change, mode_argument, or_else}
+use Rattle.eggprocs.specs.Askers.{caller_address}
 use Rattle.eggprocs.specs.Ctcp.{addressee_of, command_of}
 use Rattle.eggprocs.specs.Cycling.{leaver_of, is_self_or}
 use Rattle.eggprocs.specs.Dynamic.{is_sticky}
 use Rattle.eggprocs.specs.Ends.{call_on}
 use Rattle.eggprocs.specs.Everyone.{is_own_nick, flags_of_member}
-use Rattle.eggprocs.specs.Keeping.{is_by_bot}
+use Rattle.eggprocs.specs.Keeping.{is_by_bot, is_change_by_others}
 use Rattle.eggprocs.specs.Laws.{DoesNothing, has_one_of, op_letters, is_line, is_line_in_turn}
-use Rattle.eggprocs.specs.Lines.{mode, plain_mode}
-use Rattle.eggprocs.specs.Modes.{other_sign, is_plain}
+use Rattle.eggprocs.specs.Lines.{mode, plain_mode, kick}
+use Rattle.eggprocs.specs.Modes.{has_plain_reverse, reverse_of, sets_key}
 use Rattle.eggprocs.specs.Needs.{needed_on, needed_by}
-use Rattle.eggprocs.specs.Rights.{has_bot, is_bot_op}
+use Rattle.eggprocs.specs.Procs.{ours}
+use Rattle.eggprocs.specs.Recorded.{second_of, ban_line, is_newcomer, ban_on, kick_line, ban_back}
+use Rattle.eggprocs.specs.Rights.{has_bot, is_join, is_change, is_bot_op}
+use Rattle.eggprocs.specs.Turns.{turn_of}
 
 -- ---- modes
 
--- the reverse of the change, of a mode that never has an argument
+-- the reverse of the change, if it has no argument
+abbrev pub is_plain_reverse : Call → Seen → Action → Bool
+is_plain_reverse call seen action =
+    has_plain_reverse seen.sight.channels.support (mode_change call)
+    && is_line_in_turn (plain_mode (channel_of call) (reverse_of (mode_change call))) action
+
+-- the end of the key that the change sets
+abbrev pub is_end_of_key : Call → Seen → Action → Bool
+is_end_of_key call seen action =
+    sets_key seen.sight.channels.support (mode_change call)
+    && is_line_in_turn (mode (channel_of call) (codes "-k") (mode_argument call)) action
+
 abbrev pub is_reverse : Call → Seen → Action → Bool
-is_reverse call seen action =
-    is_plain seen.sight.channels.support (mode_change call)
-    && is_line_in_turn (plain_mode (channel_of call) (other_sign (slice_index (mode_change call) 0) ∷ slice_index (mode_change call) 1 ∷ [])) action
+is_reverse call seen action = is_plain_reverse call seen action || is_end_of_key call seen action
 
 -- ---- a channel without operators
 
@@ -50,6 +68,59 @@ IsOnlyForOwn name = (call : Call) (seen : Seen) → is_by_bot call seen ≡ fals
 abbrev pub SparesSticky : List ℕ → Type 0
 SparesSticky name =
     (call : Call) (seen : Seen) (second : ℕ) → seen.second ≡ Some second → is_sticky second call seen ≡ true → DoesNothing name call seen
+
+-- ---- the bans of the records
+
+-- whether a ban of the records keeps the caller off the call's channel: it is of that channel or of all, it has not ended,
+-- and its mask matches
+abbrev pub is_barring : Call → Seen → Ban → Bool
+is_barring call seen ban = bars (mapping_of seen.sight.channels) (channel_of call) (caller_address call) (second_of seen) ban
+
+-- the line that sets a ban on the call's channel, or the one that kicks the caller for its comment
+abbrev pub is_line_of : Call → Ban → Action → Bool
+is_line_of call ban action =
+    is_line_in_turn (mode (channel_of call) (codes "+b") ban.mask) action
+    || is_line_in_turn (kick (channel_of call) (nick_of call) (or_else ban.comment (codes "banned"))) action
+
+-- such a line for a caller who joins, and for a ban of the records that keeps the caller off
+abbrev pub is_kept_off : Call → Seen → Action → Bool
+is_kept_off call seen action = is_join call.kind && list_any (λ ban. is_barring call seen ban && is_line_of call ban action) seen.sight.records.bans
+
+-- the line that sets a sticky ban of the records again, whose mask is the one that a mode removes, and which has not ended
+abbrev pub is_set_again : Call → Seen → Action → Bool
+is_set_again call seen action =
+    is_change (codes "-b") call && list_any (λ ban.
+    returns_to (mapping_of seen.sight.channels) (channel_of call) (mode_argument call) (second_of seen) ban
+    && is_line_in_turn (mode (channel_of call) (codes "+b") ban.mask) action) seen.sight.records.bans
+
+-- a line by which the bans of the records are kept
+abbrev pub is_kept : Call → Seen → Action → Bool
+is_kept call seen action = is_kept_off call seen action || is_set_again call seen action
+
+-- a proc does nothing for a caller who joins and whom no ban of the records keeps off
+abbrev pub SparesUnbanned : List ℕ → Type 0
+SparesUnbanned name =
+    (call : Call) (seen : Seen) → is_join call.kind ≡ true → list_any (is_barring call seen) seen.sight.records.bans ≡ false
+    → DoesNothing name call seen
+
+-- the first bot sets the first ban of the records that keeps off somebody else who joins, and kicks that person
+abbrev pub KeepsOff : List ℕ → Type 0
+KeepsOff name =
+    (call : Call) (seen : Seen) (ban : Ban) → is_join call.kind ≡ true → is_newcomer call seen ≡ true → ban_on call seen ≡ Some ban
+    → turn_of TurnsOp call seen ≡ 0
+    → (reply : ProcReply) → IsKept ours name call seen reply → reply.actions ≡ ban_line call ban ∷ kick_line call ban ∷ []
+
+-- the first bot sets the first sticky ban of the records again that anybody else removes
+abbrev pub SetsAgain : List ℕ → Type 0
+SetsAgain name =
+    (call : Call) (seen : Seen) (ban : Ban) → is_join call.kind ≡ false → is_change_by_others (codes "-b") call seen ≡ true
+    → ban_back call seen ≡ Some ban → turn_of TurnsOp call seen ≡ 0
+    → (reply : ProcReply) → IsKept ours name call seen reply → reply.actions ≡ ban_line call ban ∷ []
+
+-- a later bot does nothing if somebody removes a ban
+abbrev pub LeavesRemovalsToTheFirst : List ℕ → Type 0
+LeavesRemovalsToTheFirst name =
+    (call : Call) (seen : Seen) → is_join call.kind ≡ false → 0 < turn_of TurnsOp call seen → DoesNothing name call seen
 
 -- ---- op for other bots
 

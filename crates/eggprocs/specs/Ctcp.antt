@@ -8,7 +8,7 @@ use Rattle.outqueue.specs.declared.queue.Queue.TheVariants.{Help}
 use Rattle.procs.specs.declared.action.Action.{Action}
 use Rattle.procs.specs.declared.call.Call.{Call}
 use Rattle.procs.specs.declared.call_kind.CallKind.{CallKind}
-use Rattle.procs.specs.declared.call_kind.CallKind.TheVariants.{Raw, Msg, Msgm, Notc, Pub, Pubm, Join, Part, Sign, Kick, Nick, Mode, Topc}
+use Rattle.procs.specs.declared.call_kind.CallKind.TheVariants.{Raw, Msg, Msgm, Notc, Pub, Pubm, Join, Part, Sign, Kick, Nick, Mode, Topc, Account}
 use Rattle.procs.specs.declared.call_kind.CallKind.TheVariants.{Bot, Time, Cron, Timer}
 use Rattle.procs.specs.Seen.{Seen}
 use Rattle.eggprocs.specs.declared.ctcp.TheConstants.{MAX_PING}
@@ -34,6 +34,7 @@ is_raw Kick = false
 is_raw Nick = false
 is_raw Mode = false
 is_raw Topc = false
+is_raw Account = false
 is_raw Bot = false
 is_raw Time = false
 is_raw Cron = false

@@ -10,7 +10,7 @@ use Rattle.outqueue.specs.declared.queue.Queue.TheVariants.{Server}
 use Rattle.procs.specs.declared.action.Action.{Action}
 use Rattle.procs.specs.declared.call.Call.{Call}
 use Rattle.procs.specs.declared.call_kind.CallKind.{CallKind}
-use Rattle.procs.specs.declared.call_kind.CallKind.TheVariants.{Raw, Msg, Msgm, Notc, Pub, Pubm, Join, Part, Sign, Kick, Nick, Mode, Topc}
+use Rattle.procs.specs.declared.call_kind.CallKind.TheVariants.{Raw, Msg, Msgm, Notc, Pub, Pubm, Join, Part, Sign, Kick, Nick, Mode, Topc, Account}
 use Rattle.procs.specs.declared.call_kind.CallKind.TheVariants.{Bot, Time, Cron, Timer}
 use Rattle.procs.specs.Seen.{Seen}
 use Rattle.eggprocs.specs.Args.{arg_at, nick_of, channel_of}
@@ -34,6 +34,7 @@ leaver_by Join call = None
 leaver_by Nick call = None
 leaver_by Mode call = None
 leaver_by Topc call = None
+leaver_by Account call = None
 leaver_by Bot call = None
 leaver_by Time call = None
 leaver_by Cron call = None

@@ -4,7 +4,7 @@ use Rattle.std.specs.Str.{bytes_eq}
 use Rattle.bytetext.specs.Words.{first_word, after_word}
 use Rattle.chanstate.specs.declared.member.Member.{Member}
 use Rattle.eggprocs.specs.declared.effects.LineEffect.{LineEffect}
-use Rattle.eggprocs.specs.declared.effects.LineEffect.TheVariants.{GiveOp, TakeOp, GiveVoice, TakeVoice, Kick, Other}
+use Rattle.eggprocs.specs.declared.effects.LineEffect.TheVariants.{GiveOp, TakeOp, GiveVoice, TakeVoice, Ban, Kick, Other}
 
 -- ---- the effect of a line: MODE CHANNEL CHANGE NICK, or KICK CHANNEL NICK :REASON
 
@@ -28,6 +28,7 @@ effect_of change =
     else if bytes_eq change (codes "-o") then TakeOp
     else if bytes_eq change (codes "+v") then GiveVoice
     else if bytes_eq change (codes "-v") then TakeVoice
+    else if bytes_eq change (codes "+b") then Ban
     else Other
 
 abbrev pub effect_in : List ℕ → LineEffect
@@ -36,13 +37,25 @@ effect_in line =
     else if bytes_eq (first_word line) (codes "MODE") then effect_of (first_word (after_channel line))
     else Other
 
+-- whether a line sets a ban; what it names then is a mask, and no nick
+abbrev pub is_ban : LineEffect → Bool
+is_ban Ban = true
+is_ban GiveOp = false
+is_ban TakeOp = false
+is_ban GiveVoice = false
+is_ban TakeVoice = false
+is_ban Kick = false
+is_ban Other = false
+
 -- ---- whether it is done
 
--- Whether a member shows that an effect is there already. Any other effect counts as there, so that nothing is done.
+-- Whether a member shows that an effect is there already. No member shows a ban. Any other effect counts as there, so that
+-- nothing is done.
 abbrev pub is_done : LineEffect → Member → Bool
 is_done GiveOp member = member.op
 is_done TakeOp member = not member.op
 is_done GiveVoice member = member.voice
 is_done TakeVoice member = not member.voice
+is_done Ban member = false
 is_done Kick member = false
 is_done Other member = true

@@ -5,13 +5,14 @@ use Rattle.std.specs.List.{filter_map}
 use Rattle.std.specs.Option.{option_map}
 use Rattle.rfccase.specs.Casemapping.{is_same_by}
 use Rattle.userfile.specs.declared.flags.PersonFlags.{PersonFlags}
-use Rattle.userfile.specs.Persons.{flags_of, handle_of}
+use Rattle.userfile.specs.Persons.{flags_of}
 use Rattle.chanstate.specs.declared.member.Member.{Member}
 use Rattle.chanstate.specs.Views.{mapping_of, members_in}
 use Rattle.outqueue.specs.declared.queue.Queue.TheVariants.{Mode as mode_queue, Server}
 use Rattle.procs.specs.declared.action.Action.{Action}
 use Rattle.procs.specs.declared.call.Call.{Call}
 use Rattle.procs.specs.declared.limits.TheConstants.{MAX_ACTIONS}
+use Rattle.procs.specs.Identity.{handle_by}
 use Rattle.procs.specs.Seen.{Seen}
 use Rattle.eggprocs.specs.declared.rights.TheConstants.{AUTO_OP, AUTO_VOICE}
 use Rattle.eggprocs.specs.Args.{mode_argument, nick_of, channel_of}
@@ -39,10 +40,14 @@ gives_bot_op call seen = is_change (codes "+o") call && is_own_nick seen (mode_a
 abbrev pub address_of : Member → List ℕ
 address_of member = member.nick ++ codes "!" ++ member.user ++ codes "@" ++ member.host
 
+-- the handle of a member: by the account under which the member is logged in, if a user has a hostmask of it, and else by
+-- nick!user@host
+abbrev pub handle_of_member : Seen → Member → List ℕ
+handle_of_member seen member = handle_by (mapping_of seen.sight.channels) seen.sight.records.users member.account (address_of member)
+
 -- the flags of a member, with those on the call's channel
 abbrev pub flags_of_member : Call → Seen → Member → PersonFlags
-flags_of_member call seen member =
-    flags_of seen.sight.records.users (handle_of (mapping_of seen.sight.channels) seen.sight.records.users (address_of member)) (channel_of call)
+flags_of_member call seen member = flags_of seen.sight.records.users (handle_of_member seen member) (channel_of call)
 
 -- whether a member gets no mode: the bot itself, which the mode makes op, and a member who is op already
 abbrev pub is_left : Seen → Member → Bool

@@ -1,9 +1,8 @@
--- What `protectops`, `bitch`, `guard` and `enforcebans` request when somebody changes a channel's modes (after Eggdrop's
--- channel settings of the first two names and the last, and after what Eggdrop does about bans on friends; as Eggdrop,
--- they leave alone what a master or another bot does, so that no two bots undo each other's modes without end). A proc
--- sees the channel as it was before the change.
-use Rattle.std.specs.Prelude.{ℕ, ◌==◌, length, not, ◌&&◌, ◌||◌, List, [], ◌∷◌, take, Bool, false, if◌then◌else◌, codes, Option, Some, None}
-use Rattle.std.specs.List.{filter_map, list_any}
+-- What `protectops`, `bitch` and `enforcebans` request when somebody changes a channel's modes (after Eggdrop's channel
+-- settings of these names; as Eggdrop, the first two leave alone what a master or another bot does, so that no two bots
+-- undo each other's modes without end). A proc sees the channel as it was before the change.
+use Rattle.std.specs.Prelude.{ℕ, ◌==◌, length, not, ◌&&◌, ◌||◌, List, [], ◌∷◌, take, Bool, if◌then◌else◌, codes, Option, Some, None}
+use Rattle.std.specs.List.{filter_map}
 use Rattle.std.specs.Option.{option_map}
 use Rattle.rfccase.specs.Casemapping.{is_same_by}
 use Rattle.userfile.specs.declared.flags.PersonFlags.{PersonFlags}
@@ -16,13 +15,11 @@ use Rattle.procs.specs.declared.action.Action.{Action}
 use Rattle.procs.specs.declared.call.Call.{Call}
 use Rattle.procs.specs.declared.limits.TheConstants.{MAX_ACTIONS}
 use Rattle.procs.specs.Seen.{Seen}
-use Rattle.eggprocs.specs.declared.duties.Duty.TheVariants.{FirstOp}
 use Rattle.eggprocs.specs.Args.{nick_of, channel_of, mode_argument}
 use Rattle.eggprocs.specs.Channel.{put}
 use Rattle.eggprocs.specs.Everyone.{is_own_nick, address_of, flags_of_member}
 use Rattle.eggprocs.specs.Lines.{mode, kick}
 use Rattle.eggprocs.specs.Rights.{has_master, has_op, has_bot, is_protected, is_change, is_bot_op, flags_by}
-use Rattle.eggprocs.specs.Turns.{share_out}
 
 -- ---- the change
 
@@ -109,43 +106,12 @@ is_self seen member = is_own_nick seen member.nick
 abbrev pub is_spared : Call → Seen → Member → Bool
 is_spared call seen member = is_self seen member || is_protected (flags_of_member call seen member)
 
--- whether `guard` takes off a ban that hits a member: one whom bans spare, but only the bot itself if a master or
--- another bot sets the ban
-abbrev pub is_guarded : Call → Seen → Member → Bool
-is_guarded call seen member = if is_by_trusted call seen then is_self seen member else is_spared call seen member
-
--- whether a ban's mask matches such a member
-abbrev pub hits_guarded : List ℕ → Call → Seen → Member → Bool
-hits_guarded mask call seen member = is_hit mask seen member && is_guarded call seen member
-
 -- a kick of a member whom the mask matches, unless bans spare that member
 abbrev pub kick_for : List ℕ → Call → Seen → Member → Option Action
 kick_for mask call seen member =
     if is_hit mask seen member && not (is_spared call seen member)
     then Some (put mode_queue (kick (channel_of call) member.nick (codes "banned")))
     else None
-
--- whether a ban's mask matches the bot itself
-abbrev pub is_hit_if : List ℕ → Seen → Option Member → Bool
-is_hit_if mask seen None = false
-is_hit_if mask seen (Some member) = is_hit mask seen member
-
-abbrev pub hits_itself : List ℕ → Call → Seen → Bool
-hits_itself mask call seen = is_hit_if mask seen (member_in (channel_of call) seen.sight.channels.nick seen.sight.channels)
-
--- The end of a ban. A bot that the ban hits does not wait for another one, which may see no reason to remove it. For
--- other members the first bot acts alone.
-abbrev pub ban_undone : List ℕ → Call → Seen → List Action
-ban_undone mask call seen =
-    if hits_itself mask call seen then mode_back (codes "-b") call else share_out FirstOp call seen (mode_back (codes "-b") call)
-
--- what `guard` requests: the end of a ban that somebody else sets, if its mask matches a member whom `guard` guards
-abbrev pub asked_by_guard : Call → Seen → List Action
-asked_by_guard call seen =
-    if (is_change_by_others (codes "+b") call seen && is_hostmask (mode_argument call))
-    && list_any (hits_guarded (mode_argument call) call seen) (members_in (channel_of call) seen.sight.channels)
-    then ban_undone (mode_argument call) call seen
-    else []
 
 -- what `enforcebans` requests, whoever sets a ban: kicks of the first eight members whom its mask matches and whom bans
 -- don't spare, in the order in which they came

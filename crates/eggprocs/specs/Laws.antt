@@ -24,7 +24,7 @@ use Rattle.procs.specs.Seen.{Seen}
 use Rattle.eggprocs.specs.declared.rights.TheConstants.{AUTO_OP, AUTO_VOICE, OP, FRIEND, MASTER, OWNER}
 use Rattle.eggprocs.specs.declared.duties.Duty.TheVariants.{First}
 use Rattle.eggprocs.specs.Args.{handle_of, channel_of, mode_argument}
-use Rattle.eggprocs.specs.Askers.{asker_of, caller_address}
+use Rattle.eggprocs.specs.Askers.{asker_of, caller_claim}
 use Rattle.eggprocs.specs.Ends.{has_ended_by, holds_ended}
 use Rattle.eggprocs.specs.Everyone.{is_own_join, flags_of_member}
 use Rattle.eggprocs.specs.Infos.{info_by}
@@ -101,7 +101,7 @@ abbrev pub AsksOnly : (Call → Seen → Change → Type 0) → List ℕ → Typ
 AsksOnly is_so name =
     (call : Call) (seen : Seen) (reply : ProcReply) → IsKept ours name call seen reply → EachAsk (is_so call seen) reply.actions
 
--- a change that is requested in the caller's name: the caller's nick!user@host and the casemapping of the bot's server
+-- a change that is requested in the caller's name: the caller's claim and the casemapping of the bot's server
 abbrev pub IsInCallersName : Call → Seen → Change → Type 0
 IsInCallersName call seen change = change.by ≡ Some (asker_of call seen)
 
@@ -127,7 +127,7 @@ IsNamedOrGivesNothing call seen change =
 -- the records know the caller under the call's handle
 abbrev pub KnowsCaller : Call → Seen → Type 0
 KnowsCaller call seen =
-    user_for (mapping_of seen.sight.channels) (caller_address call) seen.sight.records.users ≡ user_of (handle_of call) seen.sight.records.users
+    user_for (mapping_of seen.sight.channels) (caller_claim call seen) seen.sight.records.users ≡ user_of (handle_of call) seen.sight.records.users
 
 -- a change to which the caller has the right, if the records know the caller under the call's handle
 abbrev pub IsAllowed : Call → Seen → Change → Type 0

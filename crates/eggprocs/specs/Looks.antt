@@ -1,10 +1,11 @@
 -- What a bot looks for that lets another bot go first: whether its line still has something to do. If so, it sends it.
 use Rattle.std.specs.Prelude.{ℕ, not, ◌&&◌, List, [], ◌∷◌, ◌++◌, ◌*◌, Bool, false, if◌then◌else◌, codes, Option, Some, None}
+use Rattle.std.specs.List.{list_any}
 use Rattle.std.specs.Option.{option_map}
 use Rattle.std.specs.Str.{bytes_eq}
 use Rattle.bytetext.specs.Words.{first_word, after_word}
 use Rattle.chanstate.specs.declared.member.Member.{Member}
-use Rattle.chanstate.specs.Views.{member_in}
+use Rattle.chanstate.specs.Views.{member_in, members_in}
 use Rattle.outqueue.specs.declared.queue.Queue.TheVariants.{Mode as mode_queue}
 use Rattle.procs.specs.declared.action.Action.{Action}
 use Rattle.procs.specs.declared.action.Action.TheVariants.{Ask, Timer, Utimer, KillTimer, SendBot, Put}
@@ -14,7 +15,7 @@ use Rattle.eggprocs.specs.declared.looks.TheConstants.{LOOK_SECONDS}
 use Rattle.eggprocs.specs.Args.{channel_of, timer_text}
 use Rattle.eggprocs.specs.Askers.{caller_address}
 use Rattle.eggprocs.specs.Channel.{put}
-use Rattle.eggprocs.specs.Effects.{channel_in, target_in, effect_in, is_done}
+use Rattle.eggprocs.specs.Effects.{channel_in, target_in, effect_in, is_ban, is_done}
 use Rattle.eggprocs.specs.Everyone.{address_of}
 use Rattle.eggprocs.specs.Rights.{is_join, is_op_of, is_timer}
 
@@ -25,8 +26,16 @@ abbrev pub is_wanted_of : List ℕ → List ℕ → Option Member → Bool
 is_wanted_of address line None = false
 is_wanted_of address line (Some member) = bytes_eq (address_of member) address && not (is_done (effect_in line) member)
 
-abbrev pub is_wanted : List ℕ → List ℕ → Seen → Bool
-is_wanted address line seen = is_wanted_of address line (member_in (channel_in line) (target_in line) seen.sight.channels)
+-- whether there is a member of this address on a channel
+abbrev pub is_here : List ℕ → List ℕ → Seen → Bool
+is_here address channel seen = list_any (λ member. bytes_eq (address_of member) address) (members_in channel seen.sight.channels)
+
+-- A ban is wanted while the person for whom it is set is there. So a bot whose turn comes later sets it only if it also
+-- kicks that person.
+unfoldable pub is_wanted : List ℕ → List ℕ → Seen → Bool
+is_wanted address line seen =
+    if is_ban (effect_in line) then is_here address (channel_in line) seen
+    else is_wanted_of address line (member_in (channel_in line) (target_in line) seen.sight.channels)
 
 -- ---- a look: a call of `later` with the text ADDRESS LINE
 
@@ -76,7 +85,7 @@ abbrev pub may_look : Call → Seen → Bool
 may_look call seen = is_timer call.kind && is_op_of (channel_in (line_of call)) seen
 
 -- what `later` requests, for a timer's text of an address and a line: the line, if the bot is an operator of its channel
--- and the member of this address does not show the line's effect
+-- and the member of this address is there and does not show the line's effect
 abbrev pub asked_by_later : Call → Seen → List Action
 asked_by_later call seen =
     if may_look call seen && is_wanted (first_word (timer_text call)) (line_of call) seen

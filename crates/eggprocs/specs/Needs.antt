@@ -12,7 +12,7 @@ use Rattle.procs.specs.declared.action.Action.{Action}
 use Rattle.procs.specs.declared.action.Action.TheVariants.{SendBot, Utimer}
 use Rattle.procs.specs.declared.call.Call.{Call}
 use Rattle.procs.specs.declared.call_kind.CallKind.{CallKind}
-use Rattle.procs.specs.declared.call_kind.CallKind.TheVariants.{Raw, Msg, Msgm, Notc, Pub, Pubm, Join, Part, Sign, Kick, Nick, Mode, Topc}
+use Rattle.procs.specs.declared.call_kind.CallKind.TheVariants.{Raw, Msg, Msgm, Notc, Pub, Pubm, Join, Part, Sign, Kick, Nick, Mode, Topc, Account}
 use Rattle.procs.specs.declared.call_kind.CallKind.TheVariants.{Bot, Time, Cron, Timer}
 use Rattle.procs.specs.declared.limits.TheConstants.{MAX_ACTIONS}
 use Rattle.procs.specs.Seen.{Seen}
@@ -89,6 +89,7 @@ is_bot_text Kick = false
 is_bot_text Nick = false
 is_bot_text Mode = false
 is_bot_text Topc = false
+is_bot_text Account = false
 is_bot_text Time = false
 is_bot_text Cron = false
 is_bot_text Timer = false

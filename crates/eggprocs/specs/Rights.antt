@@ -8,7 +8,7 @@ use Rattle.userfile.specs.Persons.{flags_of}
 use Rattle.chanstate.specs.Views.{member_in, is_op}
 use Rattle.procs.specs.declared.call.Call.{Call}
 use Rattle.procs.specs.declared.call_kind.CallKind.{CallKind}
-use Rattle.procs.specs.declared.call_kind.CallKind.TheVariants.{Raw, Msg, Msgm, Notc, Pub, Pubm, Join, Part, Sign, Kick, Nick, Mode, Topc}
+use Rattle.procs.specs.declared.call_kind.CallKind.TheVariants.{Raw, Msg, Msgm, Notc, Pub, Pubm, Join, Part, Sign, Kick, Nick, Mode, Topc, Account}
 use Rattle.procs.specs.declared.call_kind.CallKind.TheVariants.{Bot, Time, Cron, Timer}
 use Rattle.procs.specs.Seen.{Seen}
 use Rattle.eggprocs.specs.declared.rights.TheConstants.{OP, VOICE, FRIEND, MASTER, OWNER, BOT}
@@ -32,6 +32,7 @@ is_pub Kick = false
 is_pub Nick = false
 is_pub Mode = false
 is_pub Topc = false
+is_pub Account = false
 is_pub Bot = false
 is_pub Time = false
 is_pub Cron = false
@@ -51,6 +52,7 @@ is_join Kick = false
 is_join Nick = false
 is_join Mode = false
 is_join Topc = false
+is_join Account = false
 is_join Bot = false
 is_join Time = false
 is_join Cron = false
@@ -70,6 +72,7 @@ is_msg Kick = false
 is_msg Nick = false
 is_msg Mode = false
 is_msg Topc = false
+is_msg Account = false
 is_msg Bot = false
 is_msg Time = false
 is_msg Cron = false
@@ -90,6 +93,7 @@ is_timer Kick = false
 is_timer Nick = false
 is_timer Mode = false
 is_timer Topc = false
+is_timer Account = false
 is_timer Bot = false
 is_timer Time = false
 is_timer Cron = false
@@ -108,6 +112,7 @@ is_mode Sign = false
 is_mode Kick = false
 is_mode Nick = false
 is_mode Topc = false
+is_mode Account = false
 is_mode Bot = false
 is_mode Time = false
 is_mode Cron = false

@@ -1,11 +1,13 @@
 -- Laws of the bots that share a channel: which one acts, and what the others do.
-use Rattle.std.specs.Prelude.{◌≡◌, ◌⊎◌, ◌<◌, ◌*◌, ◌==◌, ◌&&◌, ℕ, not, Bool, true, false, List, ◌∷◌, ◌++◌, length, Some, None, codes}
+use Rattle.std.specs.Prelude.{◌≡◌, ◌⊎◌, ◌<◌, ◌*◌, ◌==◌, ◌&&◌, ℕ, not, Bool, true, false, List, [], ◌∷◌, ◌++◌, length, Option, Some, None, codes}
 use Rattle.std.specs.List.{list_all, list_any}
 use Rattle.std.specs.List.Sorted.{IsPermutation}
 use Rattle.std.specs.Str.{bytes_eq}
 use Rattle.rfccase.specs.Casemapping.{IsSameBy}
+use Rattle.userfile.specs.Shapes.{is_hostmask}
 use Rattle.chanstate.specs.declared.member.Member.{Member}
 use Rattle.chanstate.specs.Views.{mapping_of, member_in, members_in}
+use Rattle.outqueue.specs.declared.queue.Queue.TheVariants.{Mode as mode_queue}
 use Rattle.procs.specs.declared.action.Action.{Action}
 use Rattle.procs.specs.declared.action.Action.TheVariants.{Ask, Timer, Utimer, KillTimer, SendBot, Put}
 use Rattle.procs.specs.declared.call.Call.{Call}
@@ -14,17 +16,18 @@ use Rattle.procs.specs.Promises.{IsKept}
 use Rattle.procs.specs.Seen.{Seen}
 use Rattle.eggprocs.specs.declared.effects.LineEffect.{LineEffect}
 use Rattle.eggprocs.specs.declared.effects.LineEffect.TheVariants.{Kick}
-use Rattle.eggprocs.specs.declared.duties.Duty.TheVariants.{FirstOp}
 use Rattle.eggprocs.specs.declared.looks.TheConstants.{LOOK_SECONDS}
 use Rattle.eggprocs.specs.declared.proc_name.ProcName.{ProcName}
 use Rattle.eggprocs.specs.Args.{channel_of, mode_argument, timer_text}
-use Rattle.eggprocs.specs.Effects.{channel_in, target_in, effect_in, is_done}
+use Rattle.eggprocs.specs.Channel.{put}
+use Rattle.eggprocs.specs.Effects.{channel_in, target_in, effect_in, is_ban, is_done}
 use Rattle.eggprocs.specs.Everyone.{address_of, flags_of_member}
 use Rattle.eggprocs.specs.Hands.{is_hand, is_hand_itself, comes_before, hands_ahead, rank}
-use Rattle.eggprocs.specs.Keeping.{is_self, hits_itself}
+use Rattle.eggprocs.specs.Guards.{hits_hands, may_remove, has_before}
+use Rattle.eggprocs.specs.Keeping.{is_change_by_others, is_hit, is_self}
 use Rattle.eggprocs.specs.Laws.{DoesNothing, is_line}
 use Rattle.eggprocs.specs.Lines.{mode, kick}
-use Rattle.eggprocs.specs.Looks.{line_of}
+use Rattle.eggprocs.specs.Looks.{is_here, line_of}
 use Rattle.eggprocs.specs.Procs.{ours, name_of, duty_of, wanted_by}
 use Rattle.eggprocs.specs.Rights.{has_bot, is_op_of}
 use Rattle.eggprocs.specs.Turns.{is_each, is_heard_by_all, needs_op, turn_of}
@@ -136,23 +139,74 @@ OneActs which =
     → (a b : ProcReply) → IsKept ours (name_of which) call one a → IsKept ours (name_of which) call other b
     → (list_all is_wait a.actions ≡ true) ⊎ (list_all is_wait b.actions ≡ true)
 
--- a proc of bans does nothing at a later turn among the bots that are operators, unless the ban hits the bot itself
+-- ---- who removes a ban
+
+-- whether a ban's mask matches the bot itself
+abbrev pub is_hit_if : List ℕ → Seen → Option Member → Bool
+is_hit_if mask seen None = false
+is_hit_if mask seen (Some member) = is_hit mask seen member
+
+abbrev pub hits_itself : List ℕ → Call → Seen → Bool
+hits_itself mask call seen = is_hit_if mask seen (member_in (channel_of call) seen.sight.channels.nick seen.sight.channels)
+
+-- of two bots that see the same, are both hands that are op, and have different nicks, one does nothing
+abbrev pub OneRemoves : List ℕ → Type 0
+OneRemoves name =
+    (call : Call) (one other : Seen) → SeeTheSame call one other
+    → is_hand_itself true call one ≡ true → is_hand_itself true call other ≡ true
+    → (IsSameBy (mapping_of one.sight.channels) one.sight.channels.nick other.sight.channels.nick → ⊥)
+    → (a b : ProcReply) → IsKept ours name call one a → IsKept ours name call other b
+    → (a.actions ≡ []) ⊎ (b.actions ≡ [])
+
+-- one of the bots of which the first removes a ban, before which none of them comes
+abbrev pub is_first_of_these : List ℕ → Call → Seen → Member → Bool
+is_first_of_these mask call seen member =
+    may_remove (hits_hands mask call seen) mask call seen member && not (has_before (hits_hands mask call seen) mask call seen member.nick)
+
+-- if the bot itself is a hand that is op, there is such a bot
+abbrev pub SomeoneRemoves : Type 0
+SomeoneRemoves =
+    (mask : List ℕ) (call : Call) (seen : Seen) → is_hand_itself true call seen ≡ true
+    → list_any (is_first_of_these mask call seen) (members_in (channel_of call) seen.sight.channels) ≡ true
+
+-- a bot removes a ban that hits it, if no other hand that the ban hits comes before it
+abbrev pub RemovesBansOnItself : List ℕ → Type 0
+RemovesBansOnItself name =
+    (call : Call) (seen : Seen) → is_change_by_others (codes "+b") call seen ≡ true → is_hostmask (mode_argument call) ≡ true
+    → hits_itself (mode_argument call) call seen ≡ true → has_before true (mode_argument call) call seen seen.sight.channels.nick ≡ false
+    → (reply : ProcReply) → IsKept ours name call seen reply
+    → reply.actions ≡ put mode_queue (mode (channel_of call) (codes "-b") (mode_argument call)) ∷ []
+
+-- a bot that the ban does not hit does nothing if the ban hits another hand
+abbrev pub LeavesBansToTheHit : List ℕ → Type 0
+LeavesBansToTheHit name =
+    (call : Call) (seen : Seen) → is_hand_itself true call seen ≡ true → hits_itself (mode_argument call) call seen ≡ false
+    → hits_hands (mode_argument call) call seen ≡ true → DoesNothing name call seen
+
+-- a bot that the ban does not hit does nothing if another hand that is op comes first
 abbrev pub LeavesOthersBansToTheFirst : List ℕ → Type 0
 LeavesOthersBansToTheFirst name =
-    (call : Call) (seen : Seen) → 0 < turn_of FirstOp call seen → hits_itself (mode_argument call) call seen ≡ false → DoesNothing name call seen
+    (call : Call) (seen : Seen) → 0 < rank true call seen → hits_itself (mode_argument call) call seen ≡ false → DoesNothing name call seen
 
 -- ---- looks
 
--- a look does nothing if nobody of the nick is on the channel
+-- a look for a ban does nothing if nobody of the look's address is on the channel
+abbrev pub WantsTheBanned : List ℕ → Type 0
+WantsTheBanned name =
+    (call : Call) (seen : Seen) → is_ban (effect_in (line_of call)) ≡ true
+    → is_here (first_word (timer_text call)) (channel_in (line_of call)) seen ≡ false → DoesNothing name call seen
+
+-- any other look does nothing if nobody of the nick is on the channel
 abbrev pub WantsSomebody : List ℕ → Type 0
 WantsSomebody name =
-    (call : Call) (seen : Seen) → member_in (channel_in (line_of call)) (target_in (line_of call)) seen.sight.channels ≡ None
+    (call : Call) (seen : Seen) → is_ban (effect_in (line_of call)) ≡ false
+    → member_in (channel_in (line_of call)) (target_in (line_of call)) seen.sight.channels ≡ None
     → DoesNothing name call seen
 
--- a look does nothing if the member of that nick has another address
+-- any other look does nothing if the member of that nick has another address
 abbrev pub WantsTheSamePerson : List ℕ → Type 0
 WantsTheSamePerson name =
-    (call : Call) (seen : Seen) (member : Member)
+    (call : Call) (seen : Seen) (member : Member) → is_ban (effect_in (line_of call)) ≡ false
     → member_in (channel_in (line_of call)) (target_in (line_of call)) seen.sight.channels ≡ Some member
     → bytes_eq (address_of member) (first_word (timer_text call)) ≡ false
     → DoesNothing name call seen

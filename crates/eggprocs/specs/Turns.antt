@@ -5,7 +5,7 @@ use Rattle.std.specs.List.{filter_map}
 use Rattle.procs.specs.declared.action.Action.{Action}
 use Rattle.procs.specs.declared.call.Call.{Call}
 use Rattle.procs.specs.declared.call_kind.CallKind.{CallKind}
-use Rattle.procs.specs.declared.call_kind.CallKind.TheVariants.{Raw, Msg, Msgm, Notc, Pub, Pubm, Join, Part, Sign, Kick, Nick, Mode, Topc}
+use Rattle.procs.specs.declared.call_kind.CallKind.TheVariants.{Raw, Msg, Msgm, Notc, Pub, Pubm, Join, Part, Sign, Kick, Nick, Mode, Topc, Account}
 use Rattle.procs.specs.declared.call_kind.CallKind.TheVariants.{Bot, Time, Cron, Timer}
 use Rattle.procs.specs.declared.limits.TheConstants.{MAX_ACTIONS}
 use Rattle.procs.specs.Seen.{Seen}
@@ -53,6 +53,7 @@ is_heard_by_all Sign = false
 is_heard_by_all Kick = false
 is_heard_by_all Nick = false
 is_heard_by_all Topc = false
+is_heard_by_all Account = false
 is_heard_by_all Bot = false
 is_heard_by_all Time = false
 is_heard_by_all Cron = false

@@ -12,8 +12,9 @@ use crate::cycling::asked_by_cycle;
 use crate::dynamic::asked_by_dynamicbans;
 use crate::ends::asked_by_expire;
 use crate::everyone::asked_by_opall;
+use crate::guards::asked_by_guard;
 use crate::infos::{asked_by_greet, asked_by_info};
-use crate::keeping::{asked_by_bitch, asked_by_enforcebans, asked_by_guard, asked_by_protectops};
+use crate::keeping::{asked_by_bitch, asked_by_enforcebans, asked_by_protectops};
 use crate::looks::asked_by_later;
 use crate::marks::asked_by_bans;
 use crate::modes::asked_by_keepmodes;
@@ -21,6 +22,7 @@ use crate::needs::{asked_by_giveop, asked_by_needop};
 use crate::orders::{Order, asked_by_order};
 use crate::people::asked_by_whois;
 use crate::proc_name::ProcName;
+use crate::recorded::asked_by_keepbans;
 use crate::rights::{is_from_op, is_from_voice};
 use crate::turns::share_out;
 use crate::whereabouts::asked_by_seen;
@@ -94,5 +96,6 @@ fn wanted_by(
         ProcName::DynamicBans => asked_by_dynamicbans(alloc, call, view),
         ProcName::NeedOp => asked_by_needop(alloc, call, view),
         ProcName::GiveOp => asked_by_giveop(alloc, call, view),
+        ProcName::KeepBans => asked_by_keepbans(alloc, call, view),
     }
 }

@@ -78,6 +78,7 @@ fn place_of(kind: CallKind) -> Option<usize>
         | CallKind::Nick
         | CallKind::Mode
         | CallKind::Topc
+        | CallKind::Account
         | CallKind::Bot
         | CallKind::Time
         | CallKind::Cron

@@ -1,10 +1,13 @@
 // Laws of the procs that keep a channel by themselves, and of those that answer other programs.
 ghost use Rattle.std.specs.Prelude.{codes};
-ghost use Rattle.eggprocs.specs.Laws.{DoesOnly};
+ghost use Rattle.eggprocs.specs.Laws.{DoesOnly, IsOnlyByOps, IsOnlyForOthers};
 ghost use Rattle.eggprocs.specs.ChannelLaws.{is_reverse, is_gift, LeavesNobodyBehind, IsOnlyWithoutOp, IsOnlyForOwn, SparesSticky, IsOnlyToBot, IsOnlyForTexts};
+ghost use Rattle.eggprocs.specs.ChannelLaws.{is_kept, SparesUnbanned, KeepsOff, SetsAgain, LeavesRemovalsToTheFirst};
 
-/// A law; calling it does nothing. `keepmodes` does nothing but set the reverse of the change that it is called for, and
-/// only of a mode that never has an argument, as the server announces it.
+/// A law; calling it does nothing. `keepmodes` does nothing but undo the change that it is called for, by what the server
+/// announces. It sets the reverse of a mode whose reverse has no argument: of a mode that never has one, and of one that
+/// has it only when it is set, as a limit `+l`. It clears a key `+k` by the key that the change sets. So it undoes no ban,
+/// no other entry of a list, and no mark of a member, and sets no limit and no key again.
 pub fn modes_are_set_back()
     ensures keepmodes { DoesOnly is_reverse (codes "keepmodes") }
 {}
@@ -21,6 +24,27 @@ pub fn cycles_leave_nobody_behind()
 pub fn dynamic_bans_are_the_bots_own()
     ensures own { IsOnlyForOwn (codes "dynamicbans") }
     ensures sticky { SparesSticky (codes "dynamicbans") }
+{}
+
+/// A law; calling it does nothing. `keepbans` keeps the bans of the records on the channels:
+///
+/// - When a person joins, it does nothing but set a ban of the records on the channel and kick that person, for a ban that
+///   is of this channel or of all, has not ended, and matches the person's `nick!user@host`. The kick's reason is the
+///   ban's comment. It does nothing for a person whom no such ban matches.
+/// - When a mode removes a ban, it does nothing but set a sticky ban of the records again, which is of this channel or of
+///   all, has not ended, and has the same mask.
+/// - It does nothing for what the bot itself does, and nothing on a channel on which the bot is no operator.
+/// - If the bot comes first, it bans and kicks for the first such ban, and sets the first such ban again.
+/// - If another bot comes first, it does nothing when a mode removes a ban, and looks later when a person joins
+///   ([`bots_take_turns`](crate::bots_take_turns)).
+pub fn recorded_bans_are_kept()
+    ensures keepbans { DoesOnly is_kept (codes "keepbans") }
+    ensures unbanned { SparesUnbanned (codes "keepbans") }
+    ensures others { IsOnlyForOthers (codes "keepbans") }
+    ensures with_op { IsOnlyByOps (codes "keepbans") }
+    ensures kept_off { KeepsOff (codes "keepbans") }
+    ensures again { SetsAgain (codes "keepbans") }
+    ensures removals { LeavesRemovalsToTheFirst (codes "keepbans") }
 {}
 
 /// A law; calling it does nothing. `giveop` does nothing but give op to the member whom the text names, and only if the

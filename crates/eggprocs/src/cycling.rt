@@ -56,6 +56,7 @@ fn leaver_of(call: &Call) -> Option<&[u8]>
         | CallKind::Nick
         | CallKind::Mode
         | CallKind::Topc
+        | CallKind::Account
         | CallKind::Bot
         | CallKind::Time
         | CallKind::Cron

@@ -1,6 +1,6 @@
 // What a line to the server does to a member of a channel.
 ghost use Rattle.std.specs.Prelude.{◌≡◌};
-ghost use Rattle.eggprocs.specs.Effects.{after_channel, channel_in, is_kick, target_in, effect_of, effect_in, is_done};
+ghost use Rattle.eggprocs.specs.Effects.{after_channel, channel_in, is_kick, target_in, effect_of, effect_in, is_ban, is_done};
 
 use bytetext::{after_word, first_word};
 use chanstate::Member;
@@ -16,6 +16,8 @@ pub enum LineEffect {
     GiveVoice,
     /// `-v`: the reverse.
     TakeVoice,
+    /// `+b`: bans a mask, under which the member is.
+    Ban,
     /// Kicks the member.
     Kick,
     /// Anything else.
@@ -66,6 +68,8 @@ fn effect_of(change: &[u8]) -> LineEffect
         LineEffect::GiveVoice
     } else if change == b"-v".as_slice() {
         LineEffect::TakeVoice
+    } else if change == b"+b".as_slice() {
+        LineEffect::Ban
     } else {
         LineEffect::Other
     }
@@ -84,6 +88,13 @@ pub(crate) fn effect_in(line: &[u8]) -> LineEffect
     }
 }
 
+// Whether a line sets a ban.
+pub(crate) fn is_ban(effect: LineEffect) -> bool
+    ensures { result ≡ is_ban effect }
+{
+    matches!(effect, LineEffect::Ban)
+}
+
 // Whether a member shows that an effect is there already.
 pub(crate) fn is_done(effect: LineEffect, member: &Member) -> bool
     ensures { result ≡ is_done effect member.now }
@@ -93,7 +104,7 @@ pub(crate) fn is_done(effect: LineEffect, member: &Member) -> bool
         LineEffect::TakeOp => !member.op,
         LineEffect::GiveVoice => member.voice,
         LineEffect::TakeVoice => !member.voice,
-        LineEffect::Kick => false,
+        LineEffect::Ban | LineEffect::Kick => false,
         LineEffect::Other => true,
     }
 }

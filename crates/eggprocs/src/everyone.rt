@@ -12,7 +12,7 @@ use crate::rights::{AUTO_OP, AUTO_VOICE, has_flag, is_change, is_join};
 use bytetext::{Failure, NoMemory, Text};
 use chanstate::Member;
 use outqueue::Queue;
-use procs::{Action, Actions, ActionsFault, Call, PutWish, View};
+use procs::{Action, Actions, ActionsFault, Call, PutWish, View, handle_by};
 use rfccase::same_by;
 use std::alloc::Global;
 use userfile::PersonFlags;
@@ -130,7 +130,7 @@ fn is_left(view: &View<'_>, member: &Member) -> bool
     member.op || is_own_nick(view, member.nick.as_bytes())
 }
 
-// The flags of a member, with those on the call's channel.
+// The flags of a member, with those on the call's channel. An account says who the member is before nick!user@host does.
 pub(crate) fn flags_of_member(
     alloc: Global,
     call: &Call,
@@ -141,7 +141,8 @@ pub(crate) fn flags_of_member(
 {
     let who = address_of(alloc, member)?;
     let userfile = view.userfile();
-    let handle = userfile.handle_of(view.channels().casemapping(), who.as_bytes());
+    let mapping = view.channels().casemapping();
+    let handle = handle_by(userfile, mapping, member.account.as_bytes(), who.as_bytes());
     Ok(userfile.flags_of(handle, channel_of(call)))
 }
 

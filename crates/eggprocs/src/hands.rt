@@ -29,7 +29,7 @@ pub(crate) fn rank(
 }
 
 // Whether the bot itself is a hand on the call's channel.
-fn is_hand_itself(
+pub(crate) fn is_hand_itself(
     alloc: Global,
     needs_op: bool,
     call: &Call,
@@ -86,7 +86,7 @@ fn is_ahead(
 }
 
 // Whether a member is a bot by the userfile, and op if only operators count.
-fn is_hand(
+pub(crate) fn is_hand(
     alloc: Global,
     needs_op: bool,
     call: &Call,
@@ -104,7 +104,7 @@ fn is_hand(
 }
 
 // Whether a nick comes before another, by their lower cases as lists of bytes.
-fn comes_before(
+pub(crate) fn comes_before(
     alloc: Global,
     mapping: Casemapping,
     nick: &[u8],

@@ -1,19 +1,17 @@
 // The procs that keep a channel when somebody changes its modes.
 ghost use Rattle.std.specs.Prelude.{◌≡◌, take, IfOk};
-ghost use Rattle.std.specs.List.{filter_map, list_any};
+ghost use Rattle.std.specs.List.{filter_map};
 ghost use Rattle.procs.specs.declared.limits.TheConstants.{MAX_ACTIONS};
 ghost use Rattle.eggprocs.specs.Keeping.{is_change_here, is_by_bot, is_by_server, is_by_trusted, is_change_by_others, is_change_by_untrusted};
 ghost use Rattle.eggprocs.specs.Keeping.{mode_back, flags_named, names_bot, names_caller, takes_op, gives_op};
-ghost use Rattle.eggprocs.specs.Keeping.{is_hit, is_self, is_spared, is_guarded, hits_guarded, hits_itself, ban_undone, kick_for};
-ghost use Rattle.eggprocs.specs.Keeping.{asked_by_protectops, asked_by_bitch, asked_by_guard, asked_by_enforcebans};
+ghost use Rattle.eggprocs.specs.Keeping.{is_hit, is_self, is_spared, kick_for};
+ghost use Rattle.eggprocs.specs.Keeping.{asked_by_protectops, asked_by_bitch, asked_by_enforcebans};
 
 use crate::args::{channel_of, mode_argument, nick_of};
 use crate::channel::one_line;
-use crate::duties::Duty;
 use crate::everyone::{address_of, flags_of_member, is_own_nick, push_if_room};
 use crate::lines::{kick, mode};
 use crate::rights::{flags_by, has_bot, has_master, has_op, is_bot_op, is_change, is_protected};
-use crate::turns::share_out;
 use bytetext::NoMemory;
 use chanstate::Member;
 use outqueue::Queue;
@@ -57,26 +55,6 @@ pub(crate) fn asked_by_bitch(
     }
 }
 
-// What `guard` requests: the end of a ban that somebody else sets, if its mask matches a member whom `guard` guards.
-pub(crate) fn asked_by_guard(
-    alloc: Global,
-    call: &Call,
-    view: &View<'_>,
-) -> Result<Actions, NoMemory>
-    ensures { IfOk result (λ actions. actions ≡ asked_by_guard call.now view.now) }
-{
-    if !(is_change_by_others(b"+b", call, view) && is_hostmask(mode_argument(call))) {
-        return Ok(Actions::empty(alloc));
-    }
-    let mask = hostmask(alloc, mode_argument(call))?;
-    let members = view.channels().members(alloc, channel_of(call))?;
-    if hits_any_guarded(alloc, &mask, call, view, members.as_slice())? {
-        ban_undone(alloc, &mask, call, view)
-    } else {
-        Ok(Actions::empty(alloc))
-    }
-}
-
 // What `enforcebans` requests: kicks of the first members whom a ban's mask matches.
 pub(crate) fn asked_by_enforcebans(
     alloc: Global,
@@ -115,7 +93,7 @@ fn is_by_server(call: &Call) -> bool
 }
 
 // Whether a master or a bot by the userfile made the change.
-fn is_by_trusted(call: &Call, view: &View<'_>) -> bool
+pub(crate) fn is_by_trusted(call: &Call, view: &View<'_>) -> bool
     ensures { result ≡ is_by_trusted call.now view.now }
 {
     let flags = flags_by(call, view);
@@ -123,7 +101,7 @@ fn is_by_trusted(call: &Call, view: &View<'_>) -> bool
 }
 
 // Whether a call is for this change, made by anybody but the bot itself.
-fn is_change_by_others(change: &[u8], call: &Call, view: &View<'_>) -> bool
+pub(crate) fn is_change_by_others(change: &[u8], call: &Call, view: &View<'_>) -> bool
     ensures { result ≡ is_change_by_others change.now call.now view.now }
 {
     is_change_here(change, call, view) && !is_by_bot(call, view)
@@ -137,7 +115,7 @@ pub(crate) fn is_change_by_untrusted(change: &[u8], call: &Call, view: &View<'_>
 }
 
 // The mode with the argument that the change has, and no other action.
-fn mode_back(alloc: Global, change: &[u8], call: &Call) -> Result<Actions, NoMemory>
+pub(crate) fn mode_back(alloc: Global, change: &[u8], call: &Call) -> Result<Actions, NoMemory>
     ensures { IfOk result (λ actions. actions ≡ mode_back change.now call.now) }
 {
     let line = mode(alloc, channel_of(call), change, mode_argument(call))?;
@@ -190,7 +168,7 @@ fn flags_named(alloc: Global, call: &Call, view: &View<'_>) -> Result<Option<Per
 }
 
 // The hostmask of a text that is one, so that only memory can be lacking.
-fn hostmask(alloc: Global, text: &[u8]) -> Result<Hostmask, NoMemory>
+pub(crate) fn hostmask(alloc: Global, text: &[u8]) -> Result<Hostmask, NoMemory>
     ensures { IfOk result (λ mask. mask ≡ text.now) }
 {
     match Hostmask::new(alloc, text) {
@@ -200,7 +178,7 @@ fn hostmask(alloc: Global, text: &[u8]) -> Result<Hostmask, NoMemory>
 }
 
 // Whether a ban's mask matches a member.
-fn is_hit(
+pub(crate) fn is_hit(
     alloc: Global,
     mask: &Hostmask,
     view: &View<'_>,
@@ -220,7 +198,12 @@ pub(crate) fn is_self(view: &View<'_>, member: &Member) -> bool
 }
 
 // Whether bans spare a member: the bot itself, and an operator or friend by the userfile.
-fn is_spared(alloc: Global, call: &Call, view: &View<'_>, member: &Member) -> Result<bool, NoMemory>
+pub(crate) fn is_spared(
+    alloc: Global,
+    call: &Call,
+    view: &View<'_>,
+    member: &Member,
+) -> Result<bool, NoMemory>
     ensures { IfOk result (λ spared. spared ≡ is_spared call.now view.now member.now) }
 {
     if is_self(view, member) {
@@ -228,89 +211,6 @@ fn is_spared(alloc: Global, call: &Call, view: &View<'_>, member: &Member) -> Re
     }
     let flags = flags_of_member(alloc, call, view, member)?;
     Ok(is_protected(&flags))
-}
-
-// Whether `guard` takes off a ban that hits a member: one whom bans spare, but only the bot itself if a master or
-// another bot sets the ban.
-fn is_guarded(
-    alloc: Global,
-    call: &Call,
-    view: &View<'_>,
-    member: &Member,
-) -> Result<bool, NoMemory>
-    ensures { IfOk result (λ guarded. guarded ≡ is_guarded call.now view.now member.now) }
-{
-    if is_by_trusted(call, view) {
-        Ok(is_self(view, member))
-    } else {
-        is_spared(alloc, call, view, member)
-    }
-}
-
-// Whether a ban's mask matches such a member.
-fn hits_guarded(
-    alloc: Global,
-    mask: &Hostmask,
-    call: &Call,
-    view: &View<'_>,
-    member: &Member,
-) -> Result<bool, NoMemory>
-    ensures { IfOk result (λ hits. hits ≡ hits_guarded mask.now call.now view.now member.now) }
-{
-    if !is_hit(alloc, mask, view, member)? {
-        return Ok(false);
-    }
-    is_guarded(alloc, call, view, member)
-}
-
-// Whether a ban's mask matches any such member of these.
-fn hits_any_guarded(
-    alloc: Global,
-    mask: &Hostmask,
-    call: &Call,
-    view: &View<'_>,
-    members: &[Member],
-) -> Result<bool, NoMemory>
-    ensures { IfOk result (λ hits. hits ≡ list_any (hits_guarded mask.now call.now view.now) members.now) }
-{
-    for member in members {
-        if hits_guarded(alloc, mask, call, view, member)? {
-            return Ok(true);
-        }
-    }
-    Ok(false)
-}
-
-// The end of a ban: by each bot that it hits, and otherwise by the first bot alone.
-fn ban_undone(
-    alloc: Global,
-    mask: &Hostmask,
-    call: &Call,
-    view: &View<'_>,
-) -> Result<Actions, NoMemory>
-    ensures { IfOk result (λ actions. actions ≡ ban_undone mask.now call.now view.now) }
-{
-    let wanted = mode_back(alloc, b"-b", call)?;
-    if hits_itself(alloc, mask, call, view)? {
-        return Ok(wanted);
-    }
-    share_out(alloc, Duty::FirstOp, call, view, wanted)
-}
-
-// Whether a ban's mask matches the bot itself.
-fn hits_itself(
-    alloc: Global,
-    mask: &Hostmask,
-    call: &Call,
-    view: &View<'_>,
-) -> Result<bool, NoMemory>
-    ensures { IfOk result (λ hits. hits ≡ hits_itself mask.now call.now view.now) }
-{
-    let channels = view.channels();
-    match channels.member(channel_of(call), channels.own_nick()) {
-        Some(member) => is_hit(alloc, mask, view, member),
-        None => Ok(false),
-    }
 }
 
 // Kicks of the first members whom a ban's mask matches and whom bans don't spare.

@@ -101,9 +101,11 @@ pub fn changes_want_a_master()
     ensures bans { IsOnlyForMasters (codes "bans") }
 {}
 
-/// A law; calling it does nothing. Each change that a proc requests is in the caller's name: it bears the caller's
-/// `nick!user@host` and the casemapping of the bot's server, by which the bot also finds the caller's handle. So each
-/// userfile that the change reaches judges the caller's right by its own records just before the change.
+/// A law; calling it does nothing. Each change that a proc requests is in the caller's name: it bears the caller's claim
+/// and the casemapping of the bot's server, by which the bot also finds the caller's handle. The claim is `$a:NAME` if the
+/// bot's channels show that the caller is logged in to the account NAME and a user has a hostmask of it, and otherwise the
+/// caller's `nick!user@host` ([`procs::claim_by`]). So each userfile that the change reaches judges the caller's right by
+/// its own records just before the change.
 ///
 /// Two procs also request changes in nobody's name: `adduser`, of which the bind's flags say who may use it, adds a
 /// user, who has neither flags nor hostmasks, and `expire` deletes bans. No proc requests anything else in nobody's

@@ -26,6 +26,7 @@
 //! | `ban` | `pub` | `o` | MASK MINUTES COMMENT | a ban, `MODE CHANNEL +b MASK`, and a later call of `lift` |
 //! | `unban` | `pub` | `o` | MASK | the end of the ban, and `MODE CHANNEL -b MASK` |
 //! | `greet` | `join` | | | `PRIVMSG CHANNEL :[NICK] INFO` |
+//! | `keepbans` | `join` | | | `MODE CHANNEL +b MASK` and `KICK CHANNEL NICK :COMMENT` |
 //!
 //! - `op`, `deop`, `voice` and `devoice` without a NICK change the caller's mode.
 //! - `autoop` gives op to a caller who joins with the flag `a`, and otherwise voice.
@@ -43,6 +44,9 @@
 //!   from the channel.
 //! - `greet` greets a caller who joins and has an info line, whether the bot is an operator or not. It greets nobody
 //!   without one ([`greetings_want_an_info`]).
+//! - `keepbans` is for anybody but the bot who joins under a ban of the userfile: one of the channel or of all channels,
+//!   which has not ended. It sets the first such ban, and its reason is the ban's comment, or `banned` without one. It
+//!   spares nobody for a flag ([`recorded_bans_are_kept`]).
 //!
 //! A command that lacks its nick, its text or a hostmask does nothing. Modes and kicks go into the mode queue, topics,
 //! invitations and WHO into the server queue, and greetings into the help queue.
@@ -70,17 +74,19 @@
 //! | `bitch` | `mode` | `+o NICK` | `MODE CHANNEL -o NICK`, if NICK is a member without `o` and `b` |
 //! | `guard` | `mode` | `+b MASK` | `MODE CHANNEL -b MASK`, if MASK matches the bot, or a member with `o` or `f` |
 //! | `enforcebans` | `mode` | `+b MASK` | `KICK CHANNEL NICK :banned`, for members without `o` and `f` whom MASK matches |
-//! | `keepmodes` | `mode` | any of a mode without argument | the reverse, as `MODE CHANNEL +n` for `-n` |
+//! | `keepmodes` | `mode` | any whose reverse has no argument | the reverse, as `MODE CHANNEL +n` for `-n`, or `-l` for `+l` |
+//! | `keepmodes` | `mode` | `+k KEY` | `MODE CHANNEL -k KEY` |
 //! | `dynamicbans` | `mode` | `+b MASK` by the bot | a call of `lift` after an hour, unless a ban of MASK is sticky |
+//! | `keepbans` | `mode` | `-b MASK` | `MODE CHANNEL +b MASK`, if a ban of MASK in the userfile is sticky |
 //!
-//! - `protectops`, `bitch`, `guard` and `keepmodes` do nothing for a change that the bot itself makes.
+//! - `protectops`, `bitch`, `guard`, `keepmodes` and `keepbans` do nothing for a change that the bot itself makes.
 //! - `protectops`, `bitch` and `keepmodes` do nothing for a change by a master or a bot, as in Eggdrop. That is a caller
 //!   who has one of the flags `m` and `n`, everywhere or on the channel, or the flag `b` everywhere. For such a caller,
 //!   `guard` acts only if MASK matches the bot itself. So two bots don't undo each other's changes without end
 //!   ([`keeping_answers_others`]).
-//! - The mask of its bind says which changes `keepmodes` undoes: `#egg -n` keeps the mode `n` on #egg. It leaves alone
-//!   the modes that the server announces with an argument, also if they have one only when they are set
-//!   ([`modes_are_set_back`]).
+//! - The mask of its bind says which changes `keepmodes` undoes: `#egg -n` keeps the mode `n` on #egg, and `#egg +k` keeps
+//!   keys off it. The server announces which modes have an argument. `keepmodes` leaves alone lists, such as bans, and the
+//!   marks of members, and it sets no key and no limit again ([`modes_are_set_back`]).
 //! - `dynamicbans` requests nothing before the bot's clock shows a second. The records keep the ban, so the bot sets it
 //!   again when somebody joins whom it matches ([`dynamic_bans_are_the_bots_own`]).
 //! - `bitch` does nothing if a server gives op. `protectops`, `guard` and `keepmodes` also undo what a server does.
@@ -90,8 +96,10 @@
 //! - `enforcebans` never kicks the bot itself. It kicks the first eight such members, in the order in which they came,
 //!   also for a ban of the bot's own.
 //! - `guard` and `enforcebans` do nothing if MASK is no hostmask.
-//! - The first four look up a member by the host that the server has sent. A member whose host the bot does not know yet
-//!   is a stranger to it. So bind `opall` to joins too: it asks for the hosts when the bot itself joins.
+//! - `keepbans` sets the first sticky ban again that is of the channel or of all channels, has not ended, and has this
+//!   mask. It does so whoever else removes the mask ([`recorded_bans_are_kept`]).
+//! - The first four look up a member by the account that the server has sent, if a user has a hostmask of it, and
+//!   otherwise by the host. A member whose host the bot does not know yet is a stranger to it. So bind `opall` to joins too: it asks for the hosts when the bot itself joins.
 //!
 //! When the bot is no operator of a channel, and between bots:
 //!
@@ -164,8 +172,9 @@
 //! change is queued, since the hub decides. `+host` adds a warning for a mask that is likely to fit strangers
 //! ([`loosemask`]). `bans` has a NOTICE for each ban.
 //!
-//! Each change that a proc requests is in the caller's name: the caller's `nick!user@host`, and the casemapping of the
-//! bot's server. So the hub judges the caller's right once more, by its own records, when the change reaches it. A master
+//! Each change that a proc requests is in the caller's name: the caller's claim, and the casemapping of the bot's server.
+//! The claim is `$a:NAME` if a user has a hostmask of the account NAME, to which the caller is logged in, and otherwise
+//! `nick!user@host`. So the hub judges the caller's right once more, by its own records, when the change reaches it. A master
 //! who has been removed at the hub changes nothing from a bot that has not heard of it yet. Only `adduser` and `expire`
 //! request changes in nobody's name: a new user, who has no flags and no hostmasks, and the deletion of a ban
 //! ([`changes_are_in_the_callers_name`]).
@@ -178,11 +187,11 @@
 //!
 //! | Procs | Hands that count | At rank 0 | At rank 1 and above |
 //! |---|---|---|---|
-//! | `op`, `deop`, `voice`, `devoice`, `autoop`, `kick`, `protectops`, `bitch`, `enforcebans` | operators | at once | a look |
+//! | `op`, `deop`, `voice`, `devoice`, `autoop`, `kick`, `protectops`, `bitch`, `enforcebans`, `keepbans` for a join | operators | at once | a look |
 //! | `opall` | all | at once | a look |
-//! | `topic`, `invite`, `ban`, `unban`, `keepmodes` | operators | at once | nothing |
+//! | `topic`, `invite`, `ban`, `unban`, `keepmodes`, `keepbans` for `-b` | operators | at once | nothing |
 //! | `greet`, `echo`, and `seen` and `adduser` on a channel | all | at once | nothing |
-//! | `guard` | operators | at once | nothing, unless the ban hits the bot itself |
+//! | `guard` | operators, of these those that the ban hits if it hits any | at once | nothing |
 //!
 //! - A look is a call of `later` after five seconds for each rank, for each line that the bot would send at rank 0. A bot
 //!   of rank 9 or above requests nothing.
@@ -190,10 +199,16 @@
 //!   sends LINE if the bot is an operator of the line's channel, the member of this address is there, and the channel
 //!   does not show that it is done: the member is no operator yet for `+o`, is one for `-o`, has no voice yet for `+v`,
 //!   and has voice for `-v`. So a look does nothing after another bot has acted ([`looks_want_it_undone`]).
+//! - `keepbans` makes two looks, one for each of its lines. The look for the ban does nothing if no member of this address
+//!   is there, so a later bot sets the ban only if it also kicks that person.
+//! - Exactly one bot removes a ban by `guard` ([`one_bot_removes_a_ban`]). If the ban hits bots that are hands and
+//!   operators, it is the first of these, and otherwise the first of all. The bot that sets the ban is left out of those
+//!   that it hits.
 //! - No look is made for a nick that is not on the channel, except for a caller who joins.
 //! - A look sees the channel as it is then, and not what happened since. So a member who is kicked and joins again within
 //!   the five seconds is kicked once more.
-//! - `ban` and `unban` have no looks, since a bot does not know the list of a channel's bans.
+//! - `ban`, `unban`, `guard` and `keepbans` for `-b` have no looks, since a bot does not know the list of a channel's bans.
+//!   So nobody sets a ban again that the first bot itself removes.
 //! - A restart loses the timers of looks like all timers of a bot.
 //! - A bot counts another one only if it knows that one's host. So bind `opall` to joins.
 //! - A member with the flag `b` who is no bot of the net delays the bots whose nicks come later by five seconds. If its
@@ -234,6 +249,7 @@ mod effects;
 mod ends;
 mod everyone;
 mod full_store;
+mod guards;
 mod hands;
 mod infos;
 mod keeping;
@@ -249,6 +265,7 @@ mod pairs;
 mod people;
 mod proc_name;
 mod promise;
+mod recorded;
 mod rights;
 mod turn_laws;
 mod turns;
@@ -258,7 +275,7 @@ pub use crate::bans::UTIMER_MINUTES;
 pub use crate::body::EggProc;
 pub use crate::channel_laws::{
     bots_give_op_to_known_bots, cycles_leave_nobody_behind, dynamic_bans_are_the_bots_own,
-    modes_are_set_back, requests_are_to_the_bot,
+    modes_are_set_back, recorded_bans_are_kept, requests_are_to_the_bot,
 };
 pub use crate::ctcp::MAX_PING;
 pub use crate::duties::Duty;
@@ -279,5 +296,5 @@ pub use crate::promise::Ours;
 pub use crate::rights::{AUTO_OP, AUTO_VOICE, BOT, FRIEND, MASTER, OP, OWNER, Requester, VOICE};
 pub use crate::turn_laws::{
     a_lone_bot_acts, bots_take_turns, looks_read_their_line, looks_want_it_undone, one_bot_acts,
-    one_bot_is_first, strangers_change_no_rank,
+    one_bot_is_first, one_bot_removes_a_ban, strangers_change_no_rank,
 };

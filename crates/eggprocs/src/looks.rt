@@ -1,15 +1,19 @@
 // What a bot looks for that lets another bot go first.
 ghost use Rattle.std.specs.Prelude.{◌≡◌, ◌≤◌, IfOk};
+ghost use Rattle.std.specs.List.{list_any};
+ghost use Rattle.std.specs.Str.{bytes_eq};
+ghost use Rattle.eggprocs.specs.Everyone.{address_of};
 ghost use Rattle.eggprocs.specs.declared.looks.TheConstants.{MAX_TURN};
 ghost use Rattle.eggprocs.specs.Looks.{is_wanted, look_text, look_of, look_if, address_now, look_at, look_for, line_of, may_look, asked_by_later};
 
 use crate::args::{channel_of, timer_text};
 use crate::askers::caller_address;
 use crate::channel::one_line;
-use crate::effects::{channel_in, effect_in, is_done, target_in};
+use crate::effects::{channel_in, effect_in, is_ban, is_done, target_in};
 use crate::everyone::address_of;
 use crate::rights::{is_join, is_op_of, is_timer};
 use bytetext::{NoMemory, Text, after_word, first_word};
+use chanstate::Member;
 use outqueue::Queue;
 use procs::{Action, Actions, Call, TimerWish, View};
 use std::alloc::Global;
@@ -21,16 +25,41 @@ pub const MAX_TURN: u32 = 8;
 pub const LOOK_SECONDS: u32 = 5;
 
 // Whether there is a member of this address who does not show the effect of this line.
+#[tactic(auto, unfolding(crate::specs::Looks::is_wanted))]
 fn is_wanted(alloc: Global, address: &[u8], line: &[u8], view: &View<'_>) -> Result<bool, NoMemory>
     ensures { IfOk result (λ wanted. wanted ≡ is_wanted address.now line.now view.now) }
 {
+    if is_ban(effect_in(line)) {
+        let members = view.channels().members(alloc, channel_in(line))?;
+        return is_any_of(alloc, address, members.as_slice());
+    }
     match view.channels().member(channel_in(line), target_in(line)) {
         Some(member) => {
-            let there = address_of(alloc, member)?;
-            Ok(there.as_bytes() == address && !is_done(effect_in(line), member))
+            let is_same = is_of(alloc, address, member)?;
+            Ok(is_same && !is_done(effect_in(line), member))
         }
         None => Ok(false),
     }
+}
+
+// Whether any of these members has this address.
+fn is_any_of(alloc: Global, address: &[u8], members: &[Member]) -> Result<bool, NoMemory>
+    ensures { IfOk result (λ some. some ≡ list_any (λ member. bytes_eq (address_of member) address.now) members.now) }
+{
+    for member in members {
+        if is_of(alloc, address, member)? {
+            return Ok(true);
+        }
+    }
+    Ok(false)
+}
+
+// Whether a member has this address.
+fn is_of(alloc: Global, address: &[u8], member: &Member) -> Result<bool, NoMemory>
+    ensures { IfOk result (λ same. same ≡ bytes_eq (address_of member.now) address.now) }
+{
+    let there = address_of(alloc, member)?;
+    Ok(there.as_bytes() == address)
 }
 
 // A look's text: ADDRESS LINE.

@@ -6,7 +6,7 @@ use crate::duties::Duty;
 use procs::Code;
 
 /// The number of procs.
-pub const PROC_COUNT: usize = 42;
+pub const PROC_COUNT: usize = 43;
 
 /// Every proc, in the order in which [`store`](crate::store) adds them.
 pub const EVERY: [ProcName; PROC_COUNT] = [
@@ -52,6 +52,7 @@ pub const EVERY: [ProcName; PROC_COUNT] = [
     ProcName::DynamicBans,
     ProcName::NeedOp,
     ProcName::GiveOp,
+    ProcName::KeepBans,
 ];
 
 /// A proc of the programs. The crate's first page says what each is for.
@@ -141,6 +142,8 @@ pub enum ProcName {
     NeedOp,
     /// `giveop`: gives op to another bot that asks for it.
     GiveOp,
+    /// `keepbans`: bans and kicks a person who joins under a ban of the records, and sets a sticky one again.
+    KeepBans,
 }
 
 impl ProcName {
@@ -191,6 +194,7 @@ impl ProcName {
             ProcName::DynamicBans => b"dynamicbans",
             ProcName::NeedOp => b"needop",
             ProcName::GiveOp => b"giveop",
+            ProcName::KeepBans => b"keepbans",
         }
     }
 
@@ -241,7 +245,8 @@ impl ProcName {
             | ProcName::Cycle
             | ProcName::DynamicBans
             | ProcName::NeedOp
-            | ProcName::GiveOp => Code::Zero,
+            | ProcName::GiveOp
+            | ProcName::KeepBans => Code::Zero,
         }
     }
     /// Returns who of the bots on a channel does what the proc requests there.
@@ -264,7 +269,8 @@ impl ProcName {
             | ProcName::Kick
             | ProcName::ProtectOps
             | ProcName::Bitch
-            | ProcName::EnforceBans => Duty::TurnsOp,
+            | ProcName::EnforceBans
+            | ProcName::KeepBans => Duty::TurnsOp,
             ProcName::Quiet
             | ProcName::Stop
             | ProcName::Tick

@@ -5,8 +5,9 @@ ghost use Rattle.eggprocs.specs.declared.proc_name.ProcName.{ProcName};
 ghost use Rattle.eggprocs.specs.declared.proc_name.ProcName.TheVariants as which;
 ghost use Rattle.eggprocs.specs.Laws.{DoesOnly};
 ghost use Rattle.eggprocs.specs.TurnLaws.{RanksRise, RanksDiffer, SomeoneIsFirst, LoneIsFirst, UnknownIsFirst, StrangersCountNot};
-ghost use Rattle.eggprocs.specs.TurnLaws.{OneActs, ActsAtOnce, OnlyLooks, LeavesItToTheFirst, LeavesOthersBansToTheFirst};
-ghost use Rattle.eggprocs.specs.TurnLaws.{WantsSomebody, WantsTheSamePerson, WantsItUndone, WantsOp, is_own_line, ReadsModes, ReadsKicks};
+ghost use Rattle.eggprocs.specs.TurnLaws.{OneActs, ActsAtOnce, OnlyLooks, LeavesItToTheFirst};
+ghost use Rattle.eggprocs.specs.TurnLaws.{OneRemoves, SomeoneRemoves, RemovesBansOnItself, LeavesBansToTheHit, LeavesOthersBansToTheFirst};
+ghost use Rattle.eggprocs.specs.TurnLaws.{WantsTheBanned, WantsSomebody, WantsTheSamePerson, WantsItUndone, WantsOp, is_own_line, ReadsModes, ReadsKicks};
 
 /// A law; calling it does nothing. Two bots may see the same of a channel: equal records, the same casemapping of the
 /// server, and the same members with the same marks and addresses, in whatever order. If both are hands and their nicks
@@ -44,7 +45,6 @@ pub fn strangers_change_no_rank()
 /// - At a later turn it requests nothing but calls of `later`, five seconds later for each turn.
 /// - What people read is said at turn 0 alone, and topics, invitations, bans and the modes of `keepmodes` are the first
 ///   bot's alone: at a later turn these procs request nothing.
-/// - `guard` removes a ban if the ban hits the bot itself, or if the bot is the first operator of the bots.
 pub fn bots_take_turns()
     ensures at_once { (proc : ProcName) → ActsAtOnce proc }
     ensures later { (proc : ProcName) → OnlyLooks proc }
@@ -57,26 +57,44 @@ pub fn bots_take_turns()
     ensures ban { LeavesItToTheFirst which.Ban }
     ensures unban { LeavesItToTheFirst which.Unban }
     ensures keepmodes { LeavesItToTheFirst which.KeepModes }
-    ensures guard { LeavesOthersBansToTheFirst (codes "guard") }
+{}
+
+/// A law; calling it does nothing. Exactly one bot removes a ban by `guard`. The bots of this law are hands that are op:
+///
+/// - Of two such bots that see the same and have different nicks, one does nothing, whatever both answer.
+/// - There is a bot that goes first: among those that the ban hits if it hits any, and otherwise among all.
+/// - A bot that the ban hits removes it, whoever else sets it, if no other such bot that it hits comes before.
+/// - A bot that the ban does not hit does nothing if the ban hits such a bot, or if such a bot comes before.
+///
+/// The bot that sets the ban does not count among those that it hits. A bot that is no hand removes the ban by itself.
+pub fn one_bot_removes_a_ban()
+    ensures one { OneRemoves (codes "guard") }
+    ensures first { SomeoneRemoves }
+    ensures itself { RemovesBansOnItself (codes "guard") }
+    ensures hit { LeavesBansToTheHit (codes "guard") }
+    ensures others { LeavesOthersBansToTheFirst (codes "guard") }
 {}
 
 /// A law; calling it does nothing. `later` sends the line of its look, and does nothing else. It does nothing if the bot
 /// is no operator of the line's channel, if nobody of the nick is there, if the member of that nick has another address,
-/// or if that member shows that the line has no more to do.
+/// or if that member shows that the line has no more to do. A line that sets a ban names no nick: `later` does nothing for
+/// it if nobody of the look's address is there.
 pub fn looks_want_it_undone()
     ensures line { DoesOnly is_own_line (codes "later") }
     ensures op { WantsOp (codes "later") }
+    ensures banned { WantsTheBanned (codes "later") }
     ensures somebody { WantsSomebody (codes "later") }
     ensures same_person { WantsTheSamePerson (codes "later") }
     ensures undone { WantsItUndone (codes "later") }
 {}
 
-/// A law; calling it does nothing. `later` reads in a line what the line does, on which channel and to which nick, if
-/// channel and nick are words without spaces.
+/// A law; calling it does nothing. `later` reads in a line what the line does, on which channel and to which nick or mask,
+/// if these are words without spaces.
 pub fn looks_read_their_line()
     ensures give_op { ReadsModes (codes "+o") effect.GiveOp }
     ensures take_op { ReadsModes (codes "-o") effect.TakeOp }
     ensures give_voice { ReadsModes (codes "+v") effect.GiveVoice }
     ensures take_voice { ReadsModes (codes "-v") effect.TakeVoice }
+    ensures ban { ReadsModes (codes "+b") effect.Ban }
     ensures kick { ReadsKicks }
 {}

@@ -9,8 +9,8 @@ use Rattle.ircline.specs.Classes.{is_end}
 use Rattle.floods.specs.declared.floods.Verdict.{Verdict}
 use Rattle.floods.specs.declared.floods.Verdict.TheVariants.{Dropped, Ignores, Passes}
 use Rattle.floods.specs.declared.ignores.Ignore.{Ignore}
-use Rattle.floods.specs.declared.kind.Kind.{Kind}
-use Rattle.floods.specs.declared.kind.Kind.TheVariants.{Channel, Ctcp, Message}
+use Rattle.floods.specs.declared.kind.SpeechKind.{SpeechKind}
+use Rattle.floods.specs.declared.kind.SpeechKind.TheVariants.{Channel, Ctcp, Message}
 use Rattle.floods.specs.declared.limits.Limit.{Limit}
 use Rattle.floods.specs.declared.sieve.TheConstants.{MAX_LINE}
 use Rattle.floods.specs.declared.speech.Speech.{Speech}
@@ -80,7 +80,7 @@ trusted_passes trusted now watch line trust =
 
 -- ---- no limits
 
-limit_of-none : (watch : Watch) → HasNoLimits watch → (kind : Kind) → limit_of watch.limits kind ≡ None
+limit_of-none : (watch : Watch) → HasNoLimits watch → (kind : SpeechKind) → limit_of watch.limits kind ≡ None
 limit_of-none watch none Message = none.0
 limit_of-none watch none Ctcp = none.1
 limit_of-none watch none Channel = none.2

@@ -7,8 +7,8 @@ use Rattle.rfccase.specs.declared.casemappings.Casemapping.TheVariants.{Ascii}
 use Rattle.ircline.specs.Classes.{filled}
 use Rattle.ircline.specs.Sources.{Source, Nobody, Server, Person, source_of}
 use Rattle.floods.specs.declared.key.TheConstants.{MAX_KEY}
-use Rattle.floods.specs.declared.kind.Kind.{Kind}
-use Rattle.floods.specs.declared.kind.Kind.TheVariants.{Message, Ctcp, Channel}
+use Rattle.floods.specs.declared.kind.SpeechKind.{SpeechKind}
+use Rattle.floods.specs.declared.kind.SpeechKind.TheVariants.{Message, Ctcp, Channel}
 use Rattle.floods.specs.declared.speech.Speech.{Speech}
 
 -- ---- the words of a line, as servers send it: `:nick!user@host PRIVMSG target :text`
@@ -48,7 +48,7 @@ is_action (b ∷ c0 ∷ c1 ∷ c2 ∷ c3 ∷ c4 ∷ c5 ∷ bs) =
 is_action bs = false
 
 -- what a line to this target with this text counts as
-abbrev pub kind_of : List ℕ → List ℕ → Kind
+abbrev pub kind_of : List ℕ → List ℕ → SpeechKind
 kind_of target text =
     if is_ctcp text && not (is_channel target && is_action text) then Ctcp
     else if is_channel target then Channel else Message
@@ -68,14 +68,14 @@ abbrev pub key_of : List ℕ → List ℕ → List ℕ
 key_of user host = key_from (longer_key (key_from [] user) 64) host
 
 -- a person with a user and a host is counted, and nobody else
-abbrev pub by_source : Kind → Source → Option Speech
+abbrev pub by_source : SpeechKind → Source → Option Speech
 by_source kind Nobody = None
 by_source kind (Server name) = None
 by_source kind (Person nick user host) =
     if filled user && filled host then Some (record { kind = kind; key = key_of user host }) else None
 
 -- what these words, a target and a text, count as
-unfoldable pub kind_said : List ℕ → Kind
+unfoldable pub kind_said : List ℕ → SpeechKind
 kind_said words = kind_of (first_word words) (text_of (after_word words))
 
 -- what a person says in these words

@@ -5,18 +5,18 @@ use Rattle.std.specs.Str.{bytes_eq}
 use Rattle.floods.specs.declared.counts.Count.{Count}
 use Rattle.floods.specs.declared.counts.Window.{Window}
 use Rattle.floods.specs.declared.counts.TheConstants.{MAX_COUNTS}
-use Rattle.floods.specs.declared.kind.Kind.{Kind}
-use Rattle.floods.specs.declared.kind.Kind.TheVariants.{Message, Ctcp, Channel}
+use Rattle.floods.specs.declared.kind.SpeechKind.{SpeechKind}
+use Rattle.floods.specs.declared.kind.SpeechKind.TheVariants.{Message, Ctcp, Channel}
 use Rattle.floods.specs.declared.limits.Limit.{Limit}
 use Rattle.floods.specs.declared.limits.Limits.{Limits}
 use Rattle.floods.specs.declared.speech.Speech.{Speech}
 
-abbrev pub kind_number : Kind → ℕ
+abbrev pub kind_number : SpeechKind → ℕ
 kind_number Message = 0
 kind_number Ctcp = 1
 kind_number Channel = 2
 
-abbrev pub limit_of : Limits → Kind → Option Limit
+abbrev pub limit_of : Limits → SpeechKind → Option Limit
 limit_of limits Message = limits.message
 limit_of limits Ctcp = limits.ctcp
 limit_of limits Channel = limits.channel

@@ -3,8 +3,8 @@ ghost use Rattle.std.specs.Prelude.{◌≡◌, ◌<◌, ◌≤◌, [], length, m
 ghost use Rattle.std.specs.Vec.{vec_capacity};
 ghost use Rattle.floods.specs.Windows.{counted, is_counted, is_of, others, renewed, roomy, window_at, window_in, with_window};
 
-use crate::key::Key;
-use crate::kind::Kind;
+use crate::key::FloodKey;
+use crate::kind::SpeechKind;
 use crate::limits::Limit;
 use crate::speech::Speech;
 use bytetext::NoMemory;
@@ -24,8 +24,8 @@ pub(crate) struct Window {
 // The lines of one kind that one person sent in a window.
 #[derive(Drop)]
 pub(crate) struct Count {
-    pub(crate) key: Key,
-    pub(crate) kind: Kind,
+    pub(crate) key: FloodKey,
+    pub(crate) kind: SpeechKind,
     pub(crate) window: Window,
 }
 

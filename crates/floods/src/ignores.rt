@@ -4,7 +4,7 @@ ghost use Rattle.std.specs.Vec.{vec_capacity};
 ghost use Rattle.floods.specs.Watching.{is_ignored, is_in_force, in_force, with_ignore, without};
 ghost use Rattle.floods.specs.Windows.{roomy};
 
-use crate::key::Key;
+use crate::key::FloodKey;
 use crate::limits::Limit;
 use bytetext::NoMemory;
 use std::alloc::Global;
@@ -17,7 +17,7 @@ pub(crate) const MAX_IGNORES: usize = 100;
 #[derive(Drop)]
 pub struct Ignore {
     /// Who is ignored.
-    pub key: Key,
+    pub key: FloodKey,
     /// The second at which the ignore ends.
     pub until: u64,
     /// The limit that the person passed.

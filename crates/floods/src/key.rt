@@ -13,11 +13,11 @@ pub(crate) const MAX_KEY: usize = 127;
 /// The key by which a person is counted and ignored: `user@host`, in the lower case of ASCII, and of that at most 127
 /// bytes.
 #[derive(Drop)]
-pub struct Key {
+pub struct FloodKey {
     bytes: ArrayVec<u8, MAX_KEY>,
 }
 
-impl Model for Key {
+impl Model for FloodKey {
     ghost use Rattle.std.specs.Prelude.{List, ℕ};
 
     ghost Value = { List ℕ };
@@ -25,12 +25,12 @@ impl Model for Key {
     ghost view = { λ k. k.bytes.items };
 }
 
-impl Key {
+impl FloodKey {
     // The key of a person with this user and host.
-    pub(crate) fn new(user: &[u8], host: &[u8]) -> Key
+    pub(crate) fn new(user: &[u8], host: &[u8]) -> FloodKey
         ensures { result ≡ key_of user.now host.now }
     {
-        let mut key = Key {
+        let mut key = FloodKey {
             bytes: ArrayVec::new(),
         };
         key.extend(user);

@@ -4,7 +4,7 @@ ghost use Rattle.floods.specs.Windows.{kind_number};
 
 /// What a PRIVMSG or NOTICE counts as. Each kind has a limit of its own.
 #[derive(Clone, Copy, Debug, PartialEq, Eq)]
-pub enum Kind {
+pub enum SpeechKind {
     /// To the bot itself.
     Message,
     /// A CTCP: its text begins with byte 1. An ACTION to a channel counts as `Channel`.
@@ -13,15 +13,15 @@ pub enum Kind {
     Channel,
 }
 
-impl Kind {
+impl SpeechKind {
     // A number for each kind.
     pub(crate) fn number(self) -> u8
         ensures { result ≡ kind_number self }
     {
         match self {
-            Kind::Message => 0,
-            Kind::Ctcp => 1,
-            Kind::Channel => 2,
+            SpeechKind::Message => 0,
+            SpeechKind::Ctcp => 1,
+            SpeechKind::Channel => 2,
         }
     }
 }

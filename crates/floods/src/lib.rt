@@ -1,7 +1,7 @@
 //! Who floods a bot is ignored, as by Eggdrop: the lines of an ignored person are dropped before the bot hears them.
 //!
 //! A [`Sieve`] stands between a connection to a server and a bot. It counts the PRIVMSG and NOTICE lines of each
-//! `user@host` by their [`Kind`]. A person who sends more lines of one kind within a window than its [`Limit`] allows
+//! `user@host` by their [`SpeechKind`]. A person who sends more lines of one kind within a window than its [`Limit`] allows
 //! is ignored for some time. The line that passes the limit is dropped, and so is each PRIVMSG and NOTICE of that
 //! `user@host` until the ignore ends. Every other line passes, in order and byte for byte. A person whom the caller
 //! [trusts](Trusts) is never ignored.
@@ -27,13 +27,11 @@ mod laws;
 mod limits;
 mod sieve;
 mod speech;
-#[cfg(test)]
-mod tests;
 mod trusts;
 
 pub use crate::ignores::Ignore;
-pub use crate::key::Key;
-pub use crate::kind::Kind;
+pub use crate::key::FloodKey;
+pub use crate::kind::SpeechKind;
 pub use crate::laws::{ignores_end, nothing_else_is_dropped, the_trusted_pass, without_limits};
 pub use crate::limits::{Limit, Limits};
 pub use crate::sieve::{Sieve, Sifted};

@@ -2,7 +2,7 @@
 ghost use Rattle.std.specs.Prelude.{◌≡◌, Some};
 ghost use Rattle.floods.specs.Windows.{eggdrop, limit_of};
 
-use crate::kind::Kind;
+use crate::kind::SpeechKind;
 
 /// At most `lines` lines of one kind in a window of `seconds` seconds. The window begins with a counted line.
 #[derive(Clone, Copy, Debug, PartialEq, Eq)]
@@ -40,13 +40,13 @@ impl Limits {
     }
 
     /// Returns the limit of `kind`.
-    pub fn of(&self, kind: Kind) -> Option<Limit>
+    pub fn of(&self, kind: SpeechKind) -> Option<Limit>
         ensures { result ≡ limit_of self.now kind }
     {
         match kind {
-            Kind::Message => self.message,
-            Kind::Ctcp => self.ctcp,
-            Kind::Channel => self.channel,
+            SpeechKind::Message => self.message,
+            SpeechKind::Ctcp => self.ctcp,
+            SpeechKind::Channel => self.channel,
         }
     }
 }

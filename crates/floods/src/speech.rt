@@ -3,17 +3,17 @@ ghost use Rattle.std.specs.Prelude.{◌≡◌};
 ghost use Rattle.ircline.specs.Sources.{source_of};
 ghost use Rattle.floods.specs.Speaking.{by_source, is_action, is_channel, is_ctcp, is_said, kind_of, kind_said, person_of, said_by, speech_of, text_of, words_of};
 
-use crate::key::Key;
-use crate::kind::Kind;
+use crate::key::FloodKey;
+use crate::kind::SpeechKind;
 use bytetext::{after_word, first_word};
 use ircline::{Source, source};
 
 // A PRIVMSG or NOTICE of a person.
 #[derive(Drop)]
 pub(crate) struct Speech {
-    pub(crate) kind: Kind,
+    pub(crate) kind: SpeechKind,
     // Whose it is.
-    pub(crate) key: Key,
+    pub(crate) key: FloodKey,
 }
 
 // The prefix of `line`, `nick!user@host` if a person sent it, and empty if it has none.
@@ -57,7 +57,7 @@ fn said_by(person: &[u8], words: &[u8]) -> Option<Speech>
 
 // What these words, the target and the text, count as.
 #[tactic(auto, unfolding(crate::specs::Speaking::kind_said))]
-fn kind_said(words: &[u8]) -> Kind
+fn kind_said(words: &[u8]) -> SpeechKind
     ensures { result ≡ kind_said words.now }
 {
     kind_of(first_word(words), text_of(after_word(words)))
@@ -109,21 +109,21 @@ fn is_action(text: &[u8]) -> bool
 }
 
 // What a line to `target` with this `text` counts as.
-fn kind_of(target: &[u8], text: &[u8]) -> Kind
+fn kind_of(target: &[u8], text: &[u8]) -> SpeechKind
     ensures { result ≡ kind_of target.now text.now }
 {
     let is_channel = is_channel(target);
     if is_ctcp(text) && !(is_channel && is_action(text)) {
-        return Kind::Ctcp;
+        return SpeechKind::Ctcp;
     }
     if is_channel {
-        return Kind::Channel;
+        return SpeechKind::Channel;
     }
-    Kind::Message
+    SpeechKind::Message
 }
 
 // The speech of the person whom `prefix` names, if that has a user and a host.
-fn by_prefix(kind: Kind, prefix: &[u8]) -> Option<Speech>
+fn by_prefix(kind: SpeechKind, prefix: &[u8]) -> Option<Speech>
     ensures { result ≡ by_source kind (source_of prefix.now) }
 {
     match source(prefix) {
@@ -131,7 +131,7 @@ fn by_prefix(kind: Kind, prefix: &[u8]) -> Option<Speech>
             if person.user.is_empty() || person.host.is_empty() {
                 return None;
             }
-            let key = Key::new(person.user, person.host);
+            let key = FloodKey::new(person.user, person.host);
             Some(Speech { kind, key })
         }
         Source::Server(_) | Source::None => None,

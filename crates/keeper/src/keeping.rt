@@ -84,6 +84,7 @@ fn lone_hub(alloc: Global) -> Result<Config, NoMemory> {
         channels: Texts::empty(alloc),
         exclusive: false,
         sends_at_once: false,
+        leaves_bans: false,
         zone: Zone::fixed(0).unwrap(),
     })
 }

@@ -11,6 +11,8 @@ mod folding;
 #[cfg(test)]
 mod marks;
 #[cfg(test)]
+mod sieves;
+#[cfg(test)]
 mod texts;
 #[cfg(test)]
 mod users;

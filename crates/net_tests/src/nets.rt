@@ -21,6 +21,7 @@ pub fn new_bot(alloc: Global, number: u16, leaves: u16) -> Result<Bot<MemDisk>, 
         channels: Texts::empty(alloc),
         exclusive: false,
         sends_at_once: false,
+        leaves_bans: false,
         zone: Zone::fixed(0).unwrap(),
     };
     match Bot::create(alloc, config, MemDisk::new(alloc), MemDisk::new(alloc)) {

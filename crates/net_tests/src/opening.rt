@@ -20,6 +20,7 @@ fn config(alloc: Global, number: u16) -> Result<Config, NoMemory> {
         channels: Texts::empty(alloc),
         exclusive: false,
         sends_at_once: false,
+        leaves_bans: false,
         zone: Zone::fixed(0).unwrap(),
     })
 }

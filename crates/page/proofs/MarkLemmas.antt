@@ -1,10 +1,11 @@
 -- Which bytes an answer has, and that a text from outside adds no markup.
-use Rattle.std.proofs.Common.{◌≡◌, ◌∙◌, ◌++◌, ◌&&◌, ◌==◌, ◌+◌, ◌/◌, ◌%◌, ◌<◌, ◌≤◌, ◌^◌, min, nat_lt, ℕ, suc, Bool, true, false, true≢false, if◌then◌else◌, List, [], ◌∷◌, length, get_or, refl, sym, arith, codes, decimal}
+use Rattle.std.proofs.Common.{◌≡◌, ◌∙◌, ◌++◌, ap, take, drop, ◌&&◌, ◌==◌, ◌+◌, ◌/◌, ◌%◌, ◌<◌, ◌≤◌, ◌^◌, min, nat_lt, ℕ, suc, Bool, true, false, true≢false, if◌then◌else◌, List, [], ◌∷◌, length, get_or, refl, sym, arith, codes, decimal}
 use Rattle.std.specs.List.{flat_map, list_all}
 use Rattle.std.specs.Str.{IsUtf8, chars, is_utf8}
 use Rattle.std.proofs.lemmas.Bool.{and_from}
 use Rattle.std.proofs.lemmas.Str.{IsUtf8-from_is_utf8}
 use Rattle.std.proofs.lemmas.Fmt.{decimal_is_IsNumeral}
+use Rattle.std.proofs.lemmas.List.{take-append-drop}
 use Rattle.std.proofs.lemmas.List.Folds.{list_all-append}
 use Rattle.std.proofs.lemmas.Str.Parse.{digit_at}
 use Rattle.page.specs.Marks.{AreInert, ArePrinted, digit, hidden, is_bare, is_inert, is_markup, is_printed, numbered, reference, shown_byte, shown_char, shown_text}
@@ -124,3 +125,20 @@ not_utf8 bytes broken = by (is_utf8 bytes) refl
     by : (b : Bool) → is_utf8 bytes ≡ b → is_utf8 bytes ≡ false
     by true e = absurd (broken (IsUtf8-from_is_utf8 bytes e))
     by false e = e
+
+-- ---- parts of a list
+
+both_printed : (a b : Bool) → (a && b) ≡ true → (a ≡ true) × (b ≡ true)
+both_printed true b e = (refl, e)
+both_printed false b e = absurd (true≢false (sym e))
+
+cut_printed : (n : ℕ) (bytes : List ℕ) → ArePrinted bytes → ArePrinted (take n bytes) × ArePrinted (drop n bytes)
+cut_printed n bytes e =
+    both_printed _ _
+    (sym (list_all-append is_printed (take n bytes) (drop n bytes)) ∙ ap (list_all is_printed) (take-append-drop n bytes) ∙ e)
+
+pub take_printed : (n : ℕ) (bytes : List ℕ) → ArePrinted bytes → ArePrinted (take n bytes)
+take_printed n bytes e = (cut_printed n bytes e).0
+
+pub drop_printed : (n : ℕ) (bytes : List ℕ) → ArePrinted bytes → ArePrinted (drop n bytes)
+drop_printed n bytes e = (cut_printed n bytes e).1

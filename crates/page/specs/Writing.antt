@@ -1,5 +1,5 @@
 -- The body or the head of an answer that is being written.
-use Rattle.std.specs.Prelude.{◌≡◌, ℕ, ◌≤◌, Bool, true, List, [], ◌++◌, length}
+use Rattle.std.specs.Prelude.{◌≡◌, ℕ, ◌+◌, ◌≤◌, ◌==◌, Bool, true, List, [], ◌∷◌, ◌++◌, length, if◌then◌else◌}
 
 pub record Written : Type 0 where
   pub bytes : List ℕ
@@ -17,3 +17,8 @@ Adds old more new = new.is_whole ≡ true → (old.is_whole ≡ true) × (new.by
 abbrev pub AddsSome : Written → ℕ → Written → Type 0
 AddsSome old most new = new.is_whole ≡ true
     → (old.is_whole ≡ true) × ((more : List ℕ) × ((new.bytes ≡ old.bytes ++ more) × (length more ≤ most)))
+
+-- how many values a form takes: one for each $
+abbrev pub holes : List ℕ → ℕ
+holes [] = 0
+holes (b ∷ form) = if b == 36 then holes form + 1 else holes form

@@ -3,18 +3,18 @@ ghost use Rattle.page.specs.Marks.{ArePrinted};
 
 use crate::request::PagePath;
 use crate::sheet::Sheet;
-use crate::view::{PageView, PlaceView};
+use crate::view::{OwnView, PlaceView};
 
 /// The most rows of a page; the next ones are on the next page.
 pub const MAX_ROWS: usize = 100;
 
-// Appends what stands before the content of a page: its title, and the links to the others.
-pub(crate) fn put_top(sheet: &mut Sheet, view: &PageView<'_>, here: PagePath) {
-    put_head(sheet, view, here);
+// Appends what stands before the content of a page of a bot: its title, and the links to the others.
+pub(crate) fn put_top(sheet: &mut Sheet, own: OwnView, place: PlaceView, here: PagePath) {
+    put_head(sheet, own, place, here);
     sheet.put(
         b"<body>\n<a class=\"skip\" href=\"#content\">Skip to the content</a>\n<header>\n<p>",
     );
-    put_bot(sheet, view);
+    put_bot(sheet, own, place);
     sheet.put(b"</p>\n<nav aria-label=\"Pages\">\n");
     put_link(sheet, here, PagePath::Net);
     put_link(sheet, here, PagePath::Records);
@@ -26,31 +26,31 @@ pub(crate) fn put_top(sheet: &mut Sheet, view: &PageView<'_>, here: PagePath) {
 }
 
 // Appends the head of the document. The page of the net comes again by itself.
-fn put_head(sheet: &mut Sheet, view: &PageView<'_>, here: PagePath) {
-    sheet.put(b"<!DOCTYPE html>\n<html lang=\"en\">\n<head>\n<meta charset=\"utf-8\">\n");
-    sheet.put(b"<meta name=\"viewport\" content=\"width=device-width, initial-scale=1\">\n");
+fn put_head(sheet: &mut Sheet, own: OwnView, place: PlaceView, here: PagePath) {
+    sheet.put(
+        b"<!DOCTYPE html>\n<html lang=\"en\">\n<head>\n<meta charset=\"utf-8\">\n\
+<meta name=\"viewport\" content=\"width=device-width, initial-scale=1\">\n",
+    );
     if here == PagePath::Net {
         sheet.put(b"<meta http-equiv=\"refresh\" content=\"30\">\n");
     }
     sheet.put(b"<link rel=\"stylesheet\" href=\"/style.css\">\n<title>");
     sheet.put(name_of(here));
     sheet.put(b": ");
-    put_bot(sheet, view);
+    put_bot(sheet, own, place);
     sheet.put(b"</title>\n</head>\n");
 }
 
 // Appends which bot this is.
-fn put_bot(sheet: &mut Sheet, view: &PageView<'_>) {
-    sheet.put(b"bot ");
-    sheet.put_number(u64::from(view.own.number));
-    match view.links.place {
-        PlaceView::Alone => {}
-        PlaceView::Hub => {
-            sheet.put(b", the hub of ");
-            sheet.put_number(u64::from(view.own.leaves));
-            sheet.put(b" leaves");
-        }
-        PlaceView::Leaf => sheet.put(b", a leaf"),
+fn put_bot(sheet: &mut Sheet, own: OwnView, place: PlaceView) {
+    let number = u64::from(own.number);
+    match place {
+        PlaceView::Alone => sheet.put_numbers(b"bot $", &[number]),
+        PlaceView::Hub => sheet.put_numbers(
+            b"bot $, the hub of $ leaves",
+            &[number, u64::from(own.leaves)],
+        ),
+        PlaceView::Leaf => sheet.put_numbers(b"bot $, a leaf", &[number]),
     }
 }
 
@@ -92,10 +92,10 @@ fn address_of(page: PagePath) -> &'static [u8]
     }
 }
 
-// Appends what stands after the content of a page.
-pub(crate) fn put_end(sheet: &mut Sheet, view: &PageView<'_>) {
+// Appends what stands after the content of a page, at second `now`.
+pub(crate) fn put_end(sheet: &mut Sheet, now: u64) {
     sheet.put(b"</main>\n<footer>\n<p>As of ");
-    sheet.put_time(view.now);
+    sheet.put_time(now);
     sheet.put(b".</p>\n</footer>\n</body>\n</html>\n");
 }
 
@@ -124,40 +124,15 @@ fn put_turn(sheet: &mut Sheet, page: PagePath, from: u64) {
     sheet.put_number(from);
 }
 
-// Appends a row of a list of facts: a name, and a number.
-pub(crate) fn put_count(sheet: &mut Sheet, name: &[u8], count: u64)
-    requires printed { ArePrinted name.now }
-{
-    put_name(sheet, name);
-    sheet.put_number(count);
-    sheet.put(b"</dd></div>\n");
-}
-
 // Appends a row of a list of facts: a name, and a second.
 pub(crate) fn put_moment(sheet: &mut Sheet, name: &[u8], second: u64)
-    requires printed { ArePrinted name.now }
-{
-    put_name(sheet, name);
-    sheet.put_time(second);
-    sheet.put(b"</dd></div>\n");
-}
-
-// Appends a row of a list of facts: a name, and a text from outside.
-pub(crate) fn put_fact(sheet: &mut Sheet, name: &[u8], text: &[u8])
-    requires printed { ArePrinted name.now }
-{
-    put_name(sheet, name);
-    sheet.put_text(text);
-    sheet.put(b"</dd></div>\n");
-}
-
-// Appends the name of a fact.
-pub(crate) fn put_name(sheet: &mut Sheet, name: &[u8])
     requires printed { ArePrinted name.now }
 {
     sheet.put(b"<div><dt>");
     sheet.put(name);
     sheet.put(b"</dt><dd>");
+    sheet.put_time(second);
+    sheet.put(b"</dd></div>\n");
 }
 
 // Appends the begin of a cell of a table, under this heading.

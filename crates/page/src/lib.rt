@@ -40,6 +40,7 @@
 #![tactic(auto)]
 
 mod answer;
+mod forms;
 mod heading;
 mod heads;
 mod layout;

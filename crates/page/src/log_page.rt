@@ -14,17 +14,17 @@ const BYTES: usize = 65_536;
 
 // Appends the page of the log: its last lines, the last one first.
 pub(crate) fn put_log_page(sheet: &mut Sheet, view: &PageView<'_>) {
-    put_top(sheet, view, PagePath::Log);
+    put_top(sheet, view.own, view.links.place, PagePath::Log);
     sheet.put(
         b"<p>The last lines come first. Reload the page for newer ones.</p>\n<ol class=\"log\">\n",
     );
-    put_log(sheet, &view.log);
+    put_log(sheet, view.log);
     sheet.put(b"</ol>\n");
-    put_end(sheet, view);
+    put_end(sheet, view.now);
 }
 
 // Appends the last lines of the log, as many as there is room for.
-fn put_log(sheet: &mut Sheet, log: &LogView<'_>) {
+fn put_log(sheet: &mut Sheet, log: LogView<'_>) {
     let room = Room {
         lines: LINES,
         bytes: BYTES,

@@ -1,35 +1,46 @@
 // Numbers for Prometheus.
-ghost use Rattle.page.specs.Marks.{ArePrinted};
-
 use crate::sheet::Sheet;
 use crate::view::{ChannelView, LinksView, LogView, OwnView, PageView, ServerView};
 use userfile::Userfile;
 
-// Appends the numbers of this bot in Prometheus' text form, version 0.0.4.
+// Appends the numbers of this bot in Prometheus' text form, version 0.0.4. Each may rise and fall.
 pub(crate) fn put_metrics(sheet: &mut Sheet, view: &PageView<'_>) {
-    put_own(sheet, &view.own);
+    put_own(sheet, view.own);
     put_records(sheet, view.userfile);
-    put_server(sheet, &view.server, view.now);
+    put_server(sheet, view.server, view.now);
     put_channels(sheet, view.channels);
-    put_links(sheet, &view.links);
-    put_log(sheet, &view.log);
+    put_links(sheet, view.links);
+    put_log(sheet, view.log);
 }
 
-fn put_own(sheet: &mut Sheet, own: &OwnView) {
-    put_gauge(sheet, b"eggnet_bot_number", own.number as u64);
-    put_gauge(sheet, b"eggnet_leaves", own.leaves as u64);
-    put_gauge(sheet, b"eggnet_records_version", own.version as u64);
-    put_gauge(sheet, b"eggnet_unanswered_changes", own.asks as u64);
-    put_gauge(sheet, b"eggnet_own_lines", own.lines as u64);
-    put_gauge(sheet, b"eggnet_administrators", own.admins as u64);
+fn put_own(sheet: &mut Sheet, own: OwnView) {
+    sheet.put_numbers(
+        b"# TYPE eggnet_bot_number gauge\neggnet_bot_number $\n\
+# TYPE eggnet_leaves gauge\neggnet_leaves $\n\
+# TYPE eggnet_records_version gauge\neggnet_records_version $\n\
+# TYPE eggnet_unanswered_changes gauge\neggnet_unanswered_changes $\n\
+# TYPE eggnet_own_lines gauge\neggnet_own_lines $\n\
+# TYPE eggnet_administrators gauge\neggnet_administrators $\n",
+        &[
+            u64::from(own.number),
+            u64::from(own.leaves),
+            u64::from(own.version),
+            own.asks as u64,
+            own.lines as u64,
+            own.admins as u64,
+        ],
+    );
 }
 
 fn put_records(sheet: &mut Sheet, userfile: &Userfile) {
-    put_gauge(sheet, b"eggnet_users", userfile.user_count() as u64);
-    put_gauge(sheet, b"eggnet_bans", userfile.ban_count() as u64);
+    sheet.put_numbers(
+        b"# TYPE eggnet_users gauge\neggnet_users $\n\
+# TYPE eggnet_bans gauge\neggnet_bans $\n",
+        &[userfile.user_count() as u64, userfile.ban_count() as u64],
+    );
 }
 
-fn put_server(sheet: &mut Sheet, server: &ServerView<'_>, now: u64) {
+fn put_server(sheet: &mut Sheet, server: ServerView<'_>, now: u64) {
     match server {
         ServerView::Gone { due: _ } => put_session(sheet, false, 0, 0),
         ServerView::Here(session) => {
@@ -40,9 +51,12 @@ fn put_server(sheet: &mut Sheet, server: &ServerView<'_>, now: u64) {
 }
 
 fn put_session(sheet: &mut Sheet, is_welcomed: bool, seconds: u64, unsent: usize) {
-    put_gauge(sheet, b"eggnet_server_welcomed", is_welcomed as u64);
-    put_gauge(sheet, b"eggnet_server_seconds", seconds);
-    put_gauge(sheet, b"eggnet_server_unsent_bytes", unsent as u64);
+    sheet.put_numbers(
+        b"# TYPE eggnet_server_welcomed gauge\neggnet_server_welcomed $\n\
+# TYPE eggnet_server_seconds gauge\neggnet_server_seconds $\n\
+# TYPE eggnet_server_unsent_bytes gauge\neggnet_server_unsent_bytes $\n",
+        &[u64::from(is_welcomed), seconds, unsent as u64],
+    );
 }
 
 fn put_channels(sheet: &mut Sheet, channels: &[ChannelView<'_>]) {
@@ -52,31 +66,27 @@ fn put_channels(sheet: &mut Sheet, channels: &[ChannelView<'_>]) {
         on = on.saturating_add(u64::from(channel.is_on));
         op = op.saturating_add(u64::from(channel.is_op));
     }
-    put_gauge(sheet, b"eggnet_channels", channels.len() as u64);
-    put_gauge(sheet, b"eggnet_channels_on", on);
-    put_gauge(sheet, b"eggnet_channels_op", op);
+    sheet.put_numbers(
+        b"# TYPE eggnet_channels gauge\neggnet_channels $\n\
+# TYPE eggnet_channels_on gauge\neggnet_channels_on $\n\
+# TYPE eggnet_channels_op gauge\neggnet_channels_op $\n",
+        &[channels.len() as u64, on, op],
+    );
 }
 
-fn put_links(sheet: &mut Sheet, links: &LinksView<'_>) {
-    put_gauge(sheet, b"eggnet_linked_bots", links.linked as u64);
-    put_gauge(sheet, b"eggnet_lag_versions", links.behind);
-    put_gauge(sheet, b"eggnet_links_unsent_bytes", links.unsent);
+fn put_links(sheet: &mut Sheet, links: LinksView<'_>) {
+    sheet.put_numbers(
+        b"# TYPE eggnet_linked_bots gauge\neggnet_linked_bots $\n\
+# TYPE eggnet_lag_versions gauge\neggnet_lag_versions $\n\
+# TYPE eggnet_links_unsent_bytes gauge\neggnet_links_unsent_bytes $\n",
+        &[links.linked as u64, links.behind, links.unsent],
+    );
 }
 
-fn put_log(sheet: &mut Sheet, log: &LogView<'_>) {
-    put_gauge(sheet, b"eggnet_log_waiting_bytes", log.waiting as u64);
-    put_gauge(sheet, b"eggnet_log_dropped_lines", log.dropped);
-}
-
-// A number that may rise and fall.
-fn put_gauge(sheet: &mut Sheet, name: &[u8], value: u64)
-    requires printed { ArePrinted name.now }
-{
-    sheet.put(b"# TYPE ");
-    sheet.put(name);
-    sheet.put(b" gauge\n");
-    sheet.put(name);
-    sheet.put(b" ");
-    sheet.put_number(value);
-    sheet.put(b"\n");
+fn put_log(sheet: &mut Sheet, log: LogView<'_>) {
+    sheet.put_numbers(
+        b"# TYPE eggnet_log_waiting_bytes gauge\neggnet_log_waiting_bytes $\n\
+# TYPE eggnet_log_dropped_lines gauge\neggnet_log_dropped_lines $\n",
+        &[log.waiting as u64, log.dropped],
+    );
 }

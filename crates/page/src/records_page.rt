@@ -10,6 +10,7 @@ use crate::sheet::Sheet;
 use crate::view::PageView;
 use bytetext::Text;
 use flagexpr::Flags;
+use rfccase::Casemapping;
 use std::alloc::Global;
 use userfile::{Ban, ChannelFlags, Hostmask, User, Userfile};
 
@@ -25,44 +26,34 @@ pub(crate) fn put_records_page(
     from: usize,
     who: &Option<Text>,
 ) {
-    put_top(sheet, view, PagePath::Records);
-    put_search(sheet, view, who);
+    put_top(sheet, view.own, view.links.place, PagePath::Records);
+    match who {
+        Some(who) => put_search(sheet, view.mapping, view.userfile, who.as_bytes()),
+        None => sheet.put_texts(SEARCH, &[b""]),
+    }
     let next = put_records(alloc, sheet, view.userfile, from);
     put_turns(sheet, PagePath::Records, from as u64, next);
-    put_end(sheet, view);
+    put_end(sheet, view.now);
 }
 
-// The form of the search, and its answer.
-fn put_search(sheet: &mut Sheet, view: &PageView<'_>, who: &Option<Text>) {
-    sheet.put(
-        b"<form action=\"/records\" method=\"get\" role=\"search\">\n<label for=\"who\">Who would this be? nick!user@host</label>\n",
-    );
-    sheet.put(
-        b"<input id=\"who\" name=\"who\" autocomplete=\"off\" autocapitalize=\"off\" spellcheck=\"false\" value=\"",
-    );
-    match who {
-        Some(who) => {
-            sheet.put_text(who.as_bytes());
-            sheet.put(b"\">\n<button>Search</button>\n</form>\n");
-            put_person(sheet, view, who.as_bytes());
-        }
-        None => sheet.put(b"\">\n<button>Search</button>\n</form>\n"),
-    }
-}
+// The form of the search, with the person that was searched for.
+const SEARCH: &[u8] = b"<form action=\"/records\" method=\"get\" role=\"search\">\n\
+<label for=\"who\">Who would this be? nick!user@host</label>\n\
+<input id=\"who\" name=\"who\" autocomplete=\"off\" autocapitalize=\"off\" spellcheck=\"false\" value=\"$\">\n\
+<button>Search</button>\n</form>\n";
 
-// Who a person would be, and by which hostmask.
-fn put_person(sheet: &mut Sheet, view: &PageView<'_>, who: &[u8]) {
-    sheet.put(b"<p class=\"found\" role=\"status\"><strong>");
-    sheet.put_text(who);
-    match person_of(view.mapping, view.userfile, who) {
-        Some(known) => {
-            sheet.put(b"</strong> would be <strong>");
-            sheet.put_text(known.user.handle.as_bytes());
-            sheet.put(b"</strong> by the hostmask <code>");
-            sheet.put_text(known.mask.as_bytes());
-            sheet.put(b"</code>.</p>\n");
-        }
-        None => sheet.put(b"</strong> would be nobody: no hostmask matches.</p>\n"),
+// The form of the search, and its answer: who the person would be, and by which hostmask.
+fn put_search(sheet: &mut Sheet, mapping: Casemapping, userfile: &Userfile, who: &[u8]) {
+    sheet.put_texts(SEARCH, &[who]);
+    match person_of(mapping, userfile, who) {
+        Some(known) => sheet.put_texts(
+            b"<p class=\"found\" role=\"status\"><strong>$</strong> would be <strong>$</strong> by the hostmask <code>$</code>.</p>\n",
+            &[who, known.user.handle.as_bytes(), known.mask.as_bytes()],
+        ),
+        None => sheet.put_texts(
+            b"<p class=\"found\" role=\"status\"><strong>$</strong> would be nobody: no hostmask matches.</p>\n",
+            &[who],
+        ),
     }
 }
 
@@ -90,10 +81,8 @@ fn put_users(alloc: Global, sheet: &mut Sheet, userfile: &Userfile, from: usize)
         return from;
     }
     sheet.put(
-        b"<h2>Users</h2>\n<table>\n<thead><tr><th scope=\"col\">Handle</th><th scope=\"col\">Flags</th><th scope=\"col\">As a bot</th>",
-    );
-    sheet.put(
-        b"<th scope=\"col\">Hostmasks</th><th scope=\"col\">On channels</th><th scope=\"col\">Info</th></tr></thead>\n<tbody>\n",
+        b"<h2>Users</h2>\n<table>\n<thead><tr><th scope=\"col\">Handle</th><th scope=\"col\">Flags</th><th scope=\"col\">As a bot</th>\
+<th scope=\"col\">Hostmasks</th><th scope=\"col\">On channels</th><th scope=\"col\">Info</th></tr></thead>\n<tbody>\n",
     );
     let mut place = from;
     for _row in 0..MAX_ROWS {
@@ -111,16 +100,15 @@ fn put_users(alloc: Global, sheet: &mut Sheet, userfile: &Userfile, from: usize)
 }
 
 fn put_user(alloc: Global, sheet: &mut Sheet, user: &User) {
-    sheet.put(b"<tr><th scope=\"row\">");
-    sheet.put_text(user.handle.as_bytes());
-    sheet.put(b"</th>");
+    sheet.put_texts(b"<tr><th scope=\"row\">$</th>", &[user.handle.as_bytes()]);
     put_flags(alloc, sheet, b"Flags", user.global);
     put_flags(alloc, sheet, b"As a bot", user.bot);
     put_masks(sheet, user.masks.as_slice());
     put_entries(alloc, sheet, user.channels.as_slice());
-    put_cell(sheet, b"Info");
-    sheet.put_text(user.info.as_bytes());
-    sheet.put(b"</td></tr>\n");
+    sheet.put_texts(
+        b"<td data-label=\"Info\">$</td></tr>\n",
+        &[user.info.as_bytes()],
+    );
 }
 
 // A cell of flags.
@@ -176,10 +164,8 @@ fn put_bans(sheet: &mut Sheet, userfile: &Userfile, from: usize, most: usize) ->
         return from;
     }
     sheet.put(
-        b"<h2>Bans</h2>\n<table>\n<thead><tr><th scope=\"col\">Hostmask</th><th scope=\"col\">Channel</th><th scope=\"col\">By</th>",
-    );
-    sheet.put(
-        b"<th scope=\"col\">Until</th><th scope=\"col\">Sticky</th><th scope=\"col\">Comment</th></tr></thead>\n<tbody>\n",
+        b"<h2>Bans</h2>\n<table>\n<thead><tr><th scope=\"col\">Hostmask</th><th scope=\"col\">Channel</th><th scope=\"col\">By</th>\
+<th scope=\"col\">Until</th><th scope=\"col\">Sticky</th><th scope=\"col\">Comment</th></tr></thead>\n<tbody>\n",
     );
     let mut place = from;
     for _row in 0..most {
@@ -197,38 +183,33 @@ fn put_bans(sheet: &mut Sheet, userfile: &Userfile, from: usize, most: usize) ->
 }
 
 fn put_ban(sheet: &mut Sheet, ban: &Ban) {
-    sheet.put(b"<tr><th scope=\"row\">");
-    sheet.put_text(ban.mask.as_bytes());
-    sheet.put(b"</th>");
-    put_cell(sheet, b"Channel");
-    if ban.channel.is_empty() {
-        sheet.put(b"all");
+    let channel = if ban.channel.is_empty() {
+        b"all"
     } else {
-        sheet.put_text(ban.channel.as_bytes());
-    }
-    sheet.put(b"</td>");
-    put_cell(sheet, b"By");
-    sheet.put_text(ban.creator.as_bytes());
-    sheet.put(b"</td>");
-    put_terms(sheet, ban);
-    put_cell(sheet, b"Comment");
-    sheet.put_text(ban.comment.as_bytes());
-    sheet.put(b"</td></tr>\n");
+        ban.channel.as_bytes()
+    };
+    sheet.put_texts(
+        b"<tr><th scope=\"row\">$</th><td data-label=\"Channel\">$</td><td data-label=\"By\">$</td>",
+        &[ban.mask.as_bytes(), channel, ban.creator.as_bytes()],
+    );
+    put_terms(sheet, ban.expires, ban.sticky);
+    sheet.put_texts(
+        b"<td data-label=\"Comment\">$</td></tr>\n",
+        &[ban.comment.as_bytes()],
+    );
 }
 
 // Until when a ban holds, and whether it comes back when somebody removes it.
-fn put_terms(sheet: &mut Sheet, ban: &Ban) {
-    put_cell(sheet, b"Until");
-    if ban.expires == 0 {
-        sheet.put(b"ever</td>");
+fn put_terms(sheet: &mut Sheet, expires: u64, sticky: bool) {
+    sheet.put(b"<td data-label=\"Until\">");
+    if expires == 0 {
+        sheet.put(b"ever");
     } else {
-        sheet.put_time(ban.expires);
-        sheet.put(b"</td>");
+        sheet.put_time(expires);
     }
-    put_cell(sheet, b"Sticky");
-    if ban.sticky {
-        sheet.put(b"yes</td>");
+    if sticky {
+        sheet.put(b"</td><td data-label=\"Sticky\">yes</td>");
     } else {
-        sheet.put(b"no</td>");
+        sheet.put(b"</td><td data-label=\"Sticky\">no</td>");
     }
 }

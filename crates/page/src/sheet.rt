@@ -23,12 +23,18 @@ pub(crate) type SheetError = Failure<TooLong>;
 // The body of an answer, or its head. Contracts see its bytes, each of which is LF, CR or a space to `~`, and whether
 // all is there that was to be written. A sheet that lacks something takes nothing more, and `finish` says why: so whoever
 // writes looks at no single step.
-#[derive(Drop)]
 pub(crate) struct Sheet {
     bytes: Vec<u8>,
     // Why something is not there.
     fault: Option<SheetError>,
     ghost fits: { vec_len bytes ≤ MAX_PAGE },
+}
+
+// By hand, so that this is proved once, and not in each function in which one ends.
+impl Drop for Sheet {
+    fn drop(self) {
+        let Sheet { bytes: _, fault: _ } = self;
+    }
 }
 
 impl Model for Sheet {
@@ -179,9 +185,10 @@ impl Sheet {
         ensures printed { IfOk result (λ bytes. ArePrinted bytes.items) }
         ensures bound { IfOk result (λ bytes. length bytes.items ≤ MAX_PAGE) }
     {
-        match self.fault {
+        let Sheet { bytes, fault } = self;
+        match fault {
             Some(fault) => Err(fault),
-            None => Ok(self.bytes),
+            None => Ok(bytes),
         }
     }
 }

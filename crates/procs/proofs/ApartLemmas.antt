@@ -6,7 +6,7 @@ use Rattle.std.specs.Str.{bytes_eq}
 use Rattle.std.specs.Cmp.Lexicographic.{bytes_decides}
 use Rattle.rfccase.specs.Casemapping.{folded, is_same}
 use Rattle.procs.specs.declared.bind_kind.BindKind.{BindKind}
-use Rattle.procs.specs.declared.bind_kind.BindKind.TheVariants.{Raw, Msg, Msgm, Notc, Pub, Pubm, Join, Part, Sign, Kick, Nick, Mode, Topc}
+use Rattle.procs.specs.declared.bind_kind.BindKind.TheVariants.{Raw, Msg, Msgm, Notc, Pub, Pubm, Join, Part, Sign, Kick, Nick, Mode, Topc, Account}
 use Rattle.procs.specs.declared.bind_kind.BindKind.TheVariants.{Bot, Time, Cron}
 use Rattle.procs.specs.declared.bind.Bind.{Bind}
 use Rattle.procs.specs.Kinds.{is_kind, is_single, place_of}
@@ -37,7 +37,7 @@ once-apart t rivals (b ∷ binds) apart = ((λ passes. none_rivals t rivals b pa
 -- the kind of a number; another number has cron's
 kind_at : ℕ → BindKind
 kind_at n =
-    cond (n == 0) Raw (cond (n == 1) Msg (cond (n == 2) Msgm (cond (n == 3) Notc (cond (n == 4) Pub (cond (n == 5) Pubm (cond (n == 6) Join (cond (n == 7) Part (cond (n == 8) Sign (cond (n == 9) Kick (cond (n == 10) Nick (cond (n == 11) Mode (cond (n == 12) Topc (cond (n == 13) Bot (cond (n == 14) Time Cron))))))))))))))
+    cond (n == 0) Raw (cond (n == 1) Msg (cond (n == 2) Msgm (cond (n == 3) Notc (cond (n == 4) Pub (cond (n == 5) Pubm (cond (n == 6) Join (cond (n == 7) Part (cond (n == 8) Sign (cond (n == 9) Kick (cond (n == 10) Nick (cond (n == 11) Mode (cond (n == 12) Topc (cond (n == 13) Account (cond (n == 14) Bot (cond (n == 15) Time Cron)))))))))))))))
 
 kind_at-place_of : (kind : BindKind) → kind_at (place_of kind) ≡ kind
 unfolding kind_at
@@ -54,6 +54,7 @@ kind_at-place_of Kick = refl
 kind_at-place_of Nick = refl
 kind_at-place_of Mode = refl
 kind_at-place_of Topc = refl
+kind_at-place_of Account = refl
 kind_at-place_of Bot = refl
 kind_at-place_of Time = refl
 kind_at-place_of Cron = refl

@@ -9,6 +9,7 @@ pub mod SoundLemmas
 pub mod TableLemmas
 pub mod BehindLemmas
 pub mod CandidateLemmas
+pub mod IdentityLemmas
 pub mod HeardLemmas
 pub mod MakingLemmas
 pub mod NextLemmas

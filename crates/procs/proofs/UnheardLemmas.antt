@@ -5,12 +5,12 @@ use Rattle.chanstate.specs.declared.event.EventKind.{EventKind}
 use Rattle.chanstate.specs.declared.event.EventKind.TheVariants.{Raw as raw_event, Msg as msg_event, Msgm as msgm_event, Notc as notc_event}
 use Rattle.chanstate.specs.declared.event.EventKind.TheVariants.{Pub as pub_event, Pubm as pubm_event, Join as join_event, Part as part_event}
 use Rattle.chanstate.specs.declared.event.EventKind.TheVariants.{Sign as sign_event, Kick as kick_event, Nick as nick_event}
-use Rattle.chanstate.specs.declared.event.EventKind.TheVariants.{Mode as mode_event, Topc as topc_event}
+use Rattle.chanstate.specs.declared.event.EventKind.TheVariants.{Mode as mode_event, Topc as topc_event, Account as account_event}
 use Rattle.procs.specs.Promises.{Promised}
 use Rattle.procs.specs.Seen.{Seen}
 use Rattle.procs.specs.declared.bind.Bind.{Bind}
 use Rattle.procs.specs.declared.bind_kind.BindKind.{BindKind}
-use Rattle.procs.specs.declared.bind_kind.BindKind.TheVariants.{Raw, Msg, Msgm, Notc, Pub, Pubm, Join, Part, Sign, Kick, Nick, Mode, Topc}
+use Rattle.procs.specs.declared.bind_kind.BindKind.TheVariants.{Raw, Msg, Msgm, Notc, Pub, Pubm, Join, Part, Sign, Kick, Nick, Mode, Topc, Account}
 use Rattle.procs.specs.declared.bind_kind.BindKind.TheVariants.{Bot, Time, Cron}
 use Rattle.procs.specs.Calls.{Occurrence, takes_event, takes_person, is_called, called}
 use Rattle.procs.specs.Hearing.{is_of_messages, hear_messages}
@@ -25,7 +25,7 @@ use Rattle.procs.specs.Made.{Made, IsMade}
 use Rattle.procs.specs.Occasions.{kind_for}
 
 -- the kinds of events of messages come before the others
-message_place : (event : EventKind) → place_of (kind_of event) < 13
+message_place : (event : EventKind) → place_of (kind_of event) < 14
 message_place raw_event = lit< tt
 message_place msg_event = lit< tt
 message_place msgm_event = lit< tt
@@ -39,12 +39,13 @@ message_place kick_event = lit< tt
 message_place nick_event = lit< tt
 message_place mode_event = lit< tt
 message_place topc_event = lit< tt
+message_place account_event = lit< tt
 
 -- one of them isn't any of the others
 apart : (event : EventKind) (kind : BindKind) → is_of_messages kind ≡ false → is_kind (kind_of event) kind ≡ false
-apart event Bot none = ne_eqb (place_of (kind_of event)) 13 (λ e. omega (arith, message_place event, e))
-apart event Time none = ne_eqb (place_of (kind_of event)) 14 (λ e. omega (arith, message_place event, e))
-apart event Cron none = ne_eqb (place_of (kind_of event)) 15 (λ e. omega (arith, message_place event, e))
+apart event Bot none = ne_eqb (place_of (kind_of event)) 14 (λ e. omega (arith, message_place event, e))
+apart event Time none = ne_eqb (place_of (kind_of event)) 15 (λ e. omega (arith, message_place event, e))
+apart event Cron none = ne_eqb (place_of (kind_of event)) 16 (λ e. omega (arith, message_place event, e))
 apart event Raw none = absurd cc
 apart event Msg none = absurd cc
 apart event Msgm none = absurd cc
@@ -58,6 +59,7 @@ apart event Kick none = absurd cc
 apart event Nick none = absurd cc
 apart event Mode none = absurd cc
 apart event Topc none = absurd cc
+apart event Account none = absurd cc
 
 neither_left : (a b : Bool) → (a || b) ≡ false → a ≡ false
 neither_left true b e = cc

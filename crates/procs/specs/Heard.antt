@@ -4,18 +4,19 @@ use Rattle.std.specs.List.{insert}
 use Rattle.rfccase.specs.declared.casemappings.Casemapping.{Casemapping}
 use Rattle.userfile.specs.declared.user.User.{User}
 use Rattle.userfile.specs.declared.flags.PersonFlags.{PersonFlags}
-use Rattle.userfile.specs.Persons.{handle_of, flags_of}
+use Rattle.userfile.specs.Persons.{flags_of}
 use Rattle.chanstate.specs.Views.{mapping_of}
 use Rattle.chanstate.specs.declared.event.IrcEvent.{IrcEvent}
 use Rattle.chanstate.specs.declared.event.EventKind.{EventKind}
 use Rattle.chanstate.specs.declared.event.EventKind.TheVariants.{Raw as raw_event, Msg as msg_event, Msgm as msgm_event, Notc as notc_event}
 use Rattle.chanstate.specs.declared.event.EventKind.TheVariants.{Pub as pub_event, Pubm as pubm_event, Join as join_event, Part as part_event}
 use Rattle.chanstate.specs.declared.event.EventKind.TheVariants.{Sign as sign_event, Kick as kick_event, Nick as nick_event}
-use Rattle.chanstate.specs.declared.event.EventKind.TheVariants.{Mode as mode_event, Topc as topc_event}
+use Rattle.chanstate.specs.declared.event.EventKind.TheVariants.{Mode as mode_event, Topc as topc_event, Account as account_event}
 use Rattle.procs.specs.declared.call.Call.{Call}
 use Rattle.procs.specs.declared.bind_kind.BindKind.{BindKind}
-use Rattle.procs.specs.declared.bind_kind.BindKind.TheVariants.{Raw, Msg, Msgm, Notc, Pub, Pubm, Join, Part, Sign, Kick, Nick, Mode, Topc}
+use Rattle.procs.specs.declared.bind_kind.BindKind.TheVariants.{Raw, Msg, Msgm, Notc, Pub, Pubm, Join, Part, Sign, Kick, Nick, Mode, Topc, Account}
 use Rattle.procs.specs.Kinds.{call_kind_of}
+use Rattle.procs.specs.Identity.{handle_by}
 use Rattle.procs.specs.Seen.{Sight}
 
 -- the kind under which binds know an event
@@ -33,6 +34,7 @@ kind_of kick_event = Kick
 kind_of nick_event = Nick
 kind_of mode_event = Mode
 kind_of topc_event = Topc
+kind_of account_event = Account
 
 -- whether an event is by somebody, whose nick and user@host are its first two arguments: a raw event alone is by nobody
 abbrev pub is_personal : EventKind → Bool
@@ -49,6 +51,7 @@ is_personal kick_event = true
 is_personal nick_event = true
 is_personal mode_event = true
 is_personal topc_event = true
+is_personal account_event = true
 
 -- a text of a list, or the empty text if there is none
 abbrev pub text_at : List (List ℕ) → ℕ → List ℕ
@@ -78,10 +81,10 @@ person_by users handle channel = record { handle = handle; flags = flags_on user
 abbrev pub nobody : Person
 nobody = record { handle = []; flags = record { global = 0; chan = 0; bot = 0 } }
 
--- the hostmask that decides who somebody is matches by the casemapping of the server
+-- who somebody is, by the account of the event and nick!user@host; hostmasks match by the casemapping of the server
 abbrev pub person_if : Bool → Casemapping → List User → IrcEvent → Person
 person_if false mapping users event = nobody
-person_if true mapping users event = person_by users (handle_of mapping users (who_of event.arguments)) event.channel
+person_if true mapping users event = person_by users (handle_by mapping users event.account (who_of event.arguments)) event.channel
 
 abbrev pub person_of : Casemapping → List User → IrcEvent → Person
 person_of mapping users event = person_if (is_personal event.kind) mapping users event

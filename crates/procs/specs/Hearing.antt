@@ -3,7 +3,7 @@ use Rattle.std.specs.Prelude.{Bool, true, false, List}
 use Rattle.std.specs.List.{list_any}
 use Rattle.procs.specs.declared.bind.Bind.{Bind}
 use Rattle.procs.specs.declared.bind_kind.BindKind.{BindKind}
-use Rattle.procs.specs.declared.bind_kind.BindKind.TheVariants.{Raw, Msg, Msgm, Notc, Pub, Pubm, Join, Part, Sign, Kick, Nick, Mode, Topc}
+use Rattle.procs.specs.declared.bind_kind.BindKind.TheVariants.{Raw, Msg, Msgm, Notc, Pub, Pubm, Join, Part, Sign, Kick, Nick, Mode, Topc, Account}
 use Rattle.procs.specs.declared.bind_kind.BindKind.TheVariants.{Bot, Time, Cron}
 
 -- whether a kind waits for messages: the other kinds wait for texts of bots, and for minutes
@@ -21,6 +21,7 @@ is_of_messages Kick = true
 is_of_messages Nick = true
 is_of_messages Mode = true
 is_of_messages Topc = true
+is_of_messages Account = true
 is_of_messages Bot = false
 is_of_messages Time = false
 is_of_messages Cron = false

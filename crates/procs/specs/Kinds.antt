@@ -6,9 +6,10 @@ use Rattle.procs.specs.declared.call_kind.CallKind.{CallKind}
 use Rattle.procs.specs.declared.call_kind.CallKind.TheVariants.{Raw as raw_call, Msg as msg_call, Msgm as msgm_call, Notc as notc_call}
 use Rattle.procs.specs.declared.call_kind.CallKind.TheVariants.{Pub as pub_call, Pubm as pubm_call, Join as join_call, Part as part_call}
 use Rattle.procs.specs.declared.call_kind.CallKind.TheVariants.{Sign as sign_call, Kick as kick_call, Nick as nick_call, Mode as mode_call}
-use Rattle.procs.specs.declared.call_kind.CallKind.TheVariants.{Topc as topc_call, Bot as bot_call, Time as time_call, Cron as cron_call}
+use Rattle.procs.specs.declared.call_kind.CallKind.TheVariants.{Topc as topc_call, Account as account_call}
+use Rattle.procs.specs.declared.call_kind.CallKind.TheVariants.{Bot as bot_call, Time as time_call, Cron as cron_call}
 use Rattle.procs.specs.declared.bind_kind.BindKind.{BindKind}
-use Rattle.procs.specs.declared.bind_kind.BindKind.TheVariants.{Raw, Msg, Msgm, Notc, Pub, Pubm, Join, Part, Sign, Kick, Nick, Mode, Topc}
+use Rattle.procs.specs.declared.bind_kind.BindKind.TheVariants.{Raw, Msg, Msgm, Notc, Pub, Pubm, Join, Part, Sign, Kick, Nick, Mode, Topc, Account}
 use Rattle.procs.specs.declared.bind_kind.BindKind.TheVariants.{Bot, Time, Cron}
 
 -- the words, as scripts write them
@@ -26,12 +27,13 @@ word_of Kick = codes "kick"
 word_of Nick = codes "nick"
 word_of Mode = codes "mode"
 word_of Topc = codes "topc"
+word_of Account = codes "account"
 word_of Bot = codes "bot"
 word_of Time = codes "time"
 word_of Cron = codes "cron"
 
 abbrev pub all_kinds : List BindKind
-all_kinds = Raw ∷ Msg ∷ Msgm ∷ Notc ∷ Pub ∷ Pubm ∷ Join ∷ Part ∷ Sign ∷ Kick ∷ Nick ∷ Mode ∷ Topc ∷ Bot ∷ Time ∷ Cron ∷ []
+all_kinds = Raw ∷ Msg ∷ Msgm ∷ Notc ∷ Pub ∷ Pubm ∷ Join ∷ Part ∷ Sign ∷ Kick ∷ Nick ∷ Mode ∷ Topc ∷ Account ∷ Bot ∷ Time ∷ Cron ∷ []
 
 -- the kind whose word this is: no two kinds share one
 abbrev pub kind_of : List ℕ → Option BindKind
@@ -52,6 +54,7 @@ call_kind_of Kick = kick_call
 call_kind_of Nick = nick_call
 call_kind_of Mode = mode_call
 call_kind_of Topc = topc_call
+call_kind_of Account = account_call
 call_kind_of Bot = bot_call
 call_kind_of Time = time_call
 call_kind_of Cron = cron_call
@@ -71,6 +74,7 @@ is_single Kick = false
 is_single Nick = false
 is_single Mode = false
 is_single Topc = false
+is_single Account = false
 is_single Bot = true
 is_single Time = false
 is_single Cron = false
@@ -90,6 +94,7 @@ is_cron Kick = false
 is_cron Nick = false
 is_cron Mode = false
 is_cron Topc = false
+is_cron Account = false
 is_cron Bot = false
 is_cron Time = false
 is_cron Cron = true
@@ -109,6 +114,7 @@ has_flags Kick = true
 has_flags Nick = true
 has_flags Mode = true
 has_flags Topc = true
+has_flags Account = true
 has_flags Bot = false
 has_flags Time = false
 has_flags Cron = false
@@ -128,9 +134,10 @@ place_of Kick = 9
 place_of Nick = 10
 place_of Mode = 11
 place_of Topc = 12
-place_of Bot = 13
-place_of Time = 14
-place_of Cron = 15
+place_of Account = 13
+place_of Bot = 14
+place_of Time = 15
+place_of Cron = 16
 
 abbrev pub is_kind : BindKind → BindKind → Bool
 is_kind a b = place_of a == place_of b

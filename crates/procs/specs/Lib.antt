@@ -17,6 +17,7 @@ pub mod Behind
 pub mod Tellings
 pub mod Dispatched
 pub mod Dispatching
+pub mod Identity
 pub mod Heard
 pub mod Made
 pub mod Occasions

@@ -34,6 +34,8 @@ pub enum BindKind {
     Mode,
     /// A channel gets another topic, by the channel and the topic.
     Topc,
+    /// Someone logs in to an account of the network, or out of it, by the channel, `nick!user@host` and the account.
+    Account,
     /// The first word of a text of another bot.
     Bot,
     /// A minute begins, by its time text: minute, hour, day, the month from 00, year.
@@ -43,7 +45,7 @@ pub enum BindKind {
 }
 
 // Every kind.
-const ALL: [BindKind; 16] = [
+const ALL: [BindKind; 17] = [
     BindKind::Raw,
     BindKind::Msg,
     BindKind::Msgm,
@@ -57,6 +59,7 @@ const ALL: [BindKind; 16] = [
     BindKind::Nick,
     BindKind::Mode,
     BindKind::Topc,
+    BindKind::Account,
     BindKind::Bot,
     BindKind::Time,
     BindKind::Cron,
@@ -83,6 +86,7 @@ impl BindKind {
             BindKind::Nick => b"nick",
             BindKind::Mode => b"mode",
             BindKind::Topc => b"topc",
+            BindKind::Account => b"account",
             BindKind::Bot => b"bot",
             BindKind::Time => b"time",
             BindKind::Cron => b"cron",
@@ -114,6 +118,7 @@ impl BindKind {
             BindKind::Nick => CallKind::Nick,
             BindKind::Mode => CallKind::Mode,
             BindKind::Topc => CallKind::Topc,
+            BindKind::Account => CallKind::Account,
             BindKind::Bot => CallKind::Bot,
             BindKind::Time => CallKind::Time,
             BindKind::Cron => CallKind::Cron,

@@ -30,6 +30,8 @@ pub enum CallKind {
     Mode,
     /// A channel gets another topic.
     Topc,
+    /// Someone logs in to an account of the network, or out of it.
+    Account,
     /// The first word of a text of another bot.
     Bot,
     /// A minute begins, by its time text.

@@ -26,6 +26,7 @@ pub(crate) fn kind_of(kind: EventKind) -> BindKind
         EventKind::Nick => BindKind::Nick,
         EventKind::Mode => BindKind::Mode,
         EventKind::Topc => BindKind::Topc,
+        EventKind::Account => BindKind::Account,
     }
 }
 
@@ -46,7 +47,8 @@ pub(crate) fn is_personal(kind: EventKind) -> bool
         | EventKind::Kick
         | EventKind::Nick
         | EventKind::Mode
-        | EventKind::Topc => true,
+        | EventKind::Topc
+        | EventKind::Account => true,
     }
 }
 

@@ -29,7 +29,8 @@ fn is_of_messages(kind: BindKind) -> bool
         | BindKind::Kick
         | BindKind::Nick
         | BindKind::Mode
-        | BindKind::Topc => true,
+        | BindKind::Topc
+        | BindKind::Account => true,
         BindKind::Bot | BindKind::Time | BindKind::Cron => false,
     }
 }

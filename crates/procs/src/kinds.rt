@@ -5,7 +5,7 @@ ghost use Rattle.procs.specs.Kinds.{place_of, is_kind, is_single, is_cron, has_f
 use crate::bind_kind::BindKind;
 
 // The number of kinds.
-pub(crate) const KINDS: usize = 16;
+pub(crate) const KINDS: usize = 17;
 
 // Returns the number of a kind.
 pub(crate) fn place_of(kind: BindKind) -> usize
@@ -26,9 +26,10 @@ pub(crate) fn place_of(kind: BindKind) -> usize
         BindKind::Nick => 10,
         BindKind::Mode => 11,
         BindKind::Topc => 12,
-        BindKind::Bot => 13,
-        BindKind::Time => 14,
-        BindKind::Cron => 15,
+        BindKind::Account => 13,
+        BindKind::Bot => 14,
+        BindKind::Time => 15,
+        BindKind::Cron => 16,
     }
 }
 
@@ -56,6 +57,7 @@ pub(crate) fn is_single(kind: BindKind) -> bool
         | BindKind::Nick
         | BindKind::Mode
         | BindKind::Topc
+        | BindKind::Account
         | BindKind::Time
         | BindKind::Cron => false,
     }
@@ -80,6 +82,7 @@ pub(crate) fn is_cron(kind: BindKind) -> bool
         | BindKind::Nick
         | BindKind::Mode
         | BindKind::Topc
+        | BindKind::Account
         | BindKind::Bot
         | BindKind::Time => false,
     }
@@ -101,7 +104,8 @@ pub(crate) fn has_flags(kind: BindKind) -> bool
         | BindKind::Kick
         | BindKind::Nick
         | BindKind::Mode
-        | BindKind::Topc => true,
+        | BindKind::Topc
+        | BindKind::Account => true,
         BindKind::Raw | BindKind::Bot | BindKind::Time | BindKind::Cron => false,
     }
 }

@@ -47,9 +47,14 @@
 //! | nick | wildcards | the channel, a space and the new nick |
 //! | mode | wildcards | the channel, a space and one signed mode |
 //! | topc | wildcards | the channel, a space and the topic |
+//! | account | wildcards | the channel, `nick!user@host` and the account, with a space before each but the first |
 //! | bot | one keyword, in either case | the first word of another bot's text |
 //! | time | wildcards | `mm hh dd MM yyyy`, with the month from 00 |
 //! | cron | cron fields | the minute that begins |
+//!
+//! [`handle_by`] says who the person of an event is. Whoever is logged in to the account NAME of the network's services
+//! is the user with the hostmask `$a:NAME`, whatever the address. Everybody else is found by `nick!user@host`.
+//! [`claim_by`] returns the text by which a person is found.
 //!
 //! A keyword has at most one bind of its kind: a new bind replaces the old one and is appended. A second bind of the
 //! same kind, mask and proc only changes the flags. The order by age is our own choice.
@@ -96,6 +101,7 @@ mod event;
 mod heard;
 mod hearing;
 mod held;
+mod identity;
 mod index;
 mod keep;
 mod kinds;
@@ -129,7 +135,8 @@ pub use crate::call_kind::CallKind;
 pub use crate::called::Called;
 pub use crate::dispatch::{Dispatch, call_procs};
 pub use crate::event::BindEvent;
-pub use crate::limits::{MAX_ACTIONS, MAX_BINDS, MAX_MASK, MAX_NUMBER, MAX_PROCS};
+pub use crate::identity::{claim_by, handle_by, laws_of_identity};
+pub use crate::limits::{MAX_ACCOUNT, MAX_ACTIONS, MAX_BINDS, MAX_MASK, MAX_NUMBER, MAX_PROCS};
 pub use crate::made_call::{MadeCall, MadeCalls, Unbound};
 pub use crate::next::{has_raw_one, is_logged};
 pub use crate::nobody::{Nobodies, Nobody};

@@ -14,3 +14,6 @@ pub const MAX_MASK: usize = 120;
 
 /// The last number that a bind can have.
 pub const MAX_NUMBER: u32 = 4_294_967_295;
+
+/// The most bytes of an account that a hostmask `$a:NAME` can name: a hostmask has at most 120.
+pub const MAX_ACCOUNT: usize = 117;

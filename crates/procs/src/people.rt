@@ -1,13 +1,14 @@
 // Looks people up.
 //
 // The events of one line are all by one person, who is looked up once: pubm and pub of a channel message, or a sign
-// for each channel of a person who quits.
+// for each channel of a person who quits. The person is known by the account of the event and by `nick!user@host`.
 ghost use Rattle.std.specs.Prelude.{◌≡◌, [], IfOk};
 ghost use Rattle.procs.specs.Heard.{text_at, who_of};
 
 use crate::heard::is_personal;
+use crate::identity::handle_by;
 use crate::view::View;
-use bytetext::{NoMemory, Text};
+use bytetext::{NoMemory, Text, TryCopy};
 use chanstate::IrcEvent;
 use flagexpr::Flags;
 use rfccase::Casemapping;
@@ -32,29 +33,42 @@ pub(crate) struct People<'a> {
     last: Option<Known<'a>>,
 }
 
-// A person, written as `nick!user@host`, and the person's handle.
+// A person, by an account and `nick!user@host`, and the person's handle.
 #[derive(Drop)]
 struct Known<'a> {
+    account: Text,
     who: Text,
     handle: &'a [u8],
 }
 
 impl<'a> Model for People<'a> {
     ghost use Rattle.std.specs.Prelude.{◌≡◌, IfSome};
-    ghost use Rattle.userfile.specs.Persons.{handle_of};
     ghost use Rattle.procs.specs.Heard.{KnownPeople};
+    ghost use Rattle.procs.specs.Identity.{handle_by};
 
     ghost Value = { KnownPeople };
 
     ghost view = { λ p. record { mapping = p.mapping; users = p.userfile.now.users } };
 
-    ghost invariant = { λ p. IfSome p.last (λ known. known.handle.now ≡ handle_of p.mapping p.userfile.now.users known.who) };
+    ghost invariant = { λ p. IfSome p.last (λ known. known.handle.now ≡ handle_by p.mapping p.userfile.now.users known.account known.who) };
+}
+
+impl Known<'_> {
+    ghost use Rattle.std.specs.Prelude.{◌≡◌, ◌↔◌, IsTrue};
+
+    // Whether the person has this account and this `nick!user@host`.
+    fn is_by(&self, account: &Text, who: &Text) -> bool
+        ensures { IsTrue result ↔ ((self.now.account ≡ account.now) × (self.now.who ≡ who.now)) }
+    {
+        self.account.is_same(account.as_bytes()) && self.who.is_same(who.as_bytes())
+    }
 }
 
 impl<'a> People<'a> {
     ghost use Rattle.std.specs.Prelude.{◌≡◌, true, IfOk, OnErr};
     ghost use Rattle.std.specs.Option.{option_copied};
     ghost use Rattle.procs.specs.Heard.{is_personal, flags_on, person_of, people_in};
+    ghost use Rattle.procs.specs.Identity.{handle_by};
 
     // Starts with the people of a bot that shows this `view`, and nobody looked up. Does not allocate.
     pub(crate) fn new(view: &'a View<'_>) -> People<'a>
@@ -82,18 +96,33 @@ impl<'a> People<'a> {
             return Ok(nobody());
         }
         let who = who_of(alloc, event.arguments.as_slice())?;
+        let handle = self.handle_by(alloc, &event.account, who)?;
         let channel = event.channel.as_ref().map(|name| name.as_bytes());
+        let flags = self.flags_on(handle, channel);
+        Ok(Person { handle, flags })
+    }
+
+    // Returns the handle of the person of this account, if it isn't empty, and this `nick!user@host`.
+    fn handle_by(&mut self, alloc: Global, account: &Text, who: Text) -> Result<&'a [u8], NoMemory>
+        ensures value { IfOk result (λ handle. handle.now ≡ handle_by self.old.mapping self.old.users account.now who) }
+        ensures users { self.new ≡ self.old }
+    {
         match &self.last {
-            Some(known) if known.who.is_same(who.as_bytes()) => {
-                let handle = known.handle;
-                let flags = self.flags_on(handle, channel);
-                Ok(Person { handle, flags })
-            }
+            Some(known) if known.is_by(account, &who) => Ok(known.handle),
             Some(_) | None => {
-                let handle = self.userfile.handle_of(self.mapping, who.as_bytes());
-                self.last = Some(Known { who, handle });
-                let flags = self.flags_on(handle, channel);
-                Ok(Person { handle, flags })
+                let handle = handle_by(
+                    self.userfile,
+                    self.mapping,
+                    account.as_bytes(),
+                    who.as_bytes(),
+                );
+                let account = account.copy(alloc)?;
+                self.last = Some(Known {
+                    account,
+                    who,
+                    handle,
+                });
+                Ok(handle)
             }
         }
     }

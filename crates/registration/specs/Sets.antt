@@ -104,6 +104,10 @@ both_capabilities a b = record {
   invite_notify = a.invite_notify && b.invite_notify;
 }
 
+-- an account that a JOIN says is of use only if the server also says when somebody logs in or out
+abbrev pub without_stale_accounts : Capabilities → Capabilities
+without_stale_accounts set = record set { extended_join = set.extended_join && set.account_notify }
+
 abbrev pub either_capabilities : Capabilities → Capabilities → Capabilities
 either_capabilities a b = record {
   account_notify = a.account_notify || b.account_notify;

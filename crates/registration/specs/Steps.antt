@@ -21,7 +21,7 @@ use Rattle.registration.specs.declared.registration_fault.RegistrationFault.{Reg
 use Rattle.registration.specs.declared.registration_fault.RegistrationFault.TheVariants as fault
 use Rattle.registration.specs.declared.scram_hash.ScramHash.{ScramHash}
 use Rattle.registration.specs.declared.scram_hash.ScramHash.TheVariants.{Sha256, Sha512}
-use Rattle.registration.specs.Sets.{both_capabilities, both_mechanisms, both_offers, first_mechanism, is_empty, no_capabilities, no_offer, without_mechanism}
+use Rattle.registration.specs.Sets.{both_capabilities, both_mechanisms, both_offers, first_mechanism, is_empty, no_capabilities, no_offer, without_mechanism, without_stale_accounts}
 
 -- ---- kinds of steps
 
@@ -68,9 +68,9 @@ is_listing (Failed why) = false
 abbrev pub capabilities_end : Negotiation → NegotiationStep
 capabilities_end n = if n.wants_account then says n AwaitsSasl say.RequestSasl else says n Over say.End
 
--- the client asks for what it wants and the server offers
+-- the client asks for what it wants and the server offers, but for extended-join only together with account-notify
 abbrev pub request_of : Negotiation → Capabilities
-request_of n = both_capabilities n.wanted n.offer.others
+request_of n = without_stale_accounts (both_capabilities n.wanted n.offer.others)
 
 abbrev pub list_ends : Negotiation → NegotiationStep
 list_ends n =

@@ -12,7 +12,8 @@ use bytetext::first_word;
 pub struct Capabilities {
     /// `account-notify`: the server says when somebody logs in or out.
     pub account_notify: bool,
-    /// `extended-join`: a JOIN says the account.
+    /// `extended-join`: a JOIN says the account. It is asked for only together with `account-notify`: else the account of
+    /// somebody who logs out would stay known.
     pub extended_join: bool,
     /// `multi-prefix`: a list of members shows all their modes.
     pub multi_prefix: bool,
@@ -28,7 +29,7 @@ pub struct Capabilities {
 
 impl Capabilities {
     ghost use Rattle.std.specs.Prelude.{◌≡◌};
-    ghost use Rattle.registration.specs.Sets.{both_capabilities, capabilities_in, either_capabilities, is_empty, no_capabilities};
+    ghost use Rattle.registration.specs.Sets.{both_capabilities, capabilities_in, either_capabilities, is_empty, no_capabilities, without_stale_accounts};
 
     /// Returns the empty set.
     pub fn none() -> Capabilities
@@ -73,6 +74,16 @@ impl Capabilities {
             away_notify: self.away_notify && other.away_notify,
             invite_notify: self.invite_notify && other.invite_notify,
         }
+    }
+
+    // Without extended-join, if account-notify is not in the set: an account that a JOIN says is of use only if the server
+    // also says when somebody logs in or out.
+    pub(crate) fn without_stale_accounts(&self) -> Capabilities
+        ensures { result ≡ without_stale_accounts self.now }
+    {
+        let mut set = *self;
+        set.extended_join = self.extended_join && self.account_notify;
+        set
     }
 
     // Those that are in one of the sets.

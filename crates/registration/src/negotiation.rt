@@ -141,7 +141,10 @@ impl Negotiation {
     fn list_ends(&self) -> NegotiationStep
         ensures { result ≡ list_ends self.now }
     {
-        let request = self.wanted.both(&self.offer.others);
+        let request = self
+            .wanted
+            .both(&self.offer.others)
+            .without_stale_accounts();
         if self.wants_account && !self.offer.sasl {
             fails(self, RegistrationFault::NoSasl)
         } else if request.is_empty() {

@@ -21,6 +21,7 @@ config_of leaves zone number = record {
   channels = codes "#egg" ∷ [];
   exclusive = false;
   sends_at_once = false;
+  leaves_bans = false;
   zone = zone;
 }
 

@@ -97,6 +97,7 @@ fn config(alloc: Global, leaves: u16, zone: &Zone, number: u16) -> Result<Config
         channels,
         exclusive: false,
         sends_at_once: false,
+        leaves_bans: false,
         zone: zone.copy(alloc)?,
     })
 }

@@ -11,10 +11,11 @@
 //!   in it ends a line, so a `line` has a step for each line that its text holds.
 //! - `clock` makes the bot read its clock, which shows N, in seconds since 1970-01-01 UTC.
 //! - A TYPE is the word of a kind of binds ([`BindKind`](procs::BindKind)): `raw`, `msg`, `msgm`, `notc`, `pub`,
-//!   `pubm`, `join`, `part`, `sign`, `kick`, `nick`, `mode`, `topc`, `bot`, `time` or `cron`.
+//!   `pubm`, `join`, `part`, `sign`, `kick`, `nick`, `mode`, `topc`, `account`, `bot`, `time` or
+//!   `cron`.
 //! - A MASK takes the rest of the line.
-//! - A CHANGE is one that `recordtext` reads, such as `adduser H` in nobody's name, or `as NICK!USER@HOST adduser H` in a
-//!   person's.
+//! - A CHANGE is one that `recordtext` reads, such as `adduser H` in nobody's name, or `as NICK!USER@HOST adduser H` or
+//!   `as $a:NAME adduser H` in a person's.
 //!
 //! Reading a script doesn't check everything. The bot checks, when the command is done, whether N is a moment that its
 //! clock can show, whether a bind exists, and whether flags and masks of binds have a good shape. Persons, handles,

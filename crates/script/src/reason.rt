@@ -161,7 +161,7 @@ impl Reason {
                 "the last word is neither 0 nor 1: say 1 for a ban that is to be sticky, or 0 for one that is not",
             Reason::Kind =>
                 "word 3 is no type of binds: say raw, msg, msgm, notc, pub, pubm, join, part, sign, kick, nick, mode, topc, \
-                 bot, time or cron",
+                 account, bot, time or cron",
             Reason::LeavesFirst => "leaves N comes before all other commands, as in leaves 2",
             Reason::LeavesAgain => "a line above says leaves: say it once",
             Reason::ZoneLate => "say zone once, as the next command after leaves",

@@ -1,1 +1,3 @@
 pub mod ToldLemmas
+pub mod TagLemmas
+pub mod InquiryLemmas

@@ -7,6 +7,11 @@ pub mod Cues
 pub mod Seats
 pub mod Regains
 pub mod Wanting
+pub mod Questions
+pub mod Inquiries
+pub mod Asking
+pub mod Tags
+pub mod Tagging
 pub mod Talks
 pub mod Listing
 pub mod Told

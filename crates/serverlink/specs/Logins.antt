@@ -1,18 +1,22 @@
--- A login to an account while a connection begins: what is told of it, and what it leaves.
-use Rattle.std.specs.Prelude.{◌≡◌, ◌++◌, if◌then◌else◌, ℕ, Bool, true, false, List, [], ◌∷◌, Option, Some, None, Result, Ok, Err}
+-- What a process asks of its server while a connection begins, a login to an account among it: what is told of it, and
+-- what it leaves.
+use Rattle.std.specs.Prelude.{◌≡◌, ◌++◌, if◌then◌else◌, ℕ, Bool, true, false, List, [], ◌∷◌, codes, Option, Some, None, Result, Ok, Err}
 use Rattle.bytetext.specs.declared.failure.Failure.{Failure}
 use Rattle.bytetext.specs.declared.failure.Failure.TheVariants.{Refused, NoMemory}
 use Rattle.ircline.specs.declared.line.Line.{Line}
 use Rattle.net.specs.Connections.{Talk}
+use Rattle.registration.specs.declared.capabilities.Capabilities.{Capabilities}
 use Rattle.registration.specs.declared.credentials.Credentials.{Credentials}
 use Rattle.registration.specs.declared.registration.Registration.{Registration}
 use Rattle.registration.specs.declared.registration.ScramNonces.{ScramNonces}
+use Rattle.registration.specs.declared.registration.TheConstants.{FIRST_LINE}
 use Rattle.registration.specs.declared.registration.Wish.{Wish}
 use Rattle.registration.specs.declared.registration_fault.RegistrationFault.{RegistrationFault}
 use Rattle.registration.specs.Hearings.{is_deriving}
 use Rattle.registration.specs.Registrations.{begun_by, fault_of, is_over}
-use Rattle.registration.specs.Sets.{no_capabilities}
 use Rattle.registration.specs.Talks.{Turn, Hear, Derive, Finish, turned, said_in}
+use Rattle.settings.specs.declared.settings.Server.{Server}
+use Rattle.serverlink.specs.Questions.{Questions, notified}
 use Rattle.serverlink.specs.Talks.{told}
 use Rattle.serverlink.specs.Told.{ended}
 use Rattle.serverlink.specs.declared.login.TheConstants.{ROUNDS}
@@ -20,25 +24,49 @@ use Rattle.serverlink.specs.declared.session.Session.{Session}
 
 -- ---- how a login begins
 
--- A connection may be read by others, so PLAIN is never tried. EXTERNAL shows no secret.
-abbrev pub wish_of : Credentials → Wish
-wish_of account = record {
-  account = Some account;
-  allowed = record { scram_sha_512 = true; scram_sha_256 = true; external = true; plain = false };
-  is_private = false;
-  wanted = no_capabilities;
+-- who is logged in, all modes of a member, and each person's user and host; nothing in a bot goes by who is away, or by
+-- who is invited
+abbrev pub wanted : Capabilities
+wanted = record {
+  account_notify = true;
+  extended_join = true;
+  multi_prefix = true;
+  userhost_in_names = true;
+  chghost = true;
+  away_notify = false;
+  invite_notify = false;
 }
 
--- without an account there is no login; with one, it begins with the connection
-abbrev pub BeginsLogin : Option Credentials → Option Registration → Type 0
-BeginsLogin None login = login ≡ None
-BeginsLogin (Some account) login = (nonces : ScramNonces) × (login ≡ Some (begun_by (wish_of account) nonces))
+-- EXTERNAL shows no secret, and SCRAM shows no password. PLAIN shows the password to whoever reads the connection, so it
+-- may be tried only on a connection whose address has a plus: it goes through a tunnel.
+abbrev pub wish_of : Option Credentials → Bool → Wish
+wish_of account has_plus = record {
+  account = account;
+  allowed = record { scram_sha_512 = true; scram_sha_256 = true; external = true; plain = has_plus };
+  is_private = has_plus;
+  wanted = wanted;
+}
 
--- the same for a connection, if one begins
-abbrev pub BeginsIn : Bool → Option Credentials → Option Session → Type 0
-BeginsIn false account session = Unit {0}
-BeginsIn true account None = ⊥
-BeginsIn true account (Some session) = BeginsLogin account session.login
+-- each connection begins with a registration, with or without an account
+abbrev pub BeginsLogin : Option Credentials → Bool → Option Registration → Type 0
+BeginsLogin account has_plus login = (nonces : ScramNonces) × (login ≡ Some (begun_by (wish_of account has_plus) nonces))
+
+-- a server's PASS, if it has one
+abbrev pub with_pass : Option (List ℕ) → Talk → Talk
+with_pass None talk = talk
+with_pass (Some pass) talk = told (codes "PASS :" ++ pass) talk
+
+-- the first lines of a connection: CAP LS 302, and the server's PASS, if it has one
+abbrev pub BeginsTalk : Option (List ℕ) → Talk → Type 0
+BeginsTalk pass talk = (fresh : Talk) × (fresh.unsent ≡ []) × (talk ≡ with_pass pass (told FIRST_LINE.now fresh))
+
+-- what is told of a connection to a server, if one begins
+abbrev pub BeginsIn : Bool → Option Credentials → Option Server → Option Session → Type 0
+BeginsIn false account server session = Unit {0}
+BeginsIn true account None session = ⊥
+BeginsIn true account (Some server) None = ⊥
+BeginsIn true account (Some server) (Some session) =
+    BeginsLogin account server.address.tls session.login × BeginsTalk server.pass session.wire
 
 -- ---- a turn of a login: it hears a line, or ends a derivation
 
@@ -51,11 +79,20 @@ all_told (line ∷ lines) talk = all_told lines (told line talk)
 abbrev pub kept_login : Registration → Option Registration
 kept_login login = if is_over login.negotiation.stage then None else Some login
 
+-- once a registration is over, it is known whether the server says when somebody logs in or out (account-notify)
+abbrev pub registered : Registration → Questions → Questions
+registered login questions =
+    if is_over login.negotiation.stage then notified login.negotiation.enabled.account_notify questions else questions
+
 -- a fault ends the connection; else the lines of the turn are queued, in order, and nothing else
 abbrev pub with_turn : Option RegistrationFault → Turn → Registration → Session → Option Session
 with_turn (Some why) turn login session = None
 with_turn None turn login session =
-    Some (record session { wire = all_told (said_in login turn) session.wire; login = kept_login (turned login turn) })
+    Some (record session {
+      wire = all_told (said_in login turn) session.wire;
+      login = kept_login (turned login turn);
+      questions = registered (turned login turn) session.questions;
+    })
 
 abbrev pub after_turn : Turn → Registration → Session → Option Session
 after_turn turn login session = with_turn (fault_of (turned login turn).negotiation.stage) turn login session

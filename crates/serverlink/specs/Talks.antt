@@ -1,5 +1,5 @@
 -- What each call does to a connection to a server.
-use Rattle.std.specs.Prelude.{◌≡◌, ◌&&◌, not, if◌then◌else◌, ℕ, Bool, true, false, List, [], Option, None, Some, option_map}
+use Rattle.std.specs.Prelude.{◌≡◌, ◌&&◌, not, if◌then◌else◌, ℕ, Bool, true, false, List, Option, None, Some, option_map}
 use Rattle.net.specs.Connections.{Talk, Reads, ReadsFewer, SendsOn, named, with_bytes}
 use Rattle.serverlink.specs.Lines.{is_line}
 use Rattle.serverlink.specs.Told.{ended}
@@ -26,11 +26,6 @@ woken true talk = option_map named talk
 abbrev pub held : Option Session → Option Session
 held None = None
 held (Some session) = if session.wire.over then None else Some session
-
--- what was read and not taken; nothing without a connection
-abbrev pub heard_in : Option Talk → List ℕ
-heard_in None = []
-heard_in (Some talk) = talk.heard
 
 -- reads of a connection, at least one if the first asks its stream; without one, nothing happens
 abbrev pub MayReadAll : Option Talk → Option Talk → Type 0

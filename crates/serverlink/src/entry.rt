@@ -31,8 +31,8 @@ pub(crate) enum Entry<'a> {
     // A line of the configuration or of an operator, or an answer to a person, is queued for the server. It may hold a
     // password.
     ToldOwn,
-    // A line of a login is queued for the server.
-    ToldLogin,
+    // A line of a registration is queued for the server. It may show something of a password.
+    ToldRegistration,
     // The server has accepted the login.
     LoggedIn,
     // The system gives no random bytes for a login to this server; the second at which the next attempt is due.
@@ -136,7 +136,7 @@ impl Display for Entry<'_> {
             Entry::ToldOwn => {
                 f.write_str("> a line of the configuration or of an operator, or an answer")
             }
-            Entry::ToldLogin => f.write_str("> a line of the login"),
+            Entry::ToldRegistration => f.write_str("> a line of the registration"),
             Entry::LoggedIn => f.write_str("the server accepts the login"),
             Entry::NoNonce(host, due) => {
                 put(f, "not connecting to ", &Shown(host))?;

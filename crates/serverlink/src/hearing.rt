@@ -14,6 +14,7 @@ use std::alloc::Global;
 impl IrcConnection {
     ghost use Rattle.std.specs.Prelude.{◌≡◌, ◌≢◌, ◌<◌, ◌++◌, None, Some, IfOk, IfSome, MatchOption, OnOk, OnErr, is_some, option_map};
     ghost use Rattle.bytetext.specs.declared.moment.TheConstants.{MOMENTS_END};
+    ghost use Rattle.serverlink.specs.Asking.{questions_heard};
     ghost use Rattle.serverlink.specs.Casings.{casing_in, heard, mapping_in};
     ghost use Rattle.serverlink.specs.Cues.{new_nick};
     ghost use Rattle.serverlink.specs.Wanting.{nick_heard, nick_noted, regained, regains_in, with_nick};
@@ -56,6 +57,7 @@ impl IrcConnection {
         if self.session.is_some() {
             self.note(rt.alloc(), log, settings, cue, message, now)?;
             self.note_nick(rt.alloc(), settings, mapping, cue, message, now)?;
+            self.note_channel(rt.alloc(), mapping, cue, message)?;
         }
         match cue {
             Cue::Welcomed | Cue::Renamed => Ok(Some(param(message, 0))),
@@ -157,6 +159,22 @@ impl IrcConnection {
     {
         match &mut self.session {
             Some(session) => session.regain.name(alloc, nick, now),
+            None => Ok(()),
+        }
+    }
+
+    // Takes in what a message says of the channels that the process asks about.
+    fn note_channel(
+        &mut self,
+        alloc: Global,
+        mapping: Casemapping,
+        cue: Cue,
+        message: &Message,
+    ) -> Result<(), NoMemory>
+        ensures { OnOk result (self.new.session ≡ questions_heard mapping cue message.now self.old.session) }
+    {
+        match &mut self.session {
+            Some(session) => session.questions.hear(alloc, mapping, cue, message),
             None => Ok(()),
         }
     }

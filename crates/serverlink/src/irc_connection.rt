@@ -6,7 +6,7 @@ ghost use Rattle.streams.specs.Accounts.{nothing_yet};
 use crate::configured_channels::ConfiguredChannels;
 use crate::entry::{Entry, Fact};
 use crate::own_lines::OwnLines;
-use crate::registering::begin_login;
+use crate::registering::{begin_login, tell_pass};
 use crate::session::Session;
 use crate::why::Why;
 use bytetext::{Failure, NoMemory, Text};
@@ -68,13 +68,14 @@ impl Drop for IrcConnection {
 }
 
 impl IrcConnection {
-    ghost use Rattle.std.specs.Prelude.{◌≡◌, ◌==◌, true, Some, [], is_some, option_map, IfOk, OnOk, MatchOption};
+    ghost use Rattle.std.specs.Prelude.{◌≡◌, ◌==◌, true, Some, [], is_some, option_map, slice_get, IfOk, OnOk, MatchOption};
     ghost use Rattle.std.specs.List.{list_any};
     ghost use Rattle.net.specs.Dials.{lost};
     ghost use Rattle.net.specs.Connections.{handed};
     ghost use Rattle.serverlink.specs.Casings.{mapping_in};
     ghost use Rattle.serverlink.specs.Logins.{BeginsIn};
-    ghost use Rattle.serverlink.specs.Talks.{EndsSilence, MayReadAll, MaySend, ReadsSome, heard_in, may_give_in, held, told, woken, talk_in};
+    ghost use Rattle.serverlink.specs.Tagging.{tags_after, tags_in, untagged_in};
+    ghost use Rattle.serverlink.specs.Talks.{EndsSilence, MayReadAll, MaySend, ReadsSome, may_give_in, held, told, woken, talk_in};
 
     /// Creates an uplink from `settings` without a connection; an attempt to connect is due at once. Each connection logs
     /// in to `account`, if there is one.
@@ -135,10 +136,12 @@ impl IrcConnection {
     }
 
     /// Begins to connect to the next server of `settings` if there is no connection and an attempt is due at second
-    /// `now`. Returns whether a connection began; if it did, the first line of a login is queued, if the bot has an
-    /// account, and the server's PASS, if it has one.
+    /// `now`. Returns whether a connection began; if it did, its first lines are queued: CAP LS 302, and the server's PASS,
+    /// if it has one. The registration then logs in to the account, if there is one.
     ///
-    /// A server whose port has a plus is connected to through its tunnel alone ([`dial`](tunnels::dial)).
+    /// A server whose port has a plus is connected to through its tunnel alone ([`dial`](tunnels::dial)). Only there the
+    /// login may be by PLAIN, which says the password: on a connection without a plus no line has it
+    /// ([`laws_of_a_registration`](registration::laws_of_a_registration)).
     ///
     /// While the server's name is looked up, no connection begins, and the attempt stays due: call this in each turn,
     /// after [`wake`](IrcConnection::wake). `log` shows an attempt that begins or cannot begin; if it cannot, the next
@@ -159,8 +162,10 @@ impl IrcConnection {
         requires moment { now < MOMENTS_END }
         ensures memory { IfErr result (λ _. self.old.session ≡ None) }
         ensures due { OnErr result (self.new.dialling ≡ self.old.dialling) }
-        // A connection that begins logs in to the account; without an account, none does.
-        ensures login { IfOk result (λ began. BeginsIn began self.old.account self.new.session) }
+        // A connection that begins asks for the capabilities, and logs in to the account, if there is one. It is private
+        // exactly if its server's address has a plus.
+        ensures login { IfOk result (λ began. BeginsIn began self.old.account
+            (slice_get settings.now.servers self.old.dialling.place) self.new.session) }
     {
         if self.session.is_some() || !self.dialling.is_due(now) {
             return Ok(false);
@@ -183,7 +188,7 @@ impl IrcConnection {
     ) -> Result<bool, NoMemory>
         requires moment { now < MOMENTS_END }
         ensures due { OnErr result (self.new.dialling ≡ self.old.dialling) }
-        ensures login { IfOk result (λ began. BeginsIn began self.old.account self.new.session) }
+        ensures login { IfOk result (λ began. BeginsIn began self.old.account (Some server.now) self.new.session) }
     {
         let address = &server.address;
         let target = Target { folder, address };
@@ -210,8 +215,8 @@ impl IrcConnection {
         }
     }
 
-    // Begins a connection, and queues the first line of a login, if the bot has an account, and its server's PASS, if it
-    // has one. Returns whether it began: not if the system gives no random bytes for the login.
+    // Begins a connection, and queues its first lines: CAP LS 302, and its server's PASS, if it has one. Returns whether it
+    // began: not if the system gives no random bytes for a login.
     fn begin<R: AllocGlobal + RandomSource>(
         &mut self,
         rt: &R,
@@ -223,19 +228,17 @@ impl IrcConnection {
         requires moment { now < MOMENTS_END }
         requires fresh { dialled.socket.account.past ≡ nothing_yet }
         ensures due { OnErr result (self.new.dialling ≡ self.old.dialling) }
-        ensures login { IfOk result (λ began. BeginsIn began self.old.account self.new.session) }
+        ensures login { IfOk result (λ began. BeginsIn began self.old.account (Some server.now) self.new.session) }
     {
         let mut session = Session::new(rt.alloc(), dialled.socket, now, self.steady);
-        if !begin_login(rt, &self.account, &mut session, now)? {
+        let has_plus = server.address.tls;
+        if !begin_login(rt, &self.account, has_plus, &mut session, now)? {
             self.dialling.lost(now);
             let host = server.address.host.as_bytes();
             log.note(now, &Entry::NoNonce(host, self.dialling.due()));
             return Ok(false);
         }
-        if let Some(pass) = &server.pass {
-            let line = joined(rt.alloc(), b"PASS :", pass.as_bytes())?;
-            session.wire.tell(line.as_slice(), now)?;
-        }
+        tell_pass(rt.alloc(), &mut session.wire, &server.pass, now)?;
         self.session = Some(session);
         Ok(true)
     }
@@ -277,13 +280,17 @@ impl IrcConnection {
         Ok(wire.may_give())
     }
 
-    /// Takes the bytes that were read and not taken yet. Allocates nothing.
+    /// Takes the bytes that were read and not taken yet, without the tags of their lines (IRCv3 message tags): a line with
+    /// tags reads as the line without. The tags of a line may come in several pieces, and they may be of any length; a
+    /// line of tags alone is empty. Allocates nothing.
     pub fn take_heard(&mut self, alloc: Global) -> Vec<u8>
-        ensures all { result.items ≡ heard_in (talk_in self.old.session) }
+        ensures all { result.items ≡ untagged_in self.old.session }
         ensures none { talk_in self.new.session ≡ option_map handed (talk_in self.old.session) }
+        // The next bytes go on where these end.
+        ensures tags { tags_in self.new.session ≡ tags_after self.old.session }
     {
         match &mut self.session {
-            Some(session) => session.wire.connection.take_heard(alloc),
+            Some(session) => session.take_heard(alloc),
             None => Vec::new(alloc),
         }
     }

@@ -2,6 +2,7 @@
 
 use crate::entry::Entry;
 use crate::irc_connection::{IrcConnection, joined};
+use crate::questions::who_line;
 use crate::session::Session;
 use crate::vigil::Care;
 use crate::why::Why;
@@ -11,15 +12,17 @@ use settings::Settings;
 use std::alloc::Global;
 
 impl IrcConnection {
-    ghost use Rattle.std.specs.Prelude.{◌≡◌, ◌≢◌, ◌<◌, ◌++◌, None, OnOk, OnErr, is_some};
+    ghost use Rattle.std.specs.Prelude.{◌≡◌, ◌≢◌, ◌<◌, ◌++◌, None, OnOk, OnErr, is_some, option_map};
     ghost use Rattle.bytetext.specs.declared.moment.TheConstants.{MOMENTS_END};
-    ghost use Rattle.serverlink.specs.Talks.{stays};
+    ghost use Rattle.serverlink.specs.Asking.{due_in, question_taken, question_told};
+    ghost use Rattle.serverlink.specs.Talks.{stays, talk_in};
     ghost use Rattle.serverlink.specs.Wanting.{asks_in, nick_asked, questions};
 
     /// Does what is due at second `now` even if the server says nothing. Pings a silent server, or disconnects it.
-    /// Queues lines of the process's own, and then asks to join channels that the bot is not on, both as its pace
-    /// allows. `settings` say whether `log` shows the lines. Call this at least once a second, after
-    /// [`wake`](IrcConnection::wake): silence is measured by the monotonic second of the turn, and the rest by `now`.
+    /// Queues lines of the process's own, asks to join channels that the bot is not on, and asks for the members of those
+    /// that it has joined, in this order and as its pace allows. `settings` say whether `log` shows the lines. Call this at
+    /// least once a second, after [`wake`](IrcConnection::wake): silence is measured by the monotonic second of the turn,
+    /// and the rest by `now`.
     ///
     /// # Errors
     /// `NoMemory` if an allocation fails: never without a connection. Lines that were queued before it stay queued.
@@ -50,7 +53,8 @@ impl IrcConnection {
         self.ask_for_nick(rt.alloc(), settings, now)?;
         // These first: they come to an end, and the server may never let the bot onto a channel.
         self.tell_own(log, settings, now)?;
-        self.join_again(rt.alloc(), log, settings, now)
+        self.join_again(rt.alloc(), log, settings, now)?;
+        self.ask_for_members(rt.alloc(), log, settings, now)
     }
 
     // A connection that has held for long was a good one.
@@ -128,6 +132,64 @@ impl IrcConnection {
         let line = with_key(line, key)?;
         self.tell_unseen(log, settings, line.as_slice(), now)?;
         Ok(true)
+    }
+
+    // Asks for the members of the channels that the bot has joined, as many as may go.
+    fn ask_for_members(
+        &mut self,
+        alloc: Global,
+        log: &mut Log,
+        settings: &Settings,
+        now: u64,
+    ) -> Result<(), NoMemory>
+        ensures { is_some self.new.session ≡ is_some self.old.session }
+    {
+        for _channel in 0..self.unasked() {
+            if !self.may_tell(now) {
+                return Ok(());
+            }
+            self.ask_next(alloc, log, settings, now)?;
+        }
+        Ok(())
+    }
+
+    // How many channels the bot has joined that the process has not asked about.
+    fn unasked(&self) -> usize {
+        match &self.session {
+            Some(session) => session.questions.len(),
+            None => 0,
+        }
+    }
+
+    // Asks for the members of the channel that the bot joined first of those, if the server has WHOX.
+    fn ask_next(
+        &mut self,
+        alloc: Global,
+        log: &mut Log,
+        settings: &Settings,
+        now: u64,
+    ) -> Result<(), NoMemory>
+        ensures told { OnOk result (talk_in self.new.session ≡ option_map question_told self.old.session) }
+        ensures same { is_some self.new.session ≡ is_some self.old.session }
+    {
+        match self.next_question() {
+            Some(channel) => {
+                let line = who_line(alloc, channel.as_bytes())?;
+                self.tell(log, settings, line.as_slice(), now)
+            }
+            None => Ok(()),
+        }
+    }
+
+    // Takes the channel to ask about next, if there is one.
+    fn next_question(&mut self) -> Option<Text>
+        ensures due { result ≡ due_in self.old.session }
+        ensures taken { self.new.session ≡ question_taken self.old.session }
+    {
+        match &mut self.session {
+            Some(session) => session.questions.next(),
+            None => None,
+        }
     }
 
     // Queues lines of the process's own, as many as may go.

@@ -1,6 +1,7 @@
-// A login to an account while a connection begins.
+// What a connection says while it begins: it asks for the server's capabilities, and logs in to an account.
 ghost use Rattle.std.specs.Prelude.{◌≡◌, IfOk, OnOk};
-ghost use Rattle.serverlink.specs.Logins.{all_told, wish_of};
+ghost use Rattle.registration.specs.Talks.{says_success};
+ghost use Rattle.serverlink.specs.Logins.{all_told, wanted, wish_of};
 
 use crate::entry::Entry;
 use crate::server_wire::ServerWire;
@@ -19,7 +20,7 @@ use std::random::RandomSource;
 // The most iterations of a salted password that one turn does: some milliseconds.
 const ROUNDS: u32 = 4_096;
 
-// How the log shows a line of a login: whether at all, and at which second.
+// How the log shows a line of a registration: whether at all, and at which second.
 #[derive(Clone, Copy)]
 pub(crate) struct Shows {
     pub(crate) lines: bool,
@@ -33,26 +34,29 @@ impl Session {
     ghost use Rattle.serverlink.specs.Logins.{Leaves, derived, derives, line_heard, wish_of};
     ghost use Rattle.serverlink.specs.Talks.{told};
 
-    // Begins a login to `account`, and queues its first line. On `NoMemory` there is no login.
+    // Begins the registration of a connection, with a login to `account`, if there is one, and queues its first line,
+    // CAP LS 302. `has_plus` says whether the connection goes through a tunnel: only then the login may be by PLAIN. On
+    // `NoMemory` there is no registration.
     pub(crate) fn begin_login(
         &mut self,
         alloc: Global,
-        account: Credentials,
+        account: Option<Credentials>,
+        has_plus: bool,
         nonces: ScramNonces,
         now: u64,
     ) -> Result<(), NoMemory>
         ensures { OnOk result (self.new ≡ record self.old {
           wire = told FIRST_LINE.now self.old.wire;
-          login = Some (begun_by (wish_of account) nonces);
+          login = Some (begun_by (wish_of account has_plus) nonces);
         }) }
     {
         self.wire.tell(FIRST_LINE, now)?;
-        self.login = Some(Registration::new(alloc, wish_of(account), nonces));
+        self.login = Some(Registration::new(alloc, wish_of(account, has_plus), nonces));
         Ok(())
     }
 
-    // Hears a line of the server for the login, if there is one, and queues the lines that it says. Drops a login that
-    // is over. Refused with the fault of a login that has failed: the connection is to end.
+    // Hears a line of the server for the registration, if it is not over, and queues the lines that it says. Drops a
+    // registration that is over. Refused with the fault of a login that has failed: the connection is to end.
     pub(crate) fn hear_line(
         &mut self,
         alloc: Global,
@@ -67,10 +71,14 @@ impl Session {
         };
         let lines = login.hear(alloc, line)?;
         let is_over = login.is_over();
+        let notifies = login.enabled().account_notify;
         tell_all(&mut self.wire, log, lines.as_slice(), shows)?;
         if is_over {
             self.login = None;
-            log.note(shows.now, &Entry::LoggedIn);
+            self.questions.note_notices(notifies);
+            if is_success(line) {
+                log.note(shows.now, &Entry::LoggedIn);
+            }
         }
         Ok(())
     }
@@ -94,9 +102,11 @@ impl Session {
         login.derive(ROUNDS);
         let lines = login.finish(alloc)?;
         let is_over = login.is_over();
+        let notifies = login.enabled().account_notify;
         tell_all(&mut self.wire, log, lines.as_slice(), shows)?;
         if is_over {
             self.login = None;
+            self.questions.note_notices(notifies);
         }
         Ok(())
     }
@@ -112,20 +122,56 @@ impl Session {
     }
 }
 
-// What a login to `account` may do.
-fn wish_of(account: Credentials) -> Wish
-    ensures { result ≡ wish_of account }
+// What a connection wants of its registration. PLAIN shows the password to whoever reads the connection, so it is tried
+// only on a private one, which has a plus.
+fn wish_of(account: Option<Credentials>, has_plus: bool) -> Wish
+    ensures { result ≡ wish_of account has_plus }
 {
     Wish {
-        account: Some(account),
+        account,
         allowed: Mechanisms {
             scram_sha_512: true,
             scram_sha_256: true,
             external: true,
-            plain: false,
+            plain: has_plus,
         },
-        is_private: false,
-        wanted: Capabilities::none(),
+        is_private: has_plus,
+        wanted: wanted(),
+    }
+}
+
+// The capabilities by which the bot learns who is logged in, all modes of a member, and each person's user and host.
+// Nothing in the bot goes by who is away, or by who is invited.
+fn wanted() -> Capabilities
+    ensures { result ≡ wanted }
+{
+    Capabilities {
+        account_notify: true,
+        extended_join: true,
+        multi_prefix: true,
+        userhost_in_names: true,
+        chghost: true,
+        away_notify: false,
+        invite_notify: false,
+    }
+}
+
+// Whether a line says that the login succeeded (903). A registration without an account is never over by such a line.
+fn is_success(line: &Line) -> bool
+    ensures { result ≡ says_success line.now }
+{
+    match line {
+        Line::Message(message) => message.command.as_bytes() == b"903".as_slice(),
+        Line::Bad(_) => false,
+    }
+}
+
+// The nonces of a registration without an account, which never uses them.
+pub(crate) fn no_nonces() -> ScramNonces {
+    let nonce = ScramNonce::of(&[0; 15]);
+    ScramNonces {
+        sha_512: nonce,
+        sha_256: nonce,
     }
 }
 
@@ -143,7 +189,7 @@ fn drawn_nonce<R: RandomSource>(rt: &R) -> io::Result<ScramNonce> {
     Ok(ScramNonce::of(&bytes))
 }
 
-// Queues lines of a login, in order.
+// Queues lines of a registration, in order.
 fn tell_all(
     wire: &mut ServerWire<AnySocket>,
     log: &mut Log,
@@ -159,9 +205,10 @@ fn tell_all(
     Ok(())
 }
 
-// Logs that a line of a login is queued, without its text: who knows the lines of a login can guess passwords at leisure.
+// Logs that a line of a registration is queued, without its text: who knows the lines of a login can guess passwords at
+// leisure.
 fn note_line(log: &mut Log, shows: Shows) {
     if shows.lines {
-        log.note(shows.now, &Entry::ToldLogin);
+        log.note(shows.now, &Entry::ToldRegistration);
     }
 }

@@ -1,17 +1,21 @@
-// How a connection that begins logs in to the bot's account.
-ghost use Rattle.std.specs.Prelude.{◌≡◌, None, true, IfOk};
-ghost use Rattle.serverlink.specs.Logins.{BeginsLogin};
+// How a connection begins with its registration.
+ghost use Rattle.std.specs.Prelude.{◌≡◌, true, IfOk, OnOk};
+ghost use Rattle.registration.specs.declared.registration.TheConstants.{FIRST_LINE};
+ghost use Rattle.serverlink.specs.Logins.{BeginsLogin, with_pass};
+ghost use Rattle.serverlink.specs.Talks.{told};
 
-use crate::irc_connection::IrcConnection;
-use crate::login::{Shows, drawn_nonces};
+use crate::irc_connection::{IrcConnection, joined};
+use crate::login::{Shows, drawn_nonces, no_nonces};
+use crate::server_wire::ServerWire;
 use crate::session::Session;
 use crate::why::Why;
-use bytetext::{Failure, NoMemory, TryCopy};
+use bytetext::{Failure, NoMemory, Text, TryCopy};
 use ircline::Line;
-use net::Log;
-use registration::Credentials;
+use net::{AnySocket, Log};
+use registration::{Credentials, ScramNonces};
 use settings::Settings;
 use std::alloc::Global;
+use std::io;
 use std::random::RandomSource;
 
 impl IrcConnection {
@@ -51,7 +55,7 @@ impl IrcConnection {
         }
     }
 
-    // Hears a line of the server for the login, if there is one. A login that fails ends the connection.
+    // Hears a line of the server for the registration, if it is not over. A login that fails ends the connection.
     pub(crate) fn hear_for_login(
         &mut self,
         alloc: Global,
@@ -81,28 +85,63 @@ impl IrcConnection {
     }
 }
 
-// Begins the login of `session`, which has none yet, to the bot's `account`, if it has one. Returns whether the
-// connection may go on: not if the system gives no random bytes for a login.
+// Begins the registration of `session`, which has none yet: queues CAP LS 302. It logs in to the bot's `account`, if it
+// has one. Returns whether the connection may go on: not if the system gives no random bytes for a login.
 pub(crate) fn begin_login<R: AllocGlobal + RandomSource>(
     rt: &R,
     account: &Option<Credentials>,
+    has_plus: bool,
     session: &mut Session,
     now: u64,
 ) -> Result<bool, NoMemory>
-    requires none { session.old.login ≡ None }
-    ensures { IfOk result (λ goes_on. goes_on ≡ true → BeginsLogin account.now session.new.login) }
+    ensures login { IfOk result (λ goes_on. goes_on ≡ true → BeginsLogin account.now has_plus session.new.login) }
+    ensures told { IfOk result (λ goes_on. goes_on ≡ true → session.new.wire ≡ told FIRST_LINE.now session.old.wire) }
 {
-    let Some(account) = account else {
-        return Ok(true);
-    };
-    let Ok(nonces) = drawn_nonces(rt) else {
+    let Ok(nonces) = nonces_for(rt, account) else {
         return Ok(false);
     };
-    session.begin_login(rt.alloc(), account.copy(rt.alloc())?, nonces, now)?;
+    let account = account_copy(rt.alloc(), account)?;
+    session.begin_login(rt.alloc(), account, has_plus, nonces, now)?;
     Ok(true)
 }
 
-// How the log shows the lines of a login.
+// The nonces of a connection: random ones if it is to log in.
+fn nonces_for<R: RandomSource>(rt: &R, account: &Option<Credentials>) -> io::Result<ScramNonces> {
+    match account {
+        Some(_) => drawn_nonces(rt),
+        None => Ok(no_nonces()),
+    }
+}
+
+// A copy of the account, if there is one.
+fn account_copy(
+    alloc: Global,
+    account: &Option<Credentials>,
+) -> Result<Option<Credentials>, NoMemory>
+    ensures { IfOk result (λ copy. copy ≡ account.now) }
+{
+    match account {
+        Some(account) => Ok(Some(account.copy(alloc)?)),
+        None => Ok(None),
+    }
+}
+
+// Queues the PASS of a server, if it has one.
+pub(crate) fn tell_pass(
+    alloc: Global,
+    wire: &mut ServerWire<AnySocket>,
+    pass: &Option<Text>,
+    now: u64,
+) -> Result<(), NoMemory>
+    ensures { OnOk result (wire.new ≡ with_pass pass.now wire.old) }
+{
+    match pass {
+        Some(pass) => wire.tell(joined(alloc, b"PASS :", pass.as_bytes())?.as_slice(), now),
+        None => Ok(()),
+    }
+}
+
+// How the log shows the lines of a registration.
 fn shows_of(settings: &Settings, now: u64) -> Shows {
     Shows {
         lines: settings.log_lines,

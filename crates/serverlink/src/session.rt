@@ -1,14 +1,20 @@
 // One connection to a server.
-ghost use Rattle.std.specs.Prelude.{◌≡◌, None, length};
+ghost use Rattle.std.specs.Prelude.{◌≡◌, None, [], length};
 ghost use Rattle.streams.specs.Accounts.{nothing_yet};
 ghost use Rattle.serverlink.specs.Casings.{unannounced};
+ghost use Rattle.serverlink.specs.Questions.{begun as no_questions};
 ghost use Rattle.serverlink.specs.Regains.{begun as no_nick};
+ghost use Rattle.net.specs.Connections.{handed};
+ghost use Rattle.serverlink.specs.Tags.{stage_after, untagged};
 ghost use Rattle.serverlink.specs.Vigils.{begun, care_of};
 ghost use Rattle.serverlink.specs.Wanting.{is_nick_due, with_question};
+ghost use Rattle.serverlink.specs.declared.tags.TagStage.TheVariants.{Front};
 
 use crate::casing::Casing;
+use crate::questions::WhoQuestions;
 use crate::regain::Regain;
 use crate::server_wire::ServerWire;
+use crate::tags::TagStage;
 use crate::vigil::{Care, Vigil};
 use net::AnySocket;
 use registration::Registration;
@@ -25,12 +31,16 @@ pub struct Session {
     pub is_welcomed: bool,
     // How many other nicks the bot has asked for.
     pub(crate) tried: usize,
-    // The login to the bot's account, until it is over.
+    // The registration, with the login to the bot's account, if it has one; until it is over.
     pub(crate) login: Option<Registration>,
     // How the server compares names.
     pub(crate) casing: Casing,
     // The bot's nick, and when the process asks for another one.
     pub(crate) regain: Regain,
+    // The channels that the process still asks about.
+    pub(crate) questions: WhoQuestions,
+    // Where in a line the bytes that were taken last ended.
+    pub(crate) tags: TagStage,
 }
 
 // Written by hand, so that the drop is proved once, and not in each function that drops one.
@@ -45,6 +55,8 @@ impl Drop for Session {
             login: _,
             casing: _,
             regain: _,
+            questions: _,
+            tags: _,
         } = self;
     }
 }
@@ -59,6 +71,9 @@ impl Session {
         ensures login { result.login ≡ None }
         ensures casing { result.casing ≡ unannounced }
         ensures regain { result.regain ≡ no_nick }
+        ensures questions { result.questions ≡ no_questions }
+        ensures tags { result.tags ≡ Front }
+        ensures unsent { result.wire.unsent ≡ [] }
     {
         Session {
             wire: ServerWire::new(alloc, socket),
@@ -69,6 +84,8 @@ impl Session {
             login: None,
             casing: Casing::unannounced(),
             regain: Regain::new(),
+            questions: WhoQuestions::new(alloc),
+            tags: TagStage::Front,
         }
     }
 
@@ -88,6 +105,17 @@ impl Session {
         }
         self.regain.ask(now);
         true
+    }
+
+    // Takes the bytes that were read and not taken yet, without the tags of their lines. Allocates nothing.
+    pub(crate) fn take_heard(&mut self, alloc: Global) -> Vec<u8>
+        ensures all { result.items ≡ untagged self.old.tags self.old.wire.heard }
+        ensures wire { self.new.wire ≡ handed self.old.wire }
+        ensures tags { self.new.tags ≡ stage_after self.old.tags self.old.wire.heard }
+    {
+        let mut bytes = self.wire.connection.take_heard(alloc);
+        self.tags.drop_tags(&mut bytes);
+        bytes
     }
 
     // Returns what to do about the connection at second `steady` of the monotonic clock. Returns `Ask` once for each

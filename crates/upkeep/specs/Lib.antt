@@ -5,3 +5,4 @@ pub mod Reloading
 pub mod Spaces
 pub mod Stations
 pub mod Flooding
+pub mod HandOvers

@@ -237,7 +237,8 @@ fn of_control(fault: DoorFault) -> &'static str {
 
 // The advice for a bind of an unknown type.
 pub(crate) const KIND: &str =
-    "say a type of bind: raw, msg, msgm, notc, pub, pubm, join, part, sign, kick, nick, mode, topc, bot, time or cron";
+    "say a type of bind: raw, msg, msgm, notc, pub, pubm, join, part, sign, kick, nick, mode, topc, account, bot, time \
+     or cron";
 
 // The advice for a bind of a proc that the program lacks.
 pub(crate) const PROC: &str = "say a proc that this program has";

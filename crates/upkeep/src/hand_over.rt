@@ -1,5 +1,5 @@
 // A hub that hands its net over to one of its leaves.
-ghost use Rattle.std.specs.Prelude.{◌≡◌, ◌≤◌, ◌↔◌, true, false, IfOk};
+ghost use Rattle.std.specs.Prelude.{◌≡◌, ◌≤◌, ◌↔◌, nat_le, true, false, None, Some, IfOk, MatchResult};
 ghost use Rattle.std.specs.List.{AllByRecursion};
 ghost use Rattle.sharelink.specs.Shapes.{HasGoodRecords};
 ghost use Rattle.peers.specs.Doubts.{is_in_doubt};
@@ -7,6 +7,7 @@ ghost use Rattle.peers.specs.HandOver.{has_all};
 ghost use Rattle.peers.specs.LinkedLeaves.{is_linked_leaf};
 ghost use Rattle.peers.specs.Picking.{is_request};
 ghost use Rattle.peers.specs.Tells.{granted};
+ghost use Rattle.upkeep.specs.HandOvers.{refusal_of, state_at};
 ghost use Rattle.upkeep.specs.Stations.{is_hub};
 ghost use Rattle.upkeep.specs.declared.hand_over.HandOverState.TheVariants.{HandedOver, TooLate};
 
@@ -85,6 +86,9 @@ impl HandOver {
         ensures leaf { IfOk result (λ handing. (handing.leaf ≡ leaf) × (leaf ≤ settings.now.station.leaves)) }
         ensures sure { IfOk result (λ _. is_in_doubt links.now ≡ false) }
         ensures linked { IfOk result (λ _. is_linked_leaf leaf links.now ≡ true) }
+        ensures refusal { MatchResult result
+            (λ _. refusal_of (is_hub settings.now.station) (nat_le leaf settings.now.station.leaves) (is_in_doubt links.now) (is_linked_leaf leaf links.now) ≡ None)
+            (λ why. refusal_of (is_hub settings.now.station) (nat_le leaf settings.now.station.leaves) (is_in_doubt links.now) (is_linked_leaf leaf links.now) ≡ Some why) }
     {
         if !is_hub(settings.station) {
             return Err(NoHandOver::NoHub);
@@ -110,6 +114,7 @@ impl HandOver {
         // The leaf has shown the hub's own version over its link: no accepted change is missing there.
         ensures handed { (result ≡ HandedOver) ↔ (has_all self.now.leaf version links.now ≡ true) }
         ensures late { result ≡ TooLate → self.now.until ≤ now }
+        ensures state { result ≡ state_at (has_all self.now.leaf version links.now) self.now.until now }
     {
         if links.has_all(self.leaf, version) {
             HandOverState::HandedOver

@@ -46,7 +46,7 @@ info_is_short info good = grind (arith, nat_tests)
 
 pub person_is_short : (person : List ℕ) → is_person person ≡ true → IsShort person
 unfolding is_person
-person_is_short person good = hostmask_is_short person (and_true (and_true good).0).0
+person_is_short person good = hostmask_is_short person (and_true good).0
 
 -- ---- shapes
 

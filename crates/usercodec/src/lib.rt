@@ -22,7 +22,7 @@
 //! | 9 | deletes a ban | channel, mask |
 //! | 10 | sets a user's info text | handle, info text |
 //! | 11 | makes a ban sticky, or no longer sticky | channel, mask, mark |
-//! | 12 | one of these in a person's name | person (`nick!user@host`), casemapping, and the change in nobody's name |
+//! | 12 | one of these in a person's name | person (`nick!user@host` or `$a:NAME`), casemapping, and the change in nobody's name |
 //!
 //! | tag | record | fields |
 //! |---|---|---|

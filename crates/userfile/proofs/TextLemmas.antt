@@ -28,7 +28,7 @@ no_fault text fault good bad = true≢false (sym good ∙ ap is_none bad)
 -- a person is written as a hostmask
 pub is_person-hostmask : (text : List ℕ) → is_person text ≡ true → is_hostmask text ≡ true
 unfolding is_person
-is_person-hostmask text good = (and_true (and_true good).0).0
+is_person-hostmask text good = (and_true good).0
 
 -- a handle has at most 32 bytes
 pub is_handle-length : (text : List ℕ) → is_handle text ≡ true → length text ≤ MAX_HANDLE

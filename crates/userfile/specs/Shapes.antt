@@ -1,6 +1,6 @@
 -- Which texts may stand in a change or a record.
 use Rattle.std.specs.Prelude.{ℕ, List, Bool, not, ◌&&◌, ◌||◌, nat_le, ◌==◌, length}
-use Rattle.std.specs.List.{list_all, list_any}
+use Rattle.std.specs.List.{list_all}
 use Rattle.std.specs.Option.{is_none}
 use Rattle.rfccase.specs.Channels.{is_channel_name}
 use Rattle.wildmask.specs.Masks.{host_fault}
@@ -23,9 +23,10 @@ is_ban_channel bytes = length bytes == 0 || is_channel_name bytes
 unfoldable pub is_hostmask : List ℕ → Bool
 is_hostmask bytes = is_none (host_fault bytes)
 
--- a person, written as nick!user@host: a hostmask with a ! and without the wildcards * and ?
+-- a person, written as nick!user@host, or as $a:NAME by the account of the IRC network: a hostmask without the wildcards
+-- * and ?
 unfoldable pub is_person : List ℕ → Bool
-is_person bytes = is_hostmask bytes && list_any (λ b. b == 33) bytes && list_all (λ b. not (b == 42) && not (b == 63)) bytes
+is_person bytes = is_hostmask bytes && list_all (λ b. not (b == 42) && not (b == 63)) bytes
 
 -- a byte that is not NUL, CR or LF (RFC 2812 section 2.3.1)
 abbrev pub is_line_byte : ℕ → Bool

@@ -10,7 +10,8 @@ use std::alloc::Global;
 /// The person who asks for a change.
 #[derive(Debug)]
 pub struct Asker {
-    /// The person, written as `nick!user@host`: at most 120 bytes, each above 32, and none of them `*` or `?`.
+    /// The person, written as `nick!user@host`, or as `$a:NAME` if the bot knows the person by the account `NAME`: at most
+    /// 120 bytes, each above 32, and none of them `*` or `?`.
     pub person: Text,
     /// The casemapping of the server on which the person asked. The hostmasks of the userfile match the person by it.
     pub casemapping: Casemapping,

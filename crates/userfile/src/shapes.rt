@@ -1,6 +1,6 @@
 // Which texts may stand in a change or a record.
 ghost use Rattle.std.specs.Prelude.{◌≡◌, ◌==◌, ◌&&◌, not};
-ghost use Rattle.std.specs.List.{list_all, list_any};
+ghost use Rattle.std.specs.List.{list_all};
 ghost use Rattle.userfile.specs.Shapes.{is_handle_byte, is_handle, is_ban_channel, is_hostmask, is_person, is_line_byte, is_comment, is_info};
 
 use crate::limits::{MAX_COMMENT, MAX_HANDLE, MAX_INFO};
@@ -43,19 +43,13 @@ pub fn is_hostmask(bytes: &[u8]) -> bool
     host_fault(bytes).is_none()
 }
 
-/// Returns whether `bytes` are a person, written as `nick!user@host`: a hostmask with a `!` and without the wildcards
-/// `*` and `?`.
+/// Returns whether `bytes` are a person: `nick!user@host`, or `$a:NAME`, somebody who is known by the account `NAME` of
+/// the IRC network. Such a text is a hostmask without the wildcards `*` and `?`.
 #[tactic(auto, unfolding(crate::specs::Shapes::is_person))]
 pub fn is_person(bytes: &[u8]) -> bool
     ensures { result ≡ is_person bytes.now }
 {
-    is_hostmask(bytes) && has_exclamation_mark(bytes) && has_no_wildcard(bytes)
-}
-
-fn has_exclamation_mark(bytes: &[u8]) -> bool
-    ensures { result ≡ list_any (λ b. b == 33) bytes.now }
-{
-    bytes.iter().any(|byte| *byte == b'!')
+    is_hostmask(bytes) && has_no_wildcard(bytes)
 }
 
 fn has_no_wildcard(bytes: &[u8]) -> bool

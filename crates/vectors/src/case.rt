@@ -17,6 +17,7 @@ enum Asked {
     Chan,
     Change,
     Civil,
+    Claim,
     Clock,
     Cron,
     CronArgs,
@@ -57,13 +58,14 @@ enum Asked {
     Zone,
 }
 
-const ASKED: [(&[u8], Asked); 44] = [
+const ASKED: [(&[u8], Asked); 45] = [
     (b"ban", Asked::Ban),
     (b"banby", Asked::BanBy),
     (b"binds", Asked::Binds),
     (b"chan", Asked::Chan),
     (b"change", Asked::Change),
     (b"civil", Asked::Civil),
+    (b"claim", Asked::Claim),
     (b"clock", Asked::Clock),
     (b"cron", Asked::Cron),
     (b"cronargs", Asked::CronArgs),
@@ -128,6 +130,7 @@ fn answer_to(asked: Asked, alloc: Global, words: &[Text], out: &mut Sink) -> Res
         Asked::Chan => channels::chan(alloc, words, out),
         Asked::Change => spellings::change(alloc, words, out),
         Asked::Civil => civil::civil(alloc, Form::Numbers, words, out),
+        Asked::Claim => persons::claim(alloc, words, out),
         Asked::Clock => clock::clock(alloc, words, out),
         Asked::Cron => cron::cron(alloc, words, out),
         Asked::CronArgs => civil::civil(alloc, Form::CronArgs, words, out),

@@ -8,6 +8,7 @@ use std::alloc::Global;
 // What is asked of the state.
 #[derive(Clone, Copy)]
 enum Question {
+    Account,
     Channels,
     Holds,
     Members,
@@ -16,7 +17,8 @@ enum Question {
     Topic,
 }
 
-const QUESTIONS: [(&[u8], Question); 6] = [
+const QUESTIONS: [(&[u8], Question); 7] = [
+    (b"account", Question::Account),
     (b"channels", Question::Channels),
     (b"holds", Question::Holds),
     (b"members", Question::Members),
@@ -96,6 +98,7 @@ fn answer(
     };
     match (question_of(question), names) {
         (Some(Question::Nick), []) => out.put(state.own_nick()),
+        (Some(Question::Account), [nick]) => account(state, nick, out),
         (Some(Question::Op), [channel, nick]) => op(state, channel, nick, out),
         (Some(Question::Topic), [channel]) => topic(state, channel, out),
         (Some(Question::Holds), [channel]) => holds(state, channel, out),
@@ -104,6 +107,17 @@ fn answer(
         (_, _) => return Err(BAD_WORDS),
     }
     Ok(())
+}
+
+fn account(state: &ChanState, nick: &Text, out: &mut Sink) {
+    let account = state.account_of(nick.as_bytes());
+    match account.is_empty() {
+        true => out.put(b"no account"),
+        false => {
+            out.put(b"account");
+            out.quoted(account);
+        }
+    }
 }
 
 fn holds(state: &ChanState, channel: &Text, out: &mut Sink) {

@@ -39,7 +39,7 @@ fn each_shown(events: &[IrcEvent], out: &mut Sink) {
     }
 }
 
-// KIND 'SUBJECT' CHANNEL 'ARGUMENT'..
+// KIND 'SUBJECT' CHANNEL 'ARGUMENT'.., and ` = ACCOUNT` if there is an account
 fn event_shown(event: &IrcEvent, out: &mut Sink) {
     out.put(name_of(event.kind).as_bytes());
     out.quoted(event.subject.as_bytes());
@@ -50,6 +50,10 @@ fn event_shown(event: &IrcEvent, out: &mut Sink) {
     }
     for argument in event.arguments.as_slice() {
         out.quoted(argument.as_bytes());
+    }
+    if !event.account.is_empty() {
+        out.put(b" = ");
+        out.put(event.account.as_bytes());
     }
 }
 
@@ -68,5 +72,6 @@ fn name_of(kind: EventKind) -> &'static str {
         EventKind::Nick => "nick",
         EventKind::Mode => "mode",
         EventKind::Topc => "topc",
+        EventKind::Account => "account",
     }
 }

@@ -41,13 +41,15 @@
 //! | `info HANDLE CHANGE..` | the user's info text between quotes, empty for no user |
 //! | `sticky CHANNEL MASK MOMENT CHANGE..` | channel and mask of the ban set again if MASK is removed, or `no ban` |
 //! | `personby MAPPING ..`, `banby MAPPING ..`, `stickyby MAPPING ..` | as `person`, `ban` and `sticky`, by the casemapping that a server names so |
+//! | `claim MAPPING ACCOUNT WHO CHANGE..` | `HANDLE by 'TEXT'` of WHO, who is logged in as ACCOUNT; TEXT is what hostmasks are matched against |
+//! | `chan NICK LINE.. account WHO` | `account 'NAME'`, the account of the member with the nick WHO, or `no account` |
 //! | `chan NICK LINE.. members CHANNEL` | the members in order, each as `@%+nick!user@host`, or `nobody` |
 //! | `chan NICK LINE.. topic CHANNEL` | `topic 'TEXT'` or `not held` |
 //! | `chan NICK LINE.. op CHANNEL NICK` | `op` or `no op` |
 //! | `chan NICK LINE.. channels NICK` | the channels that the bot shares with the nick, in order, or `none` |
 //! | `chan NICK LINE.. holds CHANNEL` | `held` or `not held` |
 //! | `chan NICK LINE.. nick` | the bot's own nick |
-//! | `events NICK LINE..` | the events of the last line, as `KIND 'SUBJECT' CHANNEL 'ARGUMENT'..`, with ` ; ` between |
+//! | `events NICK LINE..` | the events of the last line, as `KIND 'SUBJECT' CHANNEL 'ARGUMENT'.. = ACCOUNT`, with ` ; ` between |
 //! | `settings LINE..` | what a configuration file of these lines says, with ` ; ` between, or why it is refused |
 //! | `long N` | the same for a file of N bytes `#` |
 //! | `timeline MARK WALL/MONOTONIC..` | the reading of each pair of clocks; the monotonic one began at MARK |
@@ -111,7 +113,8 @@
 //!
 //! In `chan` and `events` the bot has connected under NICK and reads the LINEs in order; the answer is the code of the
 //! first that is no message, if one is. Before a member's nick stand `@` for op, `%` for half-op and `+` for voice;
-//! `!user@host` is left out if both are empty. An event on no channel has `-` as its CHANNEL.
+//! `!user@host` is left out if both are empty. An event on no channel has `-` as its CHANNEL, and ` = ACCOUNT` is left
+//! out if no account is known.
 //!
 //! Line feeds stand between the LINEs of a file of `settings`; a file that ends with a line feed has the empty LINE
 //! `''` last. The answer writes what the file says in its own words, in one order: `data`, `bot`, `nick`, `channel`,

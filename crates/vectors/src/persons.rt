@@ -1,7 +1,8 @@
 // What a userfile says of people.
 use crate::changes::make_all;
-use bytetext::Text;
+use bytetext::{NoMemory, Text};
 use caselines::{BAD_WORDS, CaseError, Sink, number};
+use procs::{claim_by, handle_by};
 use rfccase::Casemapping;
 use std::alloc::Global;
 use userfile::{Ban, PersonFlags, Userfile};
@@ -35,6 +36,39 @@ fn known(
         None => out.put(userfile.handle_of(mapping, who.as_bytes())),
         Some(fault) => out.put(fault.code().as_bytes()),
     }
+    Ok(())
+}
+
+/// Answers `claim MAPPING ACCOUNT WHO CHANGE..` on `out`: the handle of the person WHO, who is logged in as ACCOUNT, and
+/// the text by which the person is found, or the code of the first change that is refused.
+pub fn claim(alloc: Global, words: &[Text], out: &mut Sink) -> Result<(), CaseError> {
+    let [mapping, account, who, changes @ ..] = words else {
+        return Err(BAD_WORDS);
+    };
+    let mut userfile = Userfile::new(alloc);
+    match make_all(alloc, &mut userfile, changes)? {
+        None => {
+            let mapping = Casemapping::named(mapping.as_bytes());
+            claim_shown(alloc, &userfile, mapping, account, who, out)?;
+        }
+        Some(fault) => out.put(fault.code().as_bytes()),
+    }
+    Ok(())
+}
+
+// HANDLE by 'CLAIM'
+fn claim_shown(
+    alloc: Global,
+    userfile: &Userfile,
+    mapping: Casemapping,
+    account: &Text,
+    who: &Text,
+    out: &mut Sink,
+) -> Result<(), NoMemory> {
+    let (account, who) = (account.as_bytes(), who.as_bytes());
+    out.put(handle_by(userfile, mapping, account, who));
+    out.put(b" by");
+    out.quoted(claim_by(alloc, userfile, mapping, account, who)?.as_bytes());
     Ok(())
 }
 

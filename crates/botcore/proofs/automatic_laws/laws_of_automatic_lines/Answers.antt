@@ -18,7 +18,7 @@ use Rattle.chanstate.proofs.FindLemmas.{pointwise-same}
 use Rattle.botcore.specs.declared.config.Config.{Config}
 use Rattle.botcore.specs.declared.watched_command.WatchedCommand.{WatchedCommand}
 use Rattle.botcore.specs.declared.watched_command.WatchedCommand.TheVariants as cue
-use Rattle.botcore.specs.Automatic.{cue_of, numeric_cue, watched, barred, lines_by}
+use Rattle.botcore.specs.Automatic.{cue_of, numeric_cue, watched, barred, lines_by, unless_left}
 use Rattle.botcore.proofs.JoiningLemmas.{mapping-after, watched-after}
 use Rattle.botcore.proofs.automatic_laws.laws_of_automatic_lines.Goals as goal
 
@@ -50,10 +50,11 @@ alike cue.Ping config s bans last welcomed message is other = refl
 alike cue.Join config s bans last welcomed message is other =
     let from = source_of message.prefix in
     let joined = steps (join_items from message.params) s in
-    ap (λ (v : ChannelCommand). lines_in from bans last message (steps (items_by v from message.params) s)) (join_verb message.command is)
+    ap (unless_left config.leaves_bans)
+    (ap (λ (v : ChannelCommand). lines_in from bans last message (steps (items_by v from message.params) s)) (join_verb message.command is)
     ∙ ap (λ (mapping : Casemapping). flat_map (barred mapping bans (unwrap_or last 0) from) (watched from message.params joined))
     (mapping-after from message.params s)
-    ∙ ap (flat_map (barred (mapping_of s) bans (unwrap_or last 0) from)) (watched-after from message.params s)
+    ∙ ap (flat_map (barred (mapping_of s) bans (unwrap_or last 0) from)) (watched-after from message.params s))
 alike cue.Mode config s bans last welcomed message is other = absurd (other refl)
 alike cue.RplWelcome config s bans last welcomed message is other = refl
 alike cue.ErrNicknameInUse config s bans last welcomed message is other = refl

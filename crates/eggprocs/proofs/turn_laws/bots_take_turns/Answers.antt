@@ -1,6 +1,6 @@
 use Rattle.std.proofs.Common.{refl}
 use Rattle.eggprocs.specs.declared.proc_name.ProcName.TheVariants as which
-use Rattle.eggprocs.proofs.LookLemmas.{acts-at-once, only-looks, left-to-first, guard-left-to-first}
+use Rattle.eggprocs.proofs.LookLemmas.{acts-at-once, only-looks, left-to-first}
 use Rattle.eggprocs.proofs.turn_laws.bots_take_turns.Goals as goal
 
 pub returns : goal.returns
@@ -16,5 +16,4 @@ returns c = record {
   ban = left-to-first which.Ban refl;
   unban = left-to-first which.Unban refl;
   keepmodes = left-to-first which.KeepModes refl;
-  guard = guard-left-to-first;
 }

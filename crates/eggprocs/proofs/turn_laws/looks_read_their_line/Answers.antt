@@ -8,5 +8,6 @@ returns c = record {
   take_op = reads-modes (codes "-o") refl;
   give_voice = reads-modes (codes "+v") refl;
   take_voice = reads-modes (codes "-v") refl;
+  ban = reads-modes (codes "+b") refl;
   kick = reads-kicks;
 }

@@ -1,10 +1,10 @@
-use Rattle.std.proofs.Common.{◌<◌, ◌∙◌, List, length, map, ap, sym, rules, arith}
+use Rattle.std.proofs.Common.{◌<◌, ◌∙◌, Some, List, length, map, ap, sym, rules, arith}
 use Rattle.std.proofs.lemmas.List.{length-map}
 use Rattle.chanstate.specs.declared.channel.Channel.{Channel}
 use Rattle.chanstate.specs.Channels.{opened, put_each_last}
 use Rattle.chanstate.specs.Items.{channels_on}
 use Rattle.chanstate.specs.Members.{unmarked}
-use Rattle.chanstate.specs.Plans.{joined_if}
+use Rattle.chanstate.specs.Plans.{joined_if, told}
 use Rattle.chanstate.specs.Views.{mapping_of}
 use Rattle.chanstate.proofs.KeptLemmas.{any_adds-own}
 use Rattle.chanstate.proofs.ComeLemmas.{steps-own}
@@ -35,10 +35,10 @@ returns-clause-ready c =
     let joined = c.names_channel.result in
     let ready = c.in_ok-opening.ensures.ready in (
       ap (λ (p : List Channel × List Channel). record s { channels = p.0 }) ready,
-      ap (λ (p : List Channel × List Channel). record s { channels = p.1; support = joined_if joined s.support }) ready
+      ap (λ z. Some (told c.args.telling z)) (ap (λ (p : List Channel × List Channel). record s { channels = p.1; support = joined_if joined s.support }) ready
           ∙ ap (λ os. record s { channels = put_each_last c.casemapping-mapping.result os s.channels; support = joined_if joined s.support })
           c.in_ok-opened.ensures.opened
           ∙ ap (λ mapping. record s { channels = put_each_last mapping news s.channels; support = joined_if joined s.support }) c.casemapping-mapping.ensures
           ∙ ap (λ b. record s { channels = put_each_last (mapping_of s) news s.channels; support = joined_if b s.support }) c.names_channel.ensures
-          ∙ sym (steps-own person.nick.now person.user.now person.host.now c.args.list.now s c.requires),
+          ∙ sym (steps-own person.nick.now person.user.now person.host.now c.args.list.now s c.requires)),
     )

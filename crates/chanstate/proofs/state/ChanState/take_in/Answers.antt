@@ -1,12 +1,14 @@
 use Rattle.std.proofs.Common.{◌∙◌, ap, sym}
-use Rattle.chanstate.specs.Items.{Renamed, Titled, NamesTold, Addressed, names_in}
+use Rattle.chanstate.specs.Items.{Renamed, Titled, NamesTold, Addressed, Told, names_in}
 use Rattle.chanstate.specs.Channels.{on_channel}
 use Rattle.chanstate.specs.Members.{shown_each}
 use Rattle.chanstate.specs.Memory.{any_adds}
 use Rattle.chanstate.specs.Plans.{joined_if}
 use Rattle.chanstate.specs.Steps.{steps}
 use Rattle.chanstate.proofs.KeptLemmas.{adds-none, joins_none, same_address, same_nick, same_topic, shown_none}
+use Rattle.chanstate.specs.Seen.{detail_seen}
 use Rattle.chanstate.proofs.StepLemmas.{each_step-listed}
+use Rattle.chanstate.proofs.TellingLemmas.{joined_quietly, same_told, same_who}
 use Rattle.chanstate.proofs.state.ChanState.take_in.Goals as goal
 
 pub returns-in-Join : goal.returns-in-Join
@@ -56,3 +58,27 @@ returns-in-Names c =
     (c.show.ensures ∙ ap (λ mapping. on_channel mapping channel (shown_each mapping (names_in s.support names)) s.channels) c.casemapping-mapping.ensures
     ∙ shown_none channel names s (adds-none (NamesTold channel names) s (ap (λ items. any_adds items s) is ∙ c.requires)))
     ∙ sym (each_step-listed channel (names_in s.support names) s) ∙ ap (λ items. steps items s) is
+
+pub returns-in-JoinAs : goal.returns-in-JoinAs
+returns-in-JoinAs c =
+    let s = c.args.self.now in
+    let is = c.in-JoinAs.ensures in
+    let person = c.in-JoinAs.person in
+    c.note_join-in-JoinAs.ensures ∙ ap (λ b. record s { support = joined_if b s.support }) c.names_channel-joined-in-JoinAs.ensures
+    ∙ sym (ap (λ items. steps items s) (sym is)
+    ∙ joined_quietly person.nick.now person.user.now person.host.now c.in-JoinAs.list.now c.in-JoinAs.account.now s (ap (λ items. any_adds items s) is ∙ c.requires))
+
+pub returns-in-Who : goal.returns-in-Who
+returns-in-Who c =
+    let s = c.args.self.now in
+    let is = c.in-Who.ensures in
+    sym (ap (λ items. steps items s) (sym is)
+    ∙ same_who c.in-Who.channel.now c.in-Who.user.now c.in-Who.host.now c.in-Who.nick.now c.in-Who.account.now s (ap (λ items. any_adds items s) is ∙ c.requires))
+
+pub returns-in-Tell : goal.returns-in-Tell
+returns-in-Tell c =
+    let s = c.args.self.now in
+    let is = c.in-Tell.ensures in
+    let nick = c.in-Tell.nick.now in
+    let detail = detail_seen c.in-Tell.detail in
+    sym (ap (λ items. steps items s) (sym is) ∙ same_told nick detail s (adds-none (Told nick detail) s (ap (λ items. any_adds items s) is ∙ c.requires)))

@@ -8,4 +8,4 @@ pub returns-clause-left : goal.returns-clause-left
 returns-clause-left c =
     let now = c.args.self.now.mirror in
     subst (λ (l : List ℕ). Images now.events now.content l)
-    (sym (c.reopen_kept.ensures.same.seen ∙ ap (λ (d : FileState). d.mirror.content) c.self.view_is)) (images_seen now.events now.content)
+    (sym (c.reopen.ensures.same.seen ∙ ap (λ (d : FileState). d.mirror.content) c.self.view_is)) (images_seen now.events now.content)

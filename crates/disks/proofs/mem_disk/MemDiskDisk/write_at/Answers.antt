@@ -1,16 +1,9 @@
-use Rattle.std.proofs.Common.{◌≡◌, ◌≤◌, ◌+◌, ℕ, List, min, [], ◌∷◌, length, refl, sym, ap, subst, arith}
+use Rattle.std.proofs.Common.{◌≤◌, ◌+◌, ℕ, List, min, [], ◌∷◌, length, refl, sym, ap, subst, arith}
 use Rattle.std.specs.Vec.{vec_capacity}
-use Rattle.disks.specs.Events.{event_of, Torn, Images, Event}
+use Rattle.disks.specs.Events.{event_of}
 use Rattle.disks.specs.Memory.{Memory}
-use Rattle.disks.proofs.Noted.{torn_holds, torn_none, tears, kept}
+use Rattle.disks.proofs.Noted.{before, torn_holds, torn_none, tears, kept}
 use Rattle.disks.proofs.mem_disk.MemDiskDisk.write_at.Goals as goal
-
--- what was left before, of the whole value
-before : (now : Memory) (events : List Event) (content image : List ℕ) (at n : ℕ) → events ≡ now.events → content ≡ now.content
-    → ((earlier : List ℕ) × Images events content earlier × Torn at n earlier image)
-    → (earlier : List ℕ) × Images now.events now.content earlier × Torn at n earlier image
-before now events content image at n events_is content_is was =
-    (was.0, subst (λ (es : List Event). Images es now.content was.0) events_is (subst (λ (l : List ℕ). Images events l was.0) content_is was.1), was.2)
 
 pub returns-then-is_over-clause-tears : goal.returns-then-is_over-clause-tears
 returns-then-is_over-clause-tears c image left =

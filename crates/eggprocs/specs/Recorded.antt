@@ -1,0 +1,67 @@
+-- What `keepbans` requests: that the bans of the records are kept on the channels. It bans and kicks a person who joins
+-- under such a ban, and sets a sticky ban again that somebody removes.
+use Rattle.std.specs.Prelude.{ℕ, not, ◌&&◌, List, [], ◌∷◌, Bool, unwrap_or, if◌then◌else◌, codes, Option, Some, None}
+use Rattle.userfile.specs.declared.ban.Ban.{Ban}
+use Rattle.userfile.specs.Persons.{ban_for, sticky_ban}
+use Rattle.chanstate.specs.Views.{mapping_of}
+use Rattle.outqueue.specs.declared.queue.Queue.TheVariants.{Mode as mode_queue}
+use Rattle.procs.specs.declared.action.Action.{Action}
+use Rattle.procs.specs.declared.call.Call.{Call}
+use Rattle.procs.specs.Seen.{Seen}
+use Rattle.eggprocs.specs.declared.duties.Duty.TheVariants.{FirstOp}
+use Rattle.eggprocs.specs.Args.{nick_of, channel_of, mode_argument, or_else}
+use Rattle.eggprocs.specs.Askers.{caller_address}
+use Rattle.eggprocs.specs.Channel.{put}
+use Rattle.eggprocs.specs.Keeping.{is_by_bot, is_change_by_others}
+use Rattle.eggprocs.specs.Lines.{mode, kick}
+use Rattle.eggprocs.specs.Rights.{is_join, is_bot_op}
+use Rattle.eggprocs.specs.Turns.{share_out}
+
+-- the second by which a ban has ended or not: 0 before the bot's clock shows one, so that no ban has ended then
+abbrev pub second_of : Seen → ℕ
+second_of seen = unwrap_or seen.second 0
+
+-- the line that sets a ban on the call's channel, with its mask as the records spell it
+abbrev pub ban_line : Call → Ban → Action
+ban_line call ban = put mode_queue (mode (channel_of call) (codes "+b") ban.mask)
+
+-- ---- a person joins
+
+-- whether a caller who joins is to be kept off: not the bot itself, on a channel on which the bot is an operator
+abbrev pub is_newcomer : Call → Seen → Bool
+is_newcomer call seen = is_bot_op call seen && not (is_by_bot call seen)
+
+-- the ban of the records that keeps the caller off the call's channel: the first that has not ended
+abbrev pub ban_on : Call → Seen → Option Ban
+ban_on call seen = ban_for (mapping_of seen.sight.channels) seen.sight.records.bans (channel_of call) (caller_address call) (second_of seen)
+
+-- a kick of the caller, for the ban's comment or else `banned`
+abbrev pub kick_line : Call → Ban → Action
+kick_line call ban = put mode_queue (kick (channel_of call) (nick_of call) (or_else ban.comment (codes "banned")))
+
+abbrev pub kept_off : Call → Option Ban → List Action
+kept_off call None = []
+kept_off call (Some ban) = ban_line call ban ∷ kick_line call ban ∷ []
+
+-- what is requested for a join: the ban on the channel, and a kick; later bots look for both
+abbrev pub asked_for_join : Call → Seen → List Action
+asked_for_join call seen = if is_newcomer call seen then kept_off call (ban_on call seen) else []
+
+-- ---- a ban is removed
+
+-- the sticky ban of the records that a change removes: the first of its mask that has not ended
+abbrev pub ban_back : Call → Seen → Option Ban
+ban_back call seen = sticky_ban (mapping_of seen.sight.channels) seen.sight.records.bans (channel_of call) (mode_argument call) (second_of seen)
+
+abbrev pub set_again : Call → Option Ban → List Action
+set_again call None = []
+set_again call (Some ban) = ban_line call ban ∷ []
+
+-- what is requested for a removal by anybody but the bot: the ban again, by the first bot alone
+abbrev pub asked_for_removal : Call → Seen → List Action
+asked_for_removal call seen =
+    if is_change_by_others (codes "-b") call seen then share_out FirstOp call seen (set_again call (ban_back call seen)) else []
+
+-- what `keepbans` requests
+abbrev pub asked_by_keepbans : Call → Seen → List Action
+asked_by_keepbans call seen = if is_join call.kind then asked_for_join call seen else asked_for_removal call seen
