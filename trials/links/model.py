@@ -45,8 +45,8 @@ def is_account(text):
 
 
 def good_person(text):
-    """nick!user@host."""
-    return good_mask(text) and not is_account(text) and not any(b in b"*?" for b in text)
+    """nick!user@host, or $a:NAME."""
+    return good_mask(text) and not any(b in b"*?" for b in text)
 
 
 def good_channel(text):

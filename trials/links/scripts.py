@@ -627,7 +627,7 @@ WORKED += [
     ("the shape of who asks comes before that of the edit",
      ["leaves 1"] + asks(0, *RANKS[:3]) + ["ask %s" % line for line in (
          "0 as boss adduser al", "0 as *!b@h adduser al", "0 as bos?!b@h ascii adduser al", "1 as boss!bh adduser al",
-         "1 as %s!b@h adduser al" % ("b" * 117), "0 as a*!b@h adduser a*b", "0 as $a:boss adduser al", "0 as boss!b@h adduser a*b",
+         "1 as %s!b@h adduser al" % ("b" * 117), "0 as a*!b@h adduser a*b", "0 as $a:bo*s adduser al", "0 as boss!b@h adduser a*b",
          "0 as who!w@h addhost boss x", "1 as %s!b@h adduser al" % ("b" * 116))] + ["pump 1", "deliver 5"],
      answered(1, 1, 2, 3) + ["0 refused U4"] * 3 + ["1 refused U4"] * 2 + ["0 refused U4"] * 2 + ["0 refused U1", "0 refused U4",
       "1 Queued", "send 4 1>0 Hello 0", "send 5 1>0 Request 1", "1 Sent 1", "send 6 0>1 Refused 1 U12", "0 Refused U12"]),
