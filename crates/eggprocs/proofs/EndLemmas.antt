@@ -96,7 +96,7 @@ ends-are second seen ban lifts deletes ended lift delete ended_is true_is lifts_
 -- ---- each action ends a ban that has ended
 
 -- each of what the elements give is of an element
-all-flat : {X Y : Type 0} (h : X → List Y) (is_of : Y → X → Bool) → ((x : X) → list_all (λ y. is_of y x) (h x) ≡ true)
+pub all-flat : {X Y : Type 0} (h : X → List Y) (is_of : Y → X → Bool) → ((x : X) → list_all (λ y. is_of y x) (h x) ≡ true)
     → (xs : List X) → list_all (λ y. list_any (is_of y) xs) (flat_map h xs) ≡ true
 all-flat h is_of each [] = refl
 all-flat h is_of each (x ∷ xs) =

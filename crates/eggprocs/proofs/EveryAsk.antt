@@ -20,7 +20,7 @@ use Rattle.procs.specs.declared.limits.TheConstants.{MAX_ACTIONS}
 use Rattle.procs.specs.declared.reply.ProcReply.{ProcReply}
 use Rattle.procs.specs.Promises.{IsKept}
 use Rattle.procs.specs.Seen.{Seen}
-use Rattle.eggprocs.specs.declared.duties.Duty.TheVariants.{FirstOp}
+use Rattle.eggprocs.specs.declared.duties.Duty.TheVariants.{FirstOp, TurnsOp}
 use Rattle.eggprocs.specs.declared.proc_name.ProcName.{ProcName}
 use Rattle.eggprocs.specs.declared.proc_name.ProcName.TheVariants as which
 use Rattle.eggprocs.specs.Args.{arg_at, nick_of, channel_of, said_of, last_of, mode_change, mode_argument, timer_text, has_word, or_else}
@@ -30,7 +30,9 @@ use Rattle.eggprocs.specs.Ctcp.{is_request, sender_of, text_of, untagged, answer
 use Rattle.eggprocs.specs.Cycling.{leaver_of, is_made_again, is_left_alone, cycled}
 use Rattle.eggprocs.specs.Dynamic.{is_sticky, later_lift, lifted_at}
 use Rattle.eggprocs.specs.Ends.{call_on, has_ended, lifts_on, is_left, lift_if, delete_if, ends_of, is_minute, all_ends}
+use Rattle.eggprocs.specs.Entries.{closed_channel, is_kept_out, needs_in, may_let_in}
 use Rattle.eggprocs.specs.Everyone.{flags_of_member, is_own_join, gives_bot_op, change_of, mode_for}
+use Rattle.eggprocs.specs.Floods.{is_flood, flood_place, flood_reason, is_nowhere, is_of_nicks, is_flooder, flood_kick, flood_kicks, is_banned, flood_ban, flood_lines, flood_on, floods_all, flood_nowhere}
 use Rattle.eggprocs.specs.Guards.{hits_guarded, removes}
 use Rattle.eggprocs.specs.Infos.{info_by, greeting}
 use Rattle.eggprocs.specs.Keeping.{is_change_here, is_by_bot, is_change_by_others, is_change_by_untrusted, mode_back, takes_op, gives_op, flags_named, op_again, op_undone, is_hit, is_spared, kick_for}
@@ -220,6 +222,39 @@ op_for-known is_so channel None seen = no-asks is_so [] refl
 op_for-known is_so channel (Some member) seen =
     line-if is_so (is_known_bot (flags_of_member (call_on channel) seen member)) mode_queue (mode channel (codes "+o") member.nick)
 
+flood-quiet : (test : Bool) (line : List ℕ) (action : Action) → (if test then Some (put mode_queue line) else None) ≡ Some action → is_ask action ≡ false
+flood-quiet false line action is = cc
+flood-quiet true line action is = sym (ap ask_if is)
+
+floods-quiet : (on call : Call) (seen : Seen) → list_any is_ask (flood_kicks on call seen) ≡ false
+floods-quiet on call seen =
+    let members : List Member = members_in (channel_of on) seen.sight.channels in
+    take-quiet MAX_ACTIONS (filter_map (flood_kick on call seen) members)
+    (given-quiet (flood_kick on call seen)
+    (λ member action is. flood-quiet (is_flooder call member && not (is_spared on seen member)) (kick (channel_of on) member.nick (flood_reason call)) action is) members)
+
+flood_lines-known : (is_so : Change → Type 0) (on call : Call) (seen : Seen) → EachAsk is_so (flood_lines on call seen)
+flood_lines-known is_so on call seen =
+    let kicks : List Action = flood_kicks on call seen in
+    let all : List Action = take MAX_ACTIONS (flood_ban on call ∷ kicks) in
+    each-if is_so (is_banned on call seen) all kicks
+    (no-asks is_so all (take-quiet MAX_ACTIONS (flood_ban on call ∷ kicks) (floods-quiet on call seen)))
+    (no-asks is_so kicks (floods-quiet on call seen))
+
+flood_on-known : (is_so : Change → Type 0) (call : Call) (seen : Seen) (channel : List ℕ) → EachAsk is_so (flood_on channel call seen)
+flood_on-known is_so call seen channel =
+    let lines : List Action = flood_lines (call_on channel) call seen in
+    each-if is_so (is_op_of channel seen) (share_out TurnsOp (call_on channel) seen lines) []
+    (share-asks is_so TurnsOp (call_on channel) seen lines (flood_lines-known is_so (call_on channel) call seen)) (no-asks is_so [] refl)
+
+floods-known : (is_so : Change → Type 0) (call : Call) (seen : Seen) → EachAsk is_so (flood_nowhere call seen)
+floods-known is_so call seen =
+    let channels : List (List ℕ) = channels_with seen.sight.channels.nick seen.sight.channels in
+    each-if is_so (is_of_nicks call) (floods_all call seen) []
+    (each-take is_so MAX_ACTIONS (flat_map (λ channel. flood_on channel call seen) channels)
+    (each-flat is_so (λ channel. flood_on channel call seen) (flood_on-known is_so call seen) channels))
+    (no-asks is_so [] refl)
+
 -- ---- each proc
 
 wanted-known : (w : ProcName) (call : Call) (seen : Seen) → EachAsk (IsNamedOrGivesNothing call seen) (wanted_by w call seen)
@@ -318,6 +353,18 @@ wanted-known which.KeepBans call seen =
     (each-if (IsNamedOrGivesNothing call seen) (is_change_by_others (codes "-b") call seen) (share_out FirstOp call seen again) []
     (share-asks (IsNamedOrGivesNothing call seen) FirstOp call seen again (set_again-known (IsNamedOrGivesNothing call seen) call (ban_back call seen)))
     (no-asks (IsNamedOrGivesNothing call seen) [] refl))
+wanted-known which.KickFloods call seen =
+    let here : List Action = flood_on (flood_place call) call seen in
+    each-if (IsNamedOrGivesNothing call seen) (is_flood call) (if is_nowhere call then flood_nowhere call seen else here) []
+    (each-if (IsNamedOrGivesNothing call seen) (is_nowhere call) (flood_nowhere call seen) here (floods-known (IsNamedOrGivesNothing call seen) call seen)
+    (flood_on-known (IsNamedOrGivesNothing call seen) call seen (flood_place call)))
+    (no-asks (IsNamedOrGivesNothing call seen) [] refl)
+wanted-known which.NeedIn call seen =
+    let text : List Action = needs_in (closed_channel call) seen ∷ [] in
+    each-if (IsNamedOrGivesNothing call seen) (is_kept_out call) text [] (no-asks (IsNamedOrGivesNothing call seen) text refl)
+    (no-asks (IsNamedOrGivesNothing call seen) [] refl)
+wanted-known which.LetIn call seen =
+    line-if (IsNamedOrGivesNothing call seen) (may_let_in call seen) Server (invite (needed_by call) (needed_on call))
 
 -- whatever a proc of any name answers
 pub all-asks : (name : List ℕ) → AsksOnly IsNamedOrGivesNothing name

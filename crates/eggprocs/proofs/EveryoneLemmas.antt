@@ -1,8 +1,9 @@
--- The modes of the first members who lack one.
+-- The first of what the elements of a list give, one element after another.
 use Rattle.std.proofs.Common.{⊎_elim, ◌≡◌, ◌<◌, ◌≤◌, ◌∙◌, ◌+◌, ℕ, List, [], ◌∷◌, ◌++◌, length, take, get_or, zero, suc, Option, Some, None, refl, sym, ap, arith}
-use Rattle.std.specs.List.{filter_map, cons_option}
+use Rattle.std.specs.List.{filter_map, flat_map, cons_option}
 use Rattle.std.specs.Option.{option_to_list}
-use Rattle.std.proofs.lemmas.List.{take_more, take_all, take-append-le, length-take, length-append}
+use Rattle.std.proofs.lemmas.Grind.{flat_map-append}
+use Rattle.std.proofs.lemmas.List.{take_more, take_all, take-append-le, length-take, length-append, append-nil}
 use Rattle.std.proofs.lemmas.Bool.{cases_lt}
 use Rattle.std.proofs.lemmas.List.Elements.{filter_map-append}
 
@@ -49,3 +50,17 @@ first-given-more n h xs count x given before after within at is so_far room full
   where
     few : length before ≤ n
     few = omega (arith, ap length so_far, length-take n (filter_map h (take count xs)))
+
+-- what one element more gives, of a list that each gives
+pub first-lists-more : {X Y : Type 0} (n : ℕ) (h : X → List Y) (xs : List X) (count : ℕ) (x : X) (given before after : List Y)
+    → count < length xs → x ≡ get_or xs count x → given ≡ h x → before ≡ take n (flat_map h (take count xs))
+    → after ≡ take n (before ++ given)
+    → after ≡ take n (flat_map h (take (count + 1) xs))
+first-lists-more n h xs count x given before after within at is so_far grown =
+    grown
+    ∙ ap (λ ys. take n (ys ++ given)) so_far
+    ∙ take-grown n (flat_map h (take count xs)) given
+    ∙ ap (λ ys. take n (flat_map h (take count xs) ++ ys)) (is ∙ sym (append-nil (h x)))
+    ∙ ap (take n) (sym (flat_map-append h (take count xs) (x ∷ [])))
+    ∙ ap (λ y. take n (flat_map h (take count xs ++ y ∷ []))) at
+    ∙ ap (λ ys. take n (flat_map h ys)) (sym (take_more xs count x within))

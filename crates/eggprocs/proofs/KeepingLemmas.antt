@@ -190,7 +190,7 @@ bitch-only call seen =
     (op_undone-only (gives_op call seen) call (flags_named call seen))
 
 -- the bot, and who has one of the letters, are those whom bans spare
-known-spared : (call : Call) (seen : Seen) (member : Member) → is_bot_or_known call seen member ≡ is_spared call seen member
+pub known-spared : (call : Call) (seen : Seen) (member : Member) → is_bot_or_known call seen member ≡ is_spared call seen member
 known-spared call seen member =
     ap (λ (known : Bool). is_self seen member || known) (has_one_of-more FRIEND (flags_of_member call seen member))
 
@@ -271,7 +271,7 @@ guard-trusted call seen trusted reply kept =
     ∙ guard-hits call seen (is_self seen) (guarded-self call seen trusted)
 
 -- a kick is of the member that gives it
-kick-by : (test : Bool) (line : List ℕ) (action : Action) → (if test then Some (put mode_queue line) else None) ≡ Some action
+pub kick-by : (test : Bool) (line : List ℕ) (action : Action) → (if test then Some (put mode_queue line) else None) ≡ Some action
     → (test && is_line_in_turn line action) ≡ true
 kick-by false line action is = cc
 kick-by true line action is = ap (is_line-if line) (sym is) ∙ ap (λ (b : Bool). b || false) (is_line-put line)

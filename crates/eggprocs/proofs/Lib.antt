@@ -3,9 +3,11 @@ pub mod BanLines
 pub mod ChannelLemmas
 pub mod DueLemmas
 pub mod EndLemmas
+pub mod EntryLemmas
 pub mod EveryAsk
 pub mod EveryoneLemmas
 pub mod Firsts
+pub mod FloodLemmas
 pub mod GuardLemmas
 pub mod KeepingLemmas
 pub mod LawLemmas

@@ -26,6 +26,11 @@ none-more p q xs more none = by (list_any p xs) refl
     by false is = refl
     by true is = sym (any-more p q xs more is) ∙ none
 
+-- tests that give each element the same are the same of some
+pub any-same : {X : Type 0} (p q : X → Bool) (xs : List X) → ((x : X) → p x ≡ q x) → list_any p xs ≡ list_any q xs
+any-same p q [] same = refl
+any-same p q (x ∷ xs) same = ap (λ (b : Bool). b || list_any p xs) (same x) ∙ ap (λ (b : Bool). q x || b) (any-same p q xs same)
+
 pub all-of : {X : Type 0} (p q : X → Bool) (xs : List X) → ((x : X) → p x ≡ true → q x ≡ true) → list_all p xs ≡ true → list_all q xs ≡ true
 all-of p q xs more all =
     list_all-from_AllPass q xs (λ k d within. more (get_or xs k d) (AllPass-from_list_all p xs all k d within))

@@ -91,7 +91,7 @@ looks-wait turn call seen (action ∷ actions) = by (look_for turn call seen act
         (here look refl) rest
 
 -- at a later turn there are looks alone
-later-turn : (duty : Duty) (turn : ℕ) (call : Call) (seen : Seen) (wanted : List Action) → 0 < turn
+pub later-turn : (duty : Duty) (turn : ℕ) (call : Call) (seen : Seen) (wanted : List Action) → 0 < turn
     → list_all (is_look_after (turn * LOOK_SECONDS)) (by_turn duty turn call seen wanted) ≡ true
 later-turn duty turn call seen wanted above = by (turn == 0) (has_look duty turn) (not-first turn above)
   where

@@ -6,7 +6,7 @@ use Rattle.eggprocs.specs.declared.proc_name.ProcName.{ProcName}
 use Rattle.eggprocs.specs.declared.proc_name.ProcName.TheVariants.{Quiet, Stop, AddUser, Tick, Tell, Echo, Op, Deop, Voice, Devoice, AutoOp, Kick, Topic, Invite, Ban, Unban, Lift}
 use Rattle.eggprocs.specs.declared.proc_name.ProcName.TheVariants.{PlusUser, MinusUser, PlusHost, MinusHost, Chattr, Whois, Info, Greet, Stick, Unstick, Bans, Seen, OpAll}
 use Rattle.eggprocs.specs.declared.proc_name.ProcName.TheVariants.{ProtectOps, Bitch, Guard, EnforceBans, Later, Expire}
-use Rattle.eggprocs.specs.declared.proc_name.ProcName.TheVariants.{Ctcp, KeepModes, Cycle, DynamicBans, NeedOp, GiveOp, KeepBans}
+use Rattle.eggprocs.specs.declared.proc_name.ProcName.TheVariants.{Ctcp, KeepModes, Cycle, DynamicBans, NeedOp, GiveOp, KeepBans, KickFloods, NeedIn, LetIn}
 use Rattle.eggprocs.specs.Procs.{name_of, which_named, code_if, actions_if, answers_by, ours}
 
 pub which_named-name_of : (which : ProcName) → which_named (name_of which) ≡ Some which
@@ -54,6 +54,9 @@ which_named-name_of DynamicBans = refl
 which_named-name_of NeedOp = refl
 which_named-name_of GiveOp = refl
 which_named-name_of KeepBans = refl
+which_named-name_of KickFloods = refl
+which_named-name_of NeedIn = refl
+which_named-name_of LetIn = refl
 
 pub keeps : (which : ProcName) → KeepsPromise ours (name_of which) (answers_by which)
 keeps which call seen (Ok reply) is = record {

@@ -1,32 +1,39 @@
 -- Laws of the procs that keep a channel by themselves, and of those that answer other programs.
-use Rattle.std.specs.Prelude.{◌≡◌, ◌<◌, ℕ, ◌&&◌, ◌||◌, List, [], ◌∷◌, Bool, true, false, Option, Some, None, codes}
+use Rattle.std.specs.Prelude.{◌≡◌, ◌⊎◌, ◌<◌, ◌*◌, ◌==◌, ℕ, not, ◌&&◌, ◌||◌, List, [], ◌∷◌, ◌++◌, slice_get, Bool, true, false, if◌then◌else◌, Option, Some, None, codes}
 use Rattle.std.specs.List.{list_all, list_any}
 use Rattle.std.specs.Str.{bytes_eq}
 use Rattle.userfile.specs.declared.ban.Ban.{Ban}
 use Rattle.userfile.specs.Persons.{bars, returns_to}
 use Rattle.chanstate.specs.declared.member.Member.{Member}
-use Rattle.chanstate.specs.Views.{mapping_of, member_in, members_in}
+use Rattle.chanstate.specs.Views.{mapping_of, member_in, members_in, channels_with}
+use Rattle.outqueue.specs.declared.queue.Queue.TheVariants.{Mode as mode_queue, Server}
 use Rattle.procs.specs.declared.action.Action.{Action}
+use Rattle.procs.specs.declared.action.Action.TheVariants.{Ask, Timer, Utimer, KillTimer, SendBot, Put}
 use Rattle.procs.specs.declared.call.Call.{Call}
 use Rattle.procs.specs.declared.reply.ProcReply.{ProcReply}
 use Rattle.procs.specs.Promises.{IsKept}
 use Rattle.procs.specs.Seen.{Seen}
 use Rattle.eggprocs.specs.declared.duties.Duty.TheVariants.{TurnsOp}
+use Rattle.eggprocs.specs.declared.looks.TheConstants.{LOOK_SECONDS}
 use Rattle.eggprocs.specs.Args.{nick_of, channel_of, mode_change, mode_argument, or_else}
 use Rattle.eggprocs.specs.Askers.{caller_address}
+use Rattle.eggprocs.specs.Channel.{put}
 use Rattle.eggprocs.specs.Ctcp.{addressee_of, command_of}
 use Rattle.eggprocs.specs.Cycling.{leaver_of, is_self_or}
 use Rattle.eggprocs.specs.Dynamic.{is_sticky}
 use Rattle.eggprocs.specs.Ends.{call_on}
+use Rattle.eggprocs.specs.Entries.{refuses_join, closed_channel}
 use Rattle.eggprocs.specs.Everyone.{is_own_nick, flags_of_member}
+use Rattle.eggprocs.specs.Floods.{is_flood, flooder_of, flood_place, flood_kind, is_nowhere, is_of_joins, is_of_nicks, is_flooder, is_banned}
 use Rattle.eggprocs.specs.Keeping.{is_by_bot, is_change_by_others}
-use Rattle.eggprocs.specs.Laws.{DoesNothing, has_one_of, op_letters, is_line, is_line_in_turn}
-use Rattle.eggprocs.specs.Lines.{mode, plain_mode, kick}
+use Rattle.eggprocs.specs.Laws.{DoesNothing, has_one_of, op_letters, is_bot_or_known, is_line, is_line_in_turn}
+use Rattle.eggprocs.specs.Lines.{mode, plain_mode, kick, invite}
 use Rattle.eggprocs.specs.Modes.{has_plain_reverse, reverse_of, sets_key}
 use Rattle.eggprocs.specs.Needs.{needed_on, needed_by}
 use Rattle.eggprocs.specs.Procs.{ours}
 use Rattle.eggprocs.specs.Recorded.{second_of, ban_line, is_newcomer, ban_on, kick_line, ban_back}
-use Rattle.eggprocs.specs.Rights.{has_bot, is_join, is_change, is_bot_op}
+use Rattle.eggprocs.specs.Rights.{has_bot, is_join, is_change, is_bot_op, is_op_of}
+use Rattle.eggprocs.specs.TurnLaws.{is_look_after}
 use Rattle.eggprocs.specs.Turns.{turn_of}
 
 -- ---- modes
@@ -144,3 +151,82 @@ IsOnlyToBot name = (call : Call) (seen : Seen) → is_own_nick seen (addressee_o
 -- a proc does nothing for a line of any command but PRIVMSG
 abbrev pub IsOnlyForTexts : List ℕ → Type 0
 IsOnlyForTexts name = (call : Call) (seen : Seen) → bytes_eq (command_of call) (codes "PRIVMSG") ≡ false → DoesNothing name call seen
+
+-- ---- floods
+
+-- the channels that the line of a flood is about: its place, or all channels of the bot
+abbrev pub flood_channels : Call → Seen → List (List ℕ)
+flood_channels call seen =
+    if is_nowhere call then channels_with seen.sight.channels.nick seen.sight.channels else flood_place call ∷ []
+
+-- a kick of a member of this channel who has the address of the line, and who is neither the bot nor has one of the flags
+-- o, m, n and f
+abbrev pub is_flood_kick : List ℕ → Call → Seen → Action → Member → Bool
+is_flood_kick channel call seen action member =
+    (is_flooder call member && not (is_bot_or_known (call_on channel) seen member))
+    && is_line_in_turn (kick channel member.nick (codes "flood of " ++ flood_kind call)) action
+
+-- the ban of the address for a flood of joins, if no member who is the bot or has one of these flags has that address
+abbrev pub is_flood_ban : List ℕ → Call → Seen → Action → Bool
+is_flood_ban channel call seen action =
+    (is_of_joins call
+    && not (list_any (λ member. is_flooder call member && is_bot_or_known (call_on channel) seen member) (members_in channel seen.sight.channels)))
+    && is_line_in_turn (mode channel (codes "+b") (codes "*!" ++ flooder_of call)) action
+
+-- such a kick, or such a ban, on a channel on which the bot is an operator
+abbrev pub is_flood_line : Call → Seen → Action → List ℕ → Bool
+is_flood_line call seen action channel =
+    is_op_of channel seen
+    && (list_any (is_flood_kick channel call seen action) (members_in channel seen.sight.channels) || is_flood_ban channel call seen action)
+
+-- the same for some channel of the flood
+abbrev pub is_against_flood : Call → Seen → Action → Bool
+is_against_flood call seen action = list_any (is_flood_line call seen action) (flood_channels call seen)
+
+-- a proc does nothing for a flood on no channel, unless it is one of changes of the nick
+abbrev pub LeavesOtherFloods : List ℕ → Type 0
+LeavesOtherFloods name =
+    (call : Call) (seen : Seen) → is_nowhere call ≡ true → is_of_nicks call ≡ false → DoesNothing name call seen
+
+-- a later bot does nothing but look, five seconds later for each turn
+abbrev pub LooksAfterFloods : List ℕ → Type 0
+LooksAfterFloods name =
+    (call : Call) (seen : Seen) → is_nowhere call ≡ false → 0 < turn_of TurnsOp (call_on (flood_place call)) seen
+    → (reply : ProcReply) → IsKept ours name call seen reply
+    → list_all (is_look_after (turn_of TurnsOp (call_on (flood_place call)) seen * LOOK_SECONDS)) reply.actions ≡ true
+
+-- the first bot bans the address of a flood of joins, if bans spare nobody of it, before it does anything else
+abbrev pub BansJoiners : List ℕ → Type 0
+BansJoiners name =
+    (call : Call) (seen : Seen) → is_flood call ≡ true → is_nowhere call ≡ false → is_op_of (flood_place call) seen ≡ true
+    → is_banned (call_on (flood_place call)) call seen ≡ true → turn_of TurnsOp (call_on (flood_place call)) seen ≡ 0
+    → (reply : ProcReply) → IsKept ours name call seen reply
+    → slice_get reply.actions 0 ≡ Some (put mode_queue (mode (flood_place call) (codes "+b") (codes "*!" ++ flooder_of call)))
+
+-- ---- entries
+
+-- one invitation of the nick and to the channel that a text names, where the bot is an operator and nobody of that nick is
+pub record IsInvitation (call : Call) (seen : Seen) (actions : List Action) : Type 0 where
+  pub by_op : is_op_of (needed_on call) seen ≡ true
+  pub outside : member_in (needed_on call) (needed_by call) seen.sight.channels ≡ None
+  pub one : actions ≡ put Server (invite (needed_by call) (needed_on call)) ∷ []
+
+-- whatever the proc of this name answers, it requests nothing, or one such invitation
+abbrev pub InvitesWhoIsNamed : List ℕ → Type 0
+InvitesWhoIsNamed name =
+    (call : Call) (seen : Seen) (reply : ProcReply) → IsKept ours name call seen reply
+    → (reply.actions ≡ []) ⊎ IsInvitation call seen reply.actions
+
+-- the text to the hub that names the channel of the line and the bot's own nick
+abbrev pub is_entry_text : Call → Seen → Action → Bool
+is_entry_text call seen (SendBot wish) =
+    (wish.to == 0) && bytes_eq wish.text (codes "needin " ++ closed_channel call ++ codes " " ++ seen.sight.channels.nick)
+is_entry_text call seen (Ask change) = false
+is_entry_text call seen (Timer wish) = false
+is_entry_text call seen (Utimer wish) = false
+is_entry_text call seen (KillTimer name) = false
+is_entry_text call seen (Put wish) = false
+
+-- a proc does nothing for a line that refuses no JOIN
+abbrev pub IsOnlyForRefusals : List ℕ → Type 0
+IsOnlyForRefusals name = (call : Call) (seen : Seen) → refuses_join (command_of call) ≡ false → DoesNothing name call seen

@@ -11,7 +11,9 @@ use crate::ctcp::asked_by_ctcp;
 use crate::cycling::asked_by_cycle;
 use crate::dynamic::asked_by_dynamicbans;
 use crate::ends::asked_by_expire;
+use crate::entries::{asked_by_letin, asked_by_needin};
 use crate::everyone::asked_by_opall;
+use crate::floods::asked_by_kickfloods;
 use crate::guards::asked_by_guard;
 use crate::infos::{asked_by_greet, asked_by_info};
 use crate::keeping::{asked_by_bitch, asked_by_enforcebans, asked_by_protectops};
@@ -97,5 +99,8 @@ fn wanted_by(
         ProcName::NeedOp => asked_by_needop(alloc, call, view),
         ProcName::GiveOp => asked_by_giveop(alloc, call, view),
         ProcName::KeepBans => asked_by_keepbans(alloc, call, view),
+        ProcName::KickFloods => asked_by_kickfloods(alloc, call, view),
+        ProcName::NeedIn => asked_by_needin(alloc, call, view),
+        ProcName::LetIn => asked_by_letin(alloc, call, view),
     }
 }

@@ -1,7 +1,8 @@
-// Laws of the procs that keep a channel by themselves, and of those that answer other programs.
+// Laws of the procs that keep a channel by themselves, and of those that answer other bots and programs.
 ghost use Rattle.std.specs.Prelude.{codes};
 ghost use Rattle.eggprocs.specs.Laws.{DoesOnly, IsOnlyByOps, IsOnlyForOthers};
 ghost use Rattle.eggprocs.specs.ChannelLaws.{is_reverse, is_gift, LeavesNobodyBehind, IsOnlyWithoutOp, IsOnlyForOwn, SparesSticky, IsOnlyToBot, IsOnlyForTexts};
+ghost use Rattle.eggprocs.specs.ChannelLaws.{is_against_flood, LeavesOtherFloods, LooksAfterFloods, BansJoiners, InvitesWhoIsNamed, is_entry_text, IsOnlyForRefusals};
 ghost use Rattle.eggprocs.specs.ChannelLaws.{is_kept, SparesUnbanned, KeepsOff, SetsAgain, LeavesRemovalsToTheFirst};
 
 /// A law; calling it does nothing. `keepmodes` does nothing but undo the change that it is called for, by what the server
@@ -52,6 +53,37 @@ pub fn recorded_bans_are_kept()
 /// `n` everywhere or on the channel.
 pub fn bots_give_op_to_known_bots()
     ensures giveop { DoesOnly is_gift (codes "giveop") }
+{}
+
+/// A law; calling it does nothing. `kickfloods` kicks who floods a channel, and nobody else:
+///
+/// - It kicks only members whose `user@host` is that of the line, in the lower case of ASCII, and neither the bot nor a
+///   member who has one of the flags `o`, `m`, `n` and `f`, everywhere or on that channel.
+/// - It bans only the address of the line, only for a flood of joins, and only if no such member has that address.
+/// - It does both only on channels of the flood on which the bot is an operator: on the channel that the line names, or,
+///   for a change of the nick, on each channel of the bot. It does nothing for any other flood on no channel.
+/// - If the bot comes first, it bans before it kicks. If another bot comes first, it only looks later
+///   ([`bots_take_turns`](crate::bots_take_turns)).
+///
+/// It does nothing else.
+pub fn floods_spare_operators()
+    ensures kickfloods { DoesOnly is_against_flood (codes "kickfloods") }
+    ensures nowhere { LeavesOtherFloods (codes "kickfloods") }
+    ensures later { LooksAfterFloods (codes "kickfloods") }
+    ensures joins { BansJoiners (codes "kickfloods") }
+{}
+
+/// A law; calling it does nothing. `letin` requests nothing but one invitation: of the nick and to the channel that the
+/// text of the other bot names, where this bot is an operator and no member has that nick.
+pub fn bots_invite_who_is_named()
+    ensures letin { InvitesWhoIsNamed (codes "letin") }
+{}
+
+/// A law; calling it does nothing. `needin` requests nothing but a text to the hub, which names the channel of the line
+/// and the bot's own nick. It does nothing for a line that refuses no JOIN: for any but 471, 473, 474 and 475.
+pub fn bots_ask_to_be_let_in()
+    ensures needin { DoesOnly is_entry_text (codes "needin") }
+    ensures refused { IsOnlyForRefusals (codes "needin") }
 {}
 
 /// A law; calling it does nothing. `ctcp` does nothing for a line to a channel or to another nick, and nothing for a line

@@ -37,7 +37,7 @@ pub(crate) fn asked_by_ctcp(
 }
 
 // Whether a call is for a line of the server.
-fn is_raw(kind: CallKind) -> bool
+pub(crate) fn is_raw(kind: CallKind) -> bool
     ensures { result ≡ is_raw kind }
 {
     matches!(kind, CallKind::Raw)
@@ -54,7 +54,7 @@ fn sender_of(call: &Call) -> Option<&[u8]>
 }
 
 // The command of the line.
-fn command_of(call: &Call) -> &[u8]
+pub(crate) fn command_of(call: &Call) -> &[u8]
     ensures { result.now ≡ command_of call.now }
 {
     arg_at(call.args.as_slice(), 1)
@@ -75,7 +75,7 @@ fn text_of(call: &Call) -> &[u8]
 }
 
 // A last parameter without the colon that may mark it.
-fn without_colon(text: &[u8]) -> &[u8]
+pub(crate) fn without_colon(text: &[u8]) -> &[u8]
     ensures { result.now ≡ without_colon text.now }
 {
     if !text.is_empty() && text[0] == b':' {

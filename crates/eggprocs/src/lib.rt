@@ -111,6 +111,8 @@
 //! | `needop` | timers | the bot is on the text's CHANNEL | the same |
 //! | `needop` | `time`, `cron` | | the same for the first eight channels |
 //! | `giveop` | `bot` | the text is WORD CHANNEL NICK | `MODE CHANNEL +o NICK` |
+//! | `needin` | `raw` | a server refuses the bot's JOIN, by 471, 473, 474 or 475 | `needin CHANNEL NICK` to the hub, with the bot's own nick |
+//! | `letin` | `bot` | the text is WORD CHANNEL NICK | `INVITE NICK CHANNEL` |
 //!
 //! - `cycle` does nothing if the bot is an operator ([`cycles_leave_nobody_behind`]). It leaves alone channels that have no
 //!   operators, whose names begin with `+`, and those that nobody can make again, whose names begin with `!`.
@@ -118,19 +120,35 @@
 //!   is no bot to ask).
 //! - `giveop` gives op only if the bot is an operator, and NICK is a member with the flag `b` everywhere and one of `o`,
 //!   `m` and `n` ([`bots_give_op_to_known_bots`]). Bind it to the word `needop` at the hub.
+//! - `needin` does nothing for any other line ([`bots_ask_to_be_let_in`]). At the hub it reports S7, as `needop` does.
+//! - `letin` invites only if the bot is an operator, and NICK is no member of the channel ([`bots_invite_who_is_named`]).
+//!   Nobody who is not there has a host that the bot knows, so it invites whatever nick a bot of the net names. Bind it to
+//!   the word `needin` at the hub. An invitation lets the bot in where only the invited are, or where it is banned, on
+//!   networks on which it does so.
 //!
-//! For lines of the server:
+//! For lines of the server, and for those that the bot's own process puts in:
 //!
 //! | Proc | Kind | Line | What it requests |
 //! |---|---|---|---|
 //! | `ctcp` | `raw` | `PRIVMSG BOT :\x01VERSION\x01` | `NOTICE NICK :\x01VERSION eggnet\x01` |
 //! | `ctcp` | `raw` | the same with `PING ARGUMENT` | ARGUMENT given back, if it has at most [`MAX_PING`] bytes |
 //! | `ctcp` | `raw` | the same with `TIME` | the time of the day in UTC, as `TIME 01:46:40 UTC` |
+//! | `kickfloods` | `raw` | `FLOOD USER@HOST CHANNEL :KIND` | `KICK CHANNEL NICK :flood of KIND`, for members of this address without `o` and `f` |
+//! | `kickfloods` | `raw` | the same with the KIND `joins` | `MODE CHANNEL +b *!USER@HOST`, and then these kicks |
+//! | `kickfloods` | `raw` | `FLOOD USER@HOST * :nick changes` | these kicks on all channels of the bot |
 //!
 //! - These are requests of the Client-To-Client Protocol, which call no other bind. NICK is the person who sends the line.
 //!   `ctcp` answers 0, so the bot takes the line as any other.
 //! - `ctcp` does nothing for a line to a channel, a NOTICE or a server ([`requests_are_to_the_bot`]), and nothing for `TIME`
 //!   before the bot's clock shows a second.
+//! - The process puts in a line FLOOD when somebody passes a limit of floods. No server sends such a line. USER@HOST is in
+//!   the lower case of ASCII, and `kickfloods` compares the addresses of members so.
+//! - `kickfloods` kicks the first eight such members, in the order in which they came, and never the bot itself. A ban
+//!   leaves room for seven kicks. On all channels together it requests eight lines.
+//! - `kickfloods` bans nobody if the bot, or a member with `o` or `f`, has the address. It bans also if nobody of the
+//!   address is there any more. It spares these members as `enforcebans` does, by the account or the host
+//!   ([`floods_spare_operators`]).
+//! - `kickfloods` does nothing for any other KIND with `*`, and nothing on a channel on which the bot is no operator.
 //!
 //! In private messages, for callers who have one of the flags `m` and `n` everywhere. Anyone else gets a NOTICE that
 //! says so, and no change ([`changes_want_a_master`]). An owner is a user with the flag `n`, and a master one with `m`. A
@@ -187,7 +205,7 @@
 //!
 //! | Procs | Hands that count | At rank 0 | At rank 1 and above |
 //! |---|---|---|---|
-//! | `op`, `deop`, `voice`, `devoice`, `autoop`, `kick`, `protectops`, `bitch`, `enforcebans`, `keepbans` for a join | operators | at once | a look |
+//! | `op`, `deop`, `voice`, `devoice`, `autoop`, `kick`, `protectops`, `bitch`, `enforcebans`, `kickfloods`, `keepbans` for a join | operators | at once | a look |
 //! | `opall` | all | at once | a look |
 //! | `topic`, `invite`, `ban`, `unban`, `keepmodes`, `keepbans` for `-b` | operators | at once | nothing |
 //! | `greet`, `echo`, and `seen` and `adduser` on a channel | all | at once | nothing |
@@ -207,6 +225,7 @@
 //! - No look is made for a nick that is not on the channel, except for a caller who joins.
 //! - A look sees the channel as it is then, and not what happened since. So a member who is kicked and joins again within
 //!   the five seconds is kicked once more.
+//! - The ban of `kickfloods` has no look, since it names no member. So only the bot of rank 0 sets it.
 //! - `ban`, `unban`, `guard` and `keepbans` for `-b` have no looks, since a bot does not know the list of a channel's bans.
 //!   So nobody sets a ban again that the first bot itself removes.
 //! - A restart loses the timers of looks like all timers of a bot.
@@ -214,7 +233,7 @@
 //! - A member with the flag `b` who is no bot of the net delays the bots whose nicks come later by five seconds. If its
 //!   nick is the first, nobody greets or answers. So give that flag to bots of the net alone.
 //! - The other procs are each bot's own: those of private messages, `lift`, `later`, `expire`, `dynamicbans`, `cycle`,
-//!   `needop`, `giveop`, `ctcp`, `tick`, `tell`, `quiet` and `stop`.
+//!   `needop`, `giveop`, `needin`, `letin`, `ctcp`, `tick`, `tell`, `quiet` and `stop`.
 //!
 //! To try things out with, for any caller:
 //!
@@ -247,7 +266,9 @@ mod duties;
 mod dynamic;
 mod effects;
 mod ends;
+mod entries;
 mod everyone;
+mod floods;
 mod full_store;
 mod guards;
 mod hands;
@@ -274,7 +295,8 @@ mod whereabouts;
 pub use crate::bans::UTIMER_MINUTES;
 pub use crate::body::EggProc;
 pub use crate::channel_laws::{
-    bots_give_op_to_known_bots, cycles_leave_nobody_behind, dynamic_bans_are_the_bots_own,
+    bots_ask_to_be_let_in, bots_give_op_to_known_bots, bots_invite_who_is_named,
+    cycles_leave_nobody_behind, dynamic_bans_are_the_bots_own, floods_spare_operators,
     modes_are_set_back, recorded_bans_are_kept, requests_are_to_the_bot,
 };
 pub use crate::ctcp::MAX_PING;

@@ -165,21 +165,21 @@ fn may_give(call: &Call, view: &View<'_>) -> bool
 }
 
 // Whether a call is for a text of another bot.
-fn is_bot_text(kind: CallKind) -> bool
+pub(crate) fn is_bot_text(kind: CallKind) -> bool
     ensures { result ≡ is_bot_text kind }
 {
     matches!(kind, CallKind::Bot)
 }
 
 // The channel for which a text asks for op.
-fn needed_on(call: &Call) -> &[u8]
+pub(crate) fn needed_on(call: &Call) -> &[u8]
     ensures { result.now ≡ needed_on call.now }
 {
     first_word(arg_at(call.args.as_slice(), 2))
 }
 
 // The nick for which a text asks for op.
-fn needed_by(call: &Call) -> &[u8]
+pub(crate) fn needed_by(call: &Call) -> &[u8]
     ensures { result.now ≡ needed_by call.now }
 {
     first_word(after_word(arg_at(call.args.as_slice(), 2)))

@@ -6,7 +6,7 @@ use crate::duties::Duty;
 use procs::Code;
 
 /// The number of procs.
-pub const PROC_COUNT: usize = 43;
+pub const PROC_COUNT: usize = 46;
 
 /// Every proc, in the order in which [`store`](crate::store) adds them.
 pub const EVERY: [ProcName; PROC_COUNT] = [
@@ -53,6 +53,9 @@ pub const EVERY: [ProcName; PROC_COUNT] = [
     ProcName::NeedOp,
     ProcName::GiveOp,
     ProcName::KeepBans,
+    ProcName::KickFloods,
+    ProcName::NeedIn,
+    ProcName::LetIn,
 ];
 
 /// A proc of the programs. The crate's first page says what each is for.
@@ -144,6 +147,12 @@ pub enum ProcName {
     GiveOp,
     /// `keepbans`: bans and kicks a person who joins under a ban of the records, and sets a sticky one again.
     KeepBans,
+    /// `kickfloods`: kicks who floods.
+    KickFloods,
+    /// `needin`: asks the hub to be let in to a channel.
+    NeedIn,
+    /// `letin`: invites another bot that asks for it.
+    LetIn,
 }
 
 impl ProcName {
@@ -195,6 +204,9 @@ impl ProcName {
             ProcName::NeedOp => b"needop",
             ProcName::GiveOp => b"giveop",
             ProcName::KeepBans => b"keepbans",
+            ProcName::KickFloods => b"kickfloods",
+            ProcName::NeedIn => b"needin",
+            ProcName::LetIn => b"letin",
         }
     }
 
@@ -246,7 +258,10 @@ impl ProcName {
             | ProcName::DynamicBans
             | ProcName::NeedOp
             | ProcName::GiveOp
-            | ProcName::KeepBans => Code::Zero,
+            | ProcName::KeepBans
+            | ProcName::KickFloods
+            | ProcName::NeedIn
+            | ProcName::LetIn => Code::Zero,
         }
     }
     /// Returns who of the bots on a channel does what the proc requests there.
@@ -293,7 +308,10 @@ impl ProcName {
             | ProcName::Cycle
             | ProcName::DynamicBans
             | ProcName::NeedOp
-            | ProcName::GiveOp => Duty::Each,
+            | ProcName::GiveOp
+            | ProcName::KickFloods
+            | ProcName::NeedIn
+            | ProcName::LetIn => Duty::Each,
         }
     }
 }
