@@ -294,11 +294,12 @@ answers-if call seen member event user about by shows is = λ reply kept.
 
 pub whois-known : NamesWhomBindsKnow (codes "whois")
 whois-known call seen member event user about by shows is = (
-    ap (λ (personal : Bool). (person_if personal mapping users event).flags) by.personal
-    ∙ ap (λ (handle : List ℕ). flags_on users handle event.channel) (sym here),
-    λ reply kept. answers-if call seen member event (Some user) about by shows is reply kept
-    ∙ ap (λ (handle : List ℕ). told call (member_shown member ++ codes " is " ++ handle ++ codes " by the " ++ means_of user member seen) ∷ [])
-    (sym (handle-behind member seen event by)))
+  ap (λ (personal : Bool). (person_if personal mapping users event).flags) by.personal
+      ∙ ap (λ (handle : List ℕ). flags_on users handle event.channel) (sym here),
+  λ reply kept. answers-if call seen member event (Some user) about by shows is reply kept
+      ∙ ap (λ (handle : List ℕ). told call (member_shown member ++ codes " is " ++ handle ++ codes " by the " ++ means_of user member seen) ∷ [])
+      (sym (handle-behind member seen event by)),
+)
   where
     mapping : Casemapping
     mapping = mapping_of seen.sight.channels

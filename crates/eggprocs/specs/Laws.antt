@@ -4,6 +4,7 @@ use Rattle.std.specs.List.{list_all, list_any}
 use Rattle.std.specs.Str.{bytes_eq}
 use Rattle.bytetext.specs.Words.{after_word}
 use Rattle.flagexpr.specs.Letters.{has_letter}
+use Rattle.rfccase.specs.declared.casemappings.Casemapping.{Casemapping}
 use Rattle.userfile.specs.declared.change.Change.{Change}
 use Rattle.userfile.specs.declared.edit.Edit.{Edit}
 use Rattle.userfile.specs.declared.edit.Edit.TheVariants.{AddUser, DelUser, AddHost, DelHost, SetGlobal, SetChan, SetBot, AddBan, DelBan, SetInfo, SetSticky}
@@ -12,7 +13,8 @@ use Rattle.userfile.specs.declared.flags.PersonFlags.{PersonFlags}
 use Rattle.userfile.specs.declared.user.User.{User}
 use Rattle.userfile.specs.Apply.{refusal}
 use Rattle.userfile.specs.Held.{user_of}
-use Rattle.userfile.specs.Persons.{user_for}
+use Rattle.userfile.specs.Hostmasks.{is_match, literals}
+use Rattle.userfile.specs.Persons.{claims, is_most, user_for}
 use Rattle.userfile.specs.Rights.{may}
 use Rattle.chanstate.specs.declared.event.IrcEvent.{IrcEvent}
 use Rattle.chanstate.specs.declared.member.Member.{Member}
@@ -34,7 +36,7 @@ use Rattle.eggprocs.specs.Everyone.{is_own_join, address_of, flags_of_member}
 use Rattle.eggprocs.specs.Infos.{info_by}
 use Rattle.eggprocs.specs.Keeping.{is_by_bot, is_by_server, is_by_trusted, flags_named, is_hit, is_self}
 use Rattle.eggprocs.specs.Lines.{mode, kick}
-use Rattle.eggprocs.specs.People.{told, for_masters, has_host, name_asked, member_called, account_by, is_by_account, member_shown, means_of, strange_account}
+use Rattle.eggprocs.specs.People.{told, for_masters, has_host, name_asked, member_called, account_by, is_by_account, member_shown, means_of, deciding_mask, strange_account}
 use Rattle.eggprocs.specs.Procs.{ours}
 use Rattle.eggprocs.specs.Rights.{flags_by, has_flag, has_bot, global_by, is_bot_op, standing_of}
 use Rattle.eggprocs.specs.Turns.{turn_of}
@@ -192,6 +194,15 @@ LeavesStrangers name =
     → AsksAbout call seen member → IsEventBy member seen event → (is_by_account member seen || has_host member) ≡ true
     → user_behind event seen ≡ None
     → Answers name call seen (member_shown member ++ codes " is known to no user" ++ strange_account member seen)
+
+-- The hostmask that is named for the user whom a person is decides that: it is one of the user's, it matches, and no
+-- hostmask of anybody that matches has more literals.
+abbrev pub NamesTheDecider : Type 0
+NamesTheDecider =
+    (mapping : Casemapping) (users : List User) (who : List ℕ) (user : User) → user_for mapping who users ≡ Some user
+    → (list_any (bytes_eq (deciding_mask mapping who user.masks)) user.masks ≡ true)
+    × ((is_match mapping (deciding_mask mapping who user.masks) who ≡ true)
+    × (is_most (literals (deciding_mask mapping who user.masks)) (claims mapping who users) ≡ true))
 
 -- for a caller who has neither m nor n everywhere, a proc says that it is for masters, or nothing
 abbrev pub TellsOnlyMasters : List ℕ → Type 0

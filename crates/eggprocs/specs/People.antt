@@ -158,14 +158,20 @@ abbrev pub handle_seen : Member → Seen → List ℕ
 handle_seen member seen =
     handle_by (mapping_of seen.sight.channels) seen.sight.records.users (account_by member seen) (address_of member)
 
+-- whether a hostmask does not match a person, or has at most this many literals
+abbrev pub is_under : Casemapping → List ℕ → ℕ → List ℕ → Bool
+is_under mapping who most mask = not (is_match mapping mask who) || nat_le (literals mask) most
+
 -- whether a hostmask matches a person, and none of these hostmasks that match has more literals
 abbrev pub has_most : Casemapping → List ℕ → List (List ℕ) → List ℕ → Bool
-has_most mapping who masks mask =
-    is_match mapping mask who && list_all (λ other. not (is_match mapping other who) || nat_le (literals other) (literals mask)) masks
+has_most mapping who masks mask = is_match mapping mask who && list_all (is_under mapping who (literals mask)) masks
 
 -- the hostmask of a user that decides: of those that match, the first with most literals
+abbrev pub mask_found : Casemapping → List ℕ → List (List ℕ) → Option (List ℕ)
+mask_found mapping who masks = find (has_most mapping who masks) masks
+
 abbrev pub deciding_mask : Casemapping → List ℕ → List (List ℕ) → List ℕ
-deciding_mask mapping who masks = unwrap_or (find (has_most mapping who masks) masks) []
+deciding_mask mapping who masks = unwrap_or (mask_found mapping who masks) []
 
 -- NICK (nick!user@host)
 abbrev pub address_shown : Member → List ℕ

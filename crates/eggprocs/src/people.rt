@@ -1,10 +1,11 @@
 // The procs by which masters change the userfile, and ask who somebody is.
 ghost use Rattle.std.specs.Prelude.{◌≡◌, ◌∷◌, [], ◌++◌, find, IfOk};
+ghost use Rattle.std.specs.List.{list_all};
 ghost use Rattle.std.specs.Option.{option_copied};
 ghost use Rattle.eggprocs.specs.Everyone.{address_of};
 ghost use Rattle.eggprocs.specs.People.{told, asked_by_command, asked_by_master, asked_for, asked_unless, plus_user, minus_user, plus_host, minus_host, chattr};
 ghost use Rattle.eggprocs.specs.People.{listed, info_text, described, has_host, shows_host, best_channel, member_if, account_by, is_by_account, handle_seen};
-ghost use Rattle.eggprocs.specs.People.{has_most, deciding_mask, member_shown, means_of, recognized, strange_account, recognized_if, identified, identified_if};
+ghost use Rattle.eggprocs.specs.People.{is_under, has_most, mask_found, deciding_mask, member_shown, means_of, recognized, strange_account, recognized_if, identified, identified_if};
 ghost use Rattle.eggprocs.specs.People.{name_asked, whois, asked_by_whois};
 ghost use Rattle.eggprocs.specs.Rights.{standing_of};
 
@@ -189,7 +190,8 @@ pub(crate) fn asked_by_whois(
     ensures { IfOk result (λ actions.
         actions ≡ asked_by_whois (standing_of call.now view.now) call.now view.now) }
 {
-    match standing_of(call, view) {
+    let standing = standing_of(call, view);
+    match standing {
         Requester::Elsewhere => Ok(Actions::empty(alloc)),
         Requester::Stranger => only_told(alloc, call, FOR_MASTERS),
         Requester::Master => {
@@ -424,26 +426,44 @@ fn means_of(alloc: Global, user: &User, member: &Member, view: &View<'_>) -> Res
     of_two(alloc, b"hostmask ", mask)
 }
 
-// The hostmask of a user that decides: of those that match, the first with most literals.
+// The hostmask of a user that decides.
 fn deciding_mask<'a>(mapping: Casemapping, who: &[u8], masks: &'a [Hostmask]) -> &'a [u8]
     ensures { result.now ≡ deciding_mask mapping who.now masks.now }
 {
-    match masks
-        .iter()
-        .find(|mask| has_most(mapping, who, masks, mask))
-    {
+    match mask_found(mapping, who, masks) {
         Some(mask) => mask.as_bytes(),
         None => b"",
     }
+}
+
+// Of the hostmasks that match a person, the first with most literals.
+fn mask_found<'a>(mapping: Casemapping, who: &[u8], masks: &'a [Hostmask]) -> Option<&'a Hostmask>
+    ensures { option_copied result ≡ mask_found mapping who.now masks.now }
+{
+    masks
+        .iter()
+        .find(|mask| has_most(mapping, who, masks, mask))
 }
 
 // Whether a hostmask matches a person, and none of these hostmasks that match has more literals.
 fn has_most(mapping: Casemapping, who: &[u8], masks: &[Hostmask], mask: &Hostmask) -> bool
     ensures { result ≡ has_most mapping who.now masks.now mask.now }
 {
-    mask.matches(mapping, who)
-        && masks.iter().all(|other| !other.matches(mapping, who)
-            || other.literals() <= mask.literals())
+    mask.matches(mapping, who) && are_under(mapping, who, mask.literals(), masks)
+}
+
+// Whether none of these hostmasks that match a person has more than this many literals.
+fn are_under(mapping: Casemapping, who: &[u8], most: u8, masks: &[Hostmask]) -> bool
+    ensures { result ≡ list_all (is_under mapping who.now most) masks.now }
+{
+    masks.iter().all(|mask| is_under(mapping, who, most, mask))
+}
+
+// Whether a hostmask does not match a person, or has at most this many literals.
+fn is_under(mapping: Casemapping, who: &[u8], most: u8, mask: &Hostmask) -> bool
+    ensures { result ≡ is_under mapping who.now most mask.now }
+{
+    !mask.matches(mapping, who) || mask.literals() <= most
 }
 
 // The account of a member who is known to no user, if there is one.
