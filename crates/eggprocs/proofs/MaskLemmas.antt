@@ -10,7 +10,7 @@ use Rattle.std.proofs.lemmas.Slice.Eq.{bytes_eq-Decides}
 use Rattle.rfccase.specs.declared.casemappings.Casemapping.{Casemapping}
 use Rattle.userfile.specs.declared.user.User.{User}
 use Rattle.userfile.specs.Hostmasks.{is_match, literals}
-use Rattle.userfile.specs.Persons.{Claim, claim, claims_of, claims, is_most, decider, user_for}
+use Rattle.userfile.specs.Persons.{Claim, claim, claims_of, claims, is_most, decider}
 use Rattle.eggprocs.specs.Laws.{NamesTheDecider}
 use Rattle.eggprocs.specs.People.{is_under, has_most, deciding_mask}
 use Rattle.eggprocs.proofs.Lists.{all-of}

@@ -1,5 +1,5 @@
 -- By what `whois` knows a member: the account that decides, or the hostmask.
-use Rattle.std.proofs.Common.{◌≡◌, ◌↔◌, ◌∙◌, ℕ, nat_lt, Bool, true, false, not, ◌&&◌, ◌||◌, ◌==◌, cond, if◌then◌else◌, List, [], ◌∷◌, ◌++◌, refl, sym, ap, subst, true≢false, codes}
+use Rattle.std.proofs.Common.{◌≡◌, ◌↔◌, ◌∙◌, ℕ, nat_lt, Bool, true, false, not, ◌&&◌, ◌||◌, ◌==◌, if◌then◌else◌, List, [], ◌∷◌, ◌++◌, refl, sym, ap, subst, true≢false, codes}
 use Rattle.std.specs.Prelude.{IsTrue}
 use Rattle.std.specs.List.{list_all}
 use Rattle.std.proofs.lemmas.Bool.{and_parts, false_from_ne_true, or_right}
@@ -44,7 +44,7 @@ claim-known : (mapping : Casemapping) (users : List User) (account who : List �
 claim-known mapping users account who false same is bang test = ap not (test.1 refl)
 claim-known mapping users account who true same is bang test =
     ap not (false_from_ne_true same (λ equal.
-        true≢false (sym bang ∙ ap has_bang (sym (test.0 equal)) ∙ known-account mapping users account is)))
+    true≢false (sym bang ∙ ap has_bang (sym (test.0 equal)) ∙ known-account mapping users account is)))
 
 -- a member's claim is not the address exactly if a user has a hostmask of the account
 pub by-account : (mapping : Casemapping) (users : List User) (account who claim : List ℕ) (member : Member) (same : Bool)

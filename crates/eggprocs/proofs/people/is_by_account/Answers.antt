@@ -2,7 +2,6 @@ use Rattle.std.proofs.Common.{◌≡◌, ◌↔◌, ◌∙◌, List, ℕ, ap, su
 use Rattle.std.specs.Prelude.{IsTrue}
 use Rattle.rfccase.specs.declared.casemappings.Casemapping.{Casemapping}
 use Rattle.userfile.specs.Records.{Records}
-use Rattle.chanstate.specs.declared.state.ChanState.{ChanState}
 use Rattle.chanstate.specs.Views.{mapping_of}
 use Rattle.procs.specs.Identity.{claim_by, is_known_account}
 use Rattle.eggprocs.specs.People.{account_by}
