@@ -1,5 +1,5 @@
 -- Who is not heeded, and what is asked for then.
-use Rattle.std.proofs.Common.{◌≡◌, ◌∙◌, ◌&&◌, ◌||◌, ◌==◌, ◌∷◌, ◌++◌, not, ℕ, List, [], length, map, take, drop, Bool, true, false, refl, ap, sym, codes, if◌then◌else◌, Option, Some, None}
+use Rattle.std.proofs.Common.{◌≡◌, ◌⊎◌, inl, inr, ◌∙◌, ◌&&◌, ◌||◌, ◌==◌, ◌∷◌, ◌++◌, not, ℕ, List, [], length, map, take, drop, Bool, true, false, refl, ap, sym, subst, codes, if◌then◌else◌, Option, Some, None}
 use Rattle.std.specs.Prelude.{is_some}
 use Rattle.std.proofs.lemmas.Slice.Eq.{bytes_eq-Decides}
 use Rattle.std.specs.List.{list_all, list_any}
@@ -14,15 +14,22 @@ use Rattle.userfile.specs.Apply.{refusal}
 use Rattle.userfile.specs.Records.{Records}
 use Rattle.userfile.specs.Held.{has_user, user_of}
 use Rattle.userfile.specs.declared.flags.PersonFlags.{PersonFlags}
+use Rattle.rfccase.specs.declared.casemappings.Casemapping.{Casemapping}
+use Rattle.chanstate.specs.declared.event.IrcEvent.{IrcEvent}
+use Rattle.chanstate.specs.declared.member.Member.{Member}
+use Rattle.chanstate.specs.Views.{mapping_of}
 use Rattle.procs.specs.declared.action.Action.{Action}
 use Rattle.outqueue.specs.declared.queue.Queue.TheVariants.{Help}
 use Rattle.procs.specs.declared.call.Call.{Call}
 use Rattle.procs.specs.declared.limits.TheConstants.{MAX_ACTIONS}
 use Rattle.procs.specs.declared.reply.ProcReply.{ProcReply}
+use Rattle.procs.specs.Heard.{person_if, flags_on, who_of}
+use Rattle.procs.specs.Identity.{handle_by}
 use Rattle.procs.specs.Promises.{IsKept}
 use Rattle.procs.specs.Seen.{Seen}
 use Rattle.eggprocs.specs.declared.duties.Duty.{Duty}
 use Rattle.eggprocs.specs.declared.duties.Duty.TheVariants.{Each, First}
+use Rattle.eggprocs.specs.declared.rights.Requester.{Requester}
 use Rattle.eggprocs.specs.declared.rights.TheConstants.{AUTO_OP, AUTO_VOICE, OP, VOICE, MASTER, OWNER}
 use Rattle.eggprocs.specs.declared.proc_name.ProcName.{ProcName}
 use Rattle.eggprocs.specs.declared.proc_name.ProcName.TheVariants as which
@@ -33,10 +40,13 @@ use Rattle.eggprocs.specs.Bans.{asked_by_ban, asked_by_unban}
 use Rattle.eggprocs.specs.Channel.{put, asked_for_mode, asked_for_newcomer, change_for, asked_by_kick, asked_by_topic, asked_by_invite}
 use Rattle.eggprocs.specs.Infos.{info_by, set_by, asked_by_known, greeting}
 use Rattle.eggprocs.specs.Laws.{has_one_of, op_letters, DoesNothing, AsksNoChange, is_ask, is_own, IsOnlyWithInfo, KeepsChannelsApart}
+use Rattle.eggprocs.specs.Laws.{AsksAbout, IsEventBy, person_behind, user_behind, Answers, NamesWhomBindsKnow, LeavesStrangers, TellsOnlyMasters}
 use Rattle.eggprocs.specs.Lines.{privmsg}
 use Rattle.eggprocs.specs.Marks.{stick, unstick, left_out, told_ban, told_bans, asked_by_bans}
 use Rattle.eggprocs.specs.Outcomes.{mask_added}
 use Rattle.eggprocs.specs.People.{told, warned, asked_unless, asked_for, asked_by_command, plus_user, minus_user, plus_host, minus_host, chattr, asked_by_whois}
+use Rattle.eggprocs.specs.People.{for_masters, has_host, account_by, is_by_account, handle_seen, member_shown, means_of, strange_account, recognized_if}
+use Rattle.eggprocs.specs.People.{identified, identified_if, described_if, name_asked}
 use Rattle.eggprocs.specs.Procs.{name_of, duty_of, wanted_by, actions_by, actions_if, ours}
 use Rattle.eggprocs.specs.Rights.{has_flag, has_op, flags_by, is_bot_op, is_from_op, is_from_voice, is_join, is_pub, is_msg, global_by, is_master, standing_if, standing_of}
 use Rattle.eggprocs.specs.Whereabouts.{sought, shared, known_text, whereabouts_if}
@@ -237,6 +247,71 @@ whois-no-ask true true call seen = refl
 pub whois-asks : (call : Call) (seen : Seen) → list_any is_ask (wanted_by which.Whois call seen) ≡ false
 unfolding wanted_by
 whois-asks call seen = whois-no-ask (is_msg call.kind) (is_master call seen) call seen
+
+-- who asks and is no master is told so
+told-masters : (msg master : Bool) (call : Call) (seen : Seen) → master ≡ false
+    → (asked_by_whois (standing_if msg master) call seen ≡ []) ⊎ (asked_by_whois (standing_if msg master) call seen ≡ told call for_masters ∷ [])
+told-masters false master call seen denied = inl refl
+told-masters true false call seen denied = inr refl
+told-masters true true call seen denied = cc
+
+pub whois-strangers : TellsOnlyMasters (codes "whois")
+unfolding wanted_by
+whois-strangers call seen master owner = λ reply kept.
+    subst (λ (actions : List Action). (actions ≡ []) ⊎ (actions ≡ told call for_masters ∷ []))
+    (sym (alone-kept which.Whois call seen reply refl kept))
+    (told-masters (is_msg call.kind) (is_master call seen) call seen (is_master-lacks call seen master owner))
+
+-- what a master is told about a member whose nick is no handle
+whois-member : (call : Call) (seen : Seen) (member : Member) → AsksAbout call seen member → Answers (codes "whois") call seen (identified member seen)
+unfolding wanted_by
+whois-member call seen member about = λ reply kept.
+    alone-kept which.Whois call seen reply refl kept
+    ∙ ap (λ (standing : Requester). asked_by_whois standing call seen) about.master
+    ∙ ap (λ (user : Option User). told call (described_if user (name_asked call) seen) ∷ []) about.no_handle
+    ∙ ap (λ (there : Option Member). told call (identified_if there seen) ∷ []) about.there
+
+-- binds find the handle that `whois` finds
+handle-behind : (member : Member) (seen : Seen) (event : IrcEvent) → IsEventBy member seen event → (person_behind event seen).handle ≡ handle_seen member seen
+handle-behind member seen event by =
+    let mapping : Casemapping = mapping_of seen.sight.channels in
+    let users : List User = seen.sight.records.users in
+    ap (λ (personal : Bool). (person_if personal mapping users event).handle) by.personal
+    ∙ ap (λ (account : List ℕ). handle_by mapping users account (who_of event.arguments)) by.account
+    ∙ ap (handle_by mapping users (account_by member seen)) by.address
+
+-- the answer, if something says who the member is
+answers-if : (call : Call) (seen : Seen) (member : Member) (event : IrcEvent) (user : Option User) → AsksAbout call seen member
+    → IsEventBy member seen event → (is_by_account member seen || has_host member) ≡ true → user_behind event seen ≡ user
+    → Answers (codes "whois") call seen (recognized_if user member seen)
+answers-if call seen member event user about by shows is = λ reply kept.
+    let users : List User = seen.sight.records.users in
+    let found : user_of (handle_seen member seen) users ≡ user = ap (λ (handle : List ℕ). user_of handle users) (sym (handle-behind member seen event by)) ∙ is in
+    whois-member call seen member about reply kept
+    ∙ ap (λ (t : Bool). told call (if t then recognized_if (user_of (handle_seen member seen) users) member seen
+    else member.nick ++ codes " has no known host" ++ strange_account member seen) ∷ []) shows
+    ∙ ap (λ (u : Option User). told call (recognized_if u member seen) ∷ []) found
+
+pub whois-known : NamesWhomBindsKnow (codes "whois")
+whois-known call seen member event user about by shows is = (
+  ap (λ (personal : Bool). (person_if personal mapping users event).flags) by.personal
+      ∙ ap (λ (handle : List ℕ). flags_on users handle event.channel) (sym here),
+  λ reply kept. answers-if call seen member event (Some user) about by shows is reply kept
+      ∙ ap (λ (handle : List ℕ). told call (member_shown member ++ codes " is " ++ handle ++ codes " by the " ++ means_of user member seen) ∷ [])
+      (sym (handle-behind member seen event by)),
+)
+  where
+    mapping : Casemapping
+    mapping = mapping_of seen.sight.channels
+
+    users : List User
+    users = seen.sight.records.users
+
+    here : (person_behind event seen).handle ≡ handle_by mapping users event.account (who_of event.arguments)
+    here = ap (λ (personal : Bool). (person_if personal mapping users event).handle) by.personal
+
+pub whois-stranger : LeavesStrangers (codes "whois")
+whois-stranger call seen member event about by shows is = answers-if call seen member event None about by shows is
 
 pub stick-asks : (call : Call) (seen : Seen) → is_master call seen ≡ false → list_any is_ask (wanted_by which.Stick call seen) ≡ false
 unfolding wanted_by

@@ -14,7 +14,9 @@ pub mod LawLemmas
 pub mod LineLemmas
 pub mod Lists
 pub mod LookLemmas
+pub mod MaskLemmas
 pub mod Names
 pub mod RankLemmas
 pub mod RecordedLemmas
 pub mod TurnLemmas
+pub mod WhoisLemmas

@@ -1,37 +1,44 @@
 -- Laws of the procs: when nothing is done, and for whose call.
-use Rattle.std.specs.Prelude.{◌≡◌, ◌⊎◌, ℕ, not, ◌&&◌, ◌||◌, Bool, true, false, List, [], ◌∷◌, slice_get, Option, Some, None, codes}
+use Rattle.std.specs.Prelude.{◌≡◌, ◌⊎◌, ℕ, not, ◌&&◌, ◌||◌, Bool, true, false, List, [], ◌∷◌, ◌++◌, slice_get, Option, Some, None, codes}
 use Rattle.std.specs.List.{list_all, list_any}
 use Rattle.std.specs.Str.{bytes_eq}
 use Rattle.bytetext.specs.Words.{after_word}
 use Rattle.flagexpr.specs.Letters.{has_letter}
+use Rattle.rfccase.specs.declared.casemappings.Casemapping.{Casemapping}
 use Rattle.userfile.specs.declared.change.Change.{Change}
 use Rattle.userfile.specs.declared.edit.Edit.{Edit}
 use Rattle.userfile.specs.declared.edit.Edit.TheVariants.{AddUser, DelUser, AddHost, DelHost, SetGlobal, SetChan, SetBot, AddBan, DelBan, SetInfo, SetSticky}
 use Rattle.userfile.specs.declared.ban.Ban.{Ban}
 use Rattle.userfile.specs.declared.flags.PersonFlags.{PersonFlags}
+use Rattle.userfile.specs.declared.user.User.{User}
 use Rattle.userfile.specs.Apply.{refusal}
 use Rattle.userfile.specs.Held.{user_of}
-use Rattle.userfile.specs.Persons.{user_for}
+use Rattle.userfile.specs.Hostmasks.{is_match, literals}
+use Rattle.userfile.specs.Persons.{claims, is_most, user_for}
 use Rattle.userfile.specs.Rights.{may}
+use Rattle.chanstate.specs.declared.event.IrcEvent.{IrcEvent}
 use Rattle.chanstate.specs.declared.member.Member.{Member}
 use Rattle.chanstate.specs.Views.{mapping_of, members_in}
 use Rattle.procs.specs.declared.action.Action.{Action}
 use Rattle.procs.specs.declared.action.Action.TheVariants.{Ask, Timer, Utimer, KillTimer, SendBot, Put}
 use Rattle.procs.specs.declared.call.Call.{Call}
 use Rattle.procs.specs.declared.reply.ProcReply.{ProcReply}
+use Rattle.procs.specs.Heard.{Person, is_personal, who_of, flags_on, person_of}
 use Rattle.procs.specs.Promises.{IsKept}
 use Rattle.procs.specs.Seen.{Seen}
 use Rattle.eggprocs.specs.declared.rights.TheConstants.{AUTO_OP, AUTO_VOICE, OP, FRIEND, MASTER, OWNER}
 use Rattle.eggprocs.specs.declared.duties.Duty.TheVariants.{First}
+use Rattle.eggprocs.specs.declared.rights.Requester.TheVariants.{Master}
 use Rattle.eggprocs.specs.Args.{handle_of, channel_of, mode_argument}
 use Rattle.eggprocs.specs.Askers.{asker_of, caller_claim}
 use Rattle.eggprocs.specs.Ends.{has_ended_by, holds_ended}
-use Rattle.eggprocs.specs.Everyone.{is_own_join, flags_of_member}
+use Rattle.eggprocs.specs.Everyone.{is_own_join, address_of, flags_of_member}
 use Rattle.eggprocs.specs.Infos.{info_by}
 use Rattle.eggprocs.specs.Keeping.{is_by_bot, is_by_server, is_by_trusted, flags_named, is_hit, is_self}
 use Rattle.eggprocs.specs.Lines.{mode, kick}
+use Rattle.eggprocs.specs.People.{told, for_masters, has_host, name_asked, member_called, account_by, is_by_account, member_shown, means_of, deciding_mask, strange_account}
 use Rattle.eggprocs.specs.Procs.{ours}
-use Rattle.eggprocs.specs.Rights.{flags_by, has_flag, has_bot, global_by, is_bot_op}
+use Rattle.eggprocs.specs.Rights.{flags_by, has_flag, has_bot, global_by, is_bot_op, standing_of}
 use Rattle.eggprocs.specs.Turns.{turn_of}
 use Rattle.eggprocs.specs.Whereabouts.{shared}
 
@@ -143,6 +150,67 @@ IsOnlyForMasters name =
     (call : Call) (seen : Seen)
     → has_letter (global_by call seen) MASTER ≡ false → has_letter (global_by call seen) OWNER ≡ false
     → AsksNoChange name call seen
+
+-- ---- who somebody is
+
+-- a master asks for a nick that is no user's handle, and the bot sees this member of that nick
+pub record AsksAbout (call : Call) (seen : Seen) (member : Member) : Type 0 where
+  pub master : standing_of call seen ≡ Master
+  pub no_handle : user_of (name_asked call) seen.sight.records.users ≡ None
+  pub there : member_called (name_asked call) seen ≡ Some member
+
+-- an event by this member, from the address and under the account that the bot sees
+pub record IsEventBy (member : Member) (seen : Seen) (event : IrcEvent) : Type 0 where
+  pub personal : is_personal event.kind ≡ true
+  pub address : who_of event.arguments ≡ address_of member
+  pub account : event.account ≡ account_by member seen
+
+-- the person behind an event, as binds know one: the handle, and the flags
+abbrev pub person_behind : IrcEvent → Seen → Person
+person_behind event seen = person_of (mapping_of seen.sight.channels) seen.sight.records.users event
+
+-- the user whom binds find behind an event
+abbrev pub user_behind : IrcEvent → Seen → Option User
+user_behind event seen = user_of (person_behind event seen).handle seen.sight.records.users
+
+-- whatever the proc of this name answers, it is a NOTICE of these words to the caller
+abbrev pub Answers : List ℕ → Call → Seen → List ℕ → Type 0
+Answers name call seen words = (reply : ProcReply) → IsKept ours name call seen reply → reply.actions ≡ told call words ∷ []
+
+-- for a member whom binds know as a user, a proc names the handle whose flags the binds take, and by what it is found
+abbrev pub NamesWhomBindsKnow : List ℕ → Type 0
+NamesWhomBindsKnow name =
+    (call : Call) (seen : Seen) (member : Member) (event : IrcEvent) (user : User)
+    → AsksAbout call seen member → IsEventBy member seen event → (is_by_account member seen || has_host member) ≡ true
+    → user_behind event seen ≡ Some user
+    → ((person_behind event seen).flags ≡ flags_on seen.sight.records.users (person_behind event seen).handle event.channel)
+    × Answers name call seen
+    (member_shown member ++ codes " is " ++ (person_behind event seen).handle ++ codes " by the " ++ means_of user member seen)
+
+-- for a member whom binds know as nobody, a proc says so
+abbrev pub LeavesStrangers : List ℕ → Type 0
+LeavesStrangers name =
+    (call : Call) (seen : Seen) (member : Member) (event : IrcEvent)
+    → AsksAbout call seen member → IsEventBy member seen event → (is_by_account member seen || has_host member) ≡ true
+    → user_behind event seen ≡ None
+    → Answers name call seen (member_shown member ++ codes " is known to no user" ++ strange_account member seen)
+
+-- The hostmask that is named for the user whom a person is decides that: it is one of the user's, it matches, and no
+-- hostmask of anybody that matches has more literals.
+abbrev pub NamesTheDecider : Type 0
+NamesTheDecider =
+    (mapping : Casemapping) (users : List User) (who : List ℕ) (user : User) → user_for mapping who users ≡ Some user
+    → (list_any (bytes_eq (deciding_mask mapping who user.masks)) user.masks ≡ true)
+    × ((is_match mapping (deciding_mask mapping who user.masks) who ≡ true)
+    × (is_most (literals (deciding_mask mapping who user.masks)) (claims mapping who users) ≡ true))
+
+-- for a caller who has neither m nor n everywhere, a proc says that it is for masters, or nothing
+abbrev pub TellsOnlyMasters : List ℕ → Type 0
+TellsOnlyMasters name =
+    (call : Call) (seen : Seen)
+    → has_letter (global_by call seen) MASTER ≡ false → has_letter (global_by call seen) OWNER ≡ false
+    → (reply : ProcReply) → IsKept ours name call seen reply
+    → (reply.actions ≡ []) ⊎ (reply.actions ≡ told call for_masters ∷ [])
 
 -- ---- info lines
 

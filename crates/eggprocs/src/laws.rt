@@ -1,6 +1,7 @@
 // Laws of the procs: when nothing is done, and for whose call.
 ghost use Rattle.std.specs.Prelude.{ℕ, List, codes, ◌∷◌, []};
 ghost use Rattle.eggprocs.specs.Laws.{IsOnlyForOneOf, IsOnlyByOps, IsOnlyForMasters};
+ghost use Rattle.eggprocs.specs.Laws.{NamesWhomBindsKnow, NamesTheDecider, LeavesStrangers, TellsOnlyMasters};
 ghost use Rattle.eggprocs.specs.Laws.{AsksOnly, IsInCallersName, IsNamedOrGivesNothing, IsTaken, IsAllowed};
 ghost use Rattle.eggprocs.specs.Laws.{ChangesOwnInfo, IsOnlyForKnown, IsOnlyWithInfo, GivesWhatIsDue, KeepsChannelsApart};
 ghost use Rattle.eggprocs.specs.Laws.{IsOnlyForOthers, DoesOnly, is_op_of_known, is_deop_of_unknown, is_end_of_ban, is_kick_of_banned};
@@ -99,6 +100,24 @@ pub fn changes_want_a_master()
     ensures stick { IsOnlyForMasters (codes "stick") }
     ensures unstick { IsOnlyForMasters (codes "unstick") }
     ensures bans { IsOnlyForMasters (codes "bans") }
+{}
+
+/// A law; calling it does nothing. Whom `whois` names, if a master asks for a nick that is no user's handle, and that a
+/// member of one of the bot's channels has. An event by the member is one by the member's nick, from the address and under
+/// the account that the bot sees.
+///
+/// - If binds know who an event by the member is by, `whois` names the handle whose flags the binds take, and by what it
+///   is found: by the account, if a user has a hostmask of the account, and otherwise by a hostmask.
+/// - The hostmask that it names decides: it is one of the user's, it matches, and no hostmask of anybody that matches has
+///   more literals.
+/// - If binds know nobody behind an event by the member, `whois` says so.
+/// - It does so if the bot knows the member's host, or a user has a hostmask of the member's account.
+/// - A caller who has neither of the flags `m` and `n` everywhere gets no answer but that the command is for masters.
+pub fn whois_names_whom_binds_know()
+    ensures known { NamesWhomBindsKnow (codes "whois") }
+    ensures masks { NamesTheDecider }
+    ensures strangers { LeavesStrangers (codes "whois") }
+    ensures masters { TellsOnlyMasters (codes "whois") }
 {}
 
 /// A law; calling it does nothing. Each change that a proc requests is in the caller's name: it bears the caller's claim

@@ -160,12 +160,15 @@
 //! | `+user`, `-user` | `msg` | HANDLE | a new user, or the end of a user |
 //! | `+host`, `-host` | `msg` | HANDLE MASK | a new hostmask of a user, or the end of one |
 //! | `chattr` | `msg` | HANDLE FLAGS | these flags as all that a user has everywhere; `-` for none |
-//! | `whois` | `msg` | HANDLE | no change: it says a user's flags everywhere, hostmasks and info line |
+//! | `whois` | `msg` | HANDLE or NICK | no change: it says who a user is, or a member of a channel |
 //! | `stick`, `unstick` | `msg` | MASK CHANNEL | that a ban is sticky, or not |
 //! | `bans` | `msg` | NUMBER or none | no change: it says at most eight bans, and which are sticky |
 //!
 //! - `stick` and `unstick` mark the ban of this mask on the channel, or on all channels if no channel is given.
 //! - `bans` starts at the ban of this number, counted from 1.
+//! - `whois` says a user's flags everywhere, hostmasks and info line. If no user has the handle, it says which user the
+//!   member of that nick is to the bot, and by what: by an account, or by the hostmask that decides
+//!   ([`whois_names_whom_binds_know`]). If several channels have the member, it takes the first that shows the host.
 //!
 //! In private messages, for callers whom the userfile knows. Anyone else gets a NOTICE that says so. The only info line
 //! that changes is the caller's own ([`info_is_of_who_asks`]):
@@ -309,6 +312,7 @@ pub use crate::laws::{
     answers_keep_channels_apart, bans_end_at_their_second, changes_are_in_the_callers_name,
     changes_want_a_master, changes_want_a_right, commands_want_an_operator, commands_want_flags,
     greetings_want_an_info, info_is_of_who_asks, keeping_answers_others, keeping_spares_operators,
+    whois_names_whom_binds_know,
 };
 pub use crate::looks::{LOOK_SECONDS, MAX_TURN};
 pub use crate::needs::ASK_SECONDS;

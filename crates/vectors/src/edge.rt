@@ -1,6 +1,6 @@
 // What a case of the edge of a bot as a process asks for.
 use crate::{
-    books, configurations, handshakes, lookups, records, registrations, seconds, uplinks, wires,
+    books, configurations, handshakes, lookups, records, registrations, seconds, uplinks, whois, wires,
 };
 use bytetext::Text;
 use caselines::{CaseError, NO_SUCH_CASE, Sink};
@@ -39,6 +39,7 @@ pub fn answer(
         b"timeline" => seconds::timeline(words, out),
         b"tunnelkey" => books::tunnel_key(words, out),
         b"tunnels" => configurations::tunnels(alloc, words, out),
+        b"whois" => whois::told(alloc, words, out),
         b"wire" => wires::wire(alloc, words, out),
         _ => Err(NO_SUCH_CASE),
     }

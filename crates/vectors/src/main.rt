@@ -42,6 +42,7 @@
 //! | `sticky CHANNEL MASK MOMENT CHANGE..` | channel and mask of the ban set again if MASK is removed, or `no ban` |
 //! | `personby MAPPING ..`, `banby MAPPING ..`, `stickyby MAPPING ..` | as `person`, `ban` and `sticky`, by the casemapping that a server names so |
 //! | `claim MAPPING ACCOUNT WHO CHANGE..` | `HANDLE by 'TEXT'` of WHO, who is logged in as ACCOUNT; TEXT is what hostmasks are matched against |
+//! | `whois HANDLE NAME CHANGE.. lines NICK LINE..` | the lines that the proc `whois` sends to a caller of this handle |
 //! | `chan NICK LINE.. account WHO` | `account 'NAME'`, the account of the member with the nick WHO, or `no account` |
 //! | `chan NICK LINE.. members CHANNEL` | the members in order, each as `@%+nick!user@host`, or `nobody` |
 //! | `chan NICK LINE.. topic CHANNEL` | `topic 'TEXT'` or `not held` |
@@ -183,6 +184,7 @@ mod seconds;
 mod spellings;
 mod timers;
 mod uplinks;
+mod whois;
 mod wires;
 
 use bytetext::Text;
