@@ -6,6 +6,7 @@ use Rattle.userfile.specs.declared.user.User.{User}
 use Rattle.ircline.specs.Sources.{Source, Nobody, Server, Person, source_of}
 use Rattle.chanstate.specs.Views.{account_in, mapping_of}
 use Rattle.procs.specs.Identity.{handle_by}
+use Rattle.botcore.specs.Automatic.{is_own}
 use Rattle.botcore.specs.Bots.{Bot}
 use Rattle.botcore.specs.Links.{link_records}
 
@@ -24,6 +25,10 @@ abbrev pub handle_at : Bot → List ℕ → List ℕ
 handle_at bot person =
     handle_by (mapping_of bot.channels) (link_records bot.link).users (account_in (nick_in (source_of person)) bot.channels) person
 
--- whether a bot trusts a person: the user of that handle has one of these flags
+-- whether the user of that handle has one of these flags
+abbrev pub is_known_trusted : Bot → List ℕ → Bool
+is_known_trusted bot person = is_of_trust (flags_of (link_records bot.link).users (handle_at bot person) []).global
+
+-- whether a bot trusts a person: the bot itself, and a user with one of these flags
 abbrev pub trusts : Bot → List ℕ → Bool
-trusts bot person = is_of_trust (flags_of (link_records bot.link).users (handle_at bot person) []).global
+trusts bot person = is_own (source_of person) bot.channels || is_known_trusted bot person

@@ -3,8 +3,7 @@ ghost use Rattle.std.specs.Prelude.{◌<◌, IfOk, OnOk, is_some};
 ghost use Rattle.bytetext.specs.declared.moment.TheConstants.{MOMENTS_END};
 ghost use Rattle.serverlink.specs.Tagging.{untagged_in};
 ghost use Rattle.serverlink.specs.Talks.{talk_in};
-ghost use Rattle.floods.specs.Sifting.{sifted};
-ghost use Rattle.upkeep.specs.Flooding.{begun_with};
+ghost use Rattle.upkeep.specs.Flooding.{begun_with, heard_lines};
 ghost use Rattle.botrun.specs.Trusting.{trusts};
 ghost use Rattle.watching.specs.Following.{IsEven, IsUp};
 ghost use Rattle.botrun.specs.Taking.{GoesOn, Hears, TakesChanges};
@@ -49,10 +48,10 @@ impl Process {
         requires even { IsEven P.promised store.now (station_of settings.now) W.may (W.past watcher.old) self.old.bot
             self.old.others.mail.account.told }
         // The first turn takes the lines that pass the sieve, of those that were read from the server, without their tags,
-        // and packets that wait: none if there is no room, and no request while the hub is being handed over. The bot goes
+        // a line for each ignore that begins, and packets that wait: none if there is no room, and no request while the hub is being handed over. The bot goes
         // on from it by turns in which it hears nothing.
         ensures hears { OnOk result (Hears P.promised store.now self.old.bot self.old.lines
-            (sifted (trusts self.old.bot) now (begun_with settings.now.floods connected self.old.floods)
+            (heard_lines (trusts self.old.bot) now (begun_with settings.now.floods connected self.old.floods)
             (untagged_in self.old.uplink.session)) self.old.space.room (is_some self.old.others.handing)
             self.old.others.mail.links self.new.bot self.new.lines) }
         ensures up { OnOk result

@@ -1,10 +1,10 @@
 // The lines of a server that pass the sieve, and whom the bot never ignores.
 ghost use Rattle.std.specs.Prelude.{◌≡◌, ◌<◌, IfOk};
 ghost use Rattle.bytetext.specs.declared.moment.TheConstants.{MOMENTS_END};
-ghost use Rattle.floods.specs.Sifting.{sifted};
-ghost use Rattle.upkeep.specs.Flooding.{begun_with};
+ghost use Rattle.botcore.specs.Automatic.{is_own};
+ghost use Rattle.upkeep.specs.Flooding.{begun_with, heard_lines};
 ghost use Rattle.ircline.specs.Sources.{source_of};
-ghost use Rattle.botrun.specs.Trusting.{handle_at, is_of_trust, nick_in, trusts};
+ghost use Rattle.botrun.specs.Trusting.{handle_at, is_known_trusted, is_of_trust, nick_in, trusts};
 
 use botcore::Bot;
 use bytetext::NoMemory;
@@ -14,11 +14,12 @@ use floods::Trusts;
 use ircline::{Source, source};
 use net::Log;
 use procs::handle_by;
+use rfccase::same_by;
 use settings::Settings;
 use std::alloc::Global;
 use upkeep::FloodWatch;
 
-// The lines that pass of these `bytes` of the bot's server.
+// The lines that pass of these `bytes` of the bot's server, and after them one for each ignore that begins.
 pub(crate) fn sift(
     alloc: Global,
     log: &mut Log,
@@ -31,7 +32,7 @@ pub(crate) fn sift(
 ) -> Result<Vec<u8>, NoMemory>
     requires moment { now < MOMENTS_END }
     ensures { IfOk result (λ lines. lines.items ≡
-        sifted (trusts bot.now) now (begun_with settings.now.floods connected floods.old) bytes.now) }
+        heard_lines (trusts bot.now) now (begun_with settings.now.floods connected floods.old) bytes.now) }
 {
     let trusting = TrustingBot { bot };
     floods.hear(
@@ -51,16 +52,33 @@ struct TrustingBot<'a> {
     bot: &'a Bot<FileDisk>,
 }
 
-// A master, an owner and an op everywhere are trusted.
+// The bot itself, a master, an owner and an op everywhere are trusted.
 impl Trusts for TrustingBot<'_> {
     ghost use Rattle.botrun.specs.Trusting.{trusts};
 
     ghost trusted = { λ trusting person. trusts trusting.bot.now person };
 
     fn is_trusted(&self, person: &[u8]) -> bool {
-        let handle = handle_at(self.bot, person);
-        is_of_trust(self.bot.userfile().flags_of(handle, b"").global)
+        is_own(self.bot, person) || is_known_trusted(self.bot, person)
     }
+}
+
+// Whether a person is the bot itself.
+fn is_own(bot: &Bot<FileDisk>, person: &[u8]) -> bool
+    ensures { result ≡ is_own (source_of person.now) bot.now.channels }
+{
+    match source(person) {
+        Source::Person(found) => same_by(bot.casemapping(), found.nick, bot.own_nick()),
+        Source::None | Source::Server(_) => false,
+    }
+}
+
+// Whether the user as whom a bot knows a person is trusted.
+fn is_known_trusted(bot: &Bot<FileDisk>, person: &[u8]) -> bool
+    ensures { result ≡ is_known_trusted bot.now person.now }
+{
+    let handle = handle_at(bot, person);
+    is_of_trust(bot.userfile().flags_of(handle, b"").global)
 }
 
 // The handle by which a bot knows a person.

@@ -1,4 +1,4 @@
-pub mod Speaking
+pub mod Acts
 pub mod Windows
 pub mod Watching
 pub mod Sifting

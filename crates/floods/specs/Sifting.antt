@@ -2,9 +2,10 @@
 use Rattle.std.specs.Prelude.{ℕ, Bool, true, ◌+◌, ◌&&◌, nat_lt, List, [], ◌∷◌, ◌++◌, length, if◌then◌else◌}
 use Rattle.ircline.specs.Classes.{is_end}
 use Rattle.floods.specs.declared.floods.Verdict.{Verdict}
-use Rattle.floods.specs.declared.floods.Verdict.TheVariants.{Passes, Dropped, Ignores}
+use Rattle.floods.specs.declared.floods.Verdict.TheVariants.{Passes, Dropped, Ignores, PassesAndIgnores}
 use Rattle.floods.specs.declared.sieve.TheConstants.{MAX_LINE}
-use Rattle.floods.specs.Watching.{Watch, after, verdict}
+use Rattle.floods.specs.declared.ignores.Ignore.{Ignore}
+use Rattle.floods.specs.Watching.{Watch, after, last_of, verdict}
 
 -- what is watched, and the line that has begun
 pub record Sieving : Type 0 where
@@ -23,16 +24,19 @@ abbrev pub passed : Verdict → List ℕ → List ℕ
 passed Passes line = line
 passed Dropped line = []
 passed Ignores line = []
+passed PassesAndIgnores line = line
 
 abbrev pub drops : Verdict → ℕ
 drops Passes = 0
 drops Dropped = 1
 drops Ignores = 1
+drops PassesAndIgnores = 0
 
 abbrev pub begins : Verdict → ℕ
 begins Passes = 0
 begins Dropped = 0
 begins Ignores = 1
+begins PassesAndIgnores = 1
 
 abbrev pub at_byte : (List ℕ → Bool) → ℕ → Sieving → ℕ → Sieving
 at_byte trusted now sieve b =
@@ -70,6 +74,11 @@ dropped trusted now sieve (b ∷ bs) = drop_of trusted now sieve b + dropped tru
 abbrev pub begun : (List ℕ → Bool) → ℕ → Sieving → List ℕ → ℕ
 begun trusted now sieve [] = 0
 begun trusted now sieve (b ∷ bs) = begin_of trusted now sieve b + begun trusted now (at_byte trusted now sieve b) bs
+
+-- the ignores that begin, of more than 100 the last 100
+abbrev pub begun_ignores : (List ℕ → Bool) → ℕ → Sieving → List ℕ → List Ignore
+begun_ignores trusted now sieve bytes =
+    last_of (begun trusted now sieve bytes) (after_bytes trusted now sieve bytes).watch.ignores
 
 -- each line of a stream that goes on with a begun line has at most MAX_LINE bytes
 abbrev pub are_short : List ℕ → List ℕ → Bool

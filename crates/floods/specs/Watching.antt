@@ -1,17 +1,18 @@
 -- Who is ignored, and what becomes of a line.
-use Rattle.std.specs.Prelude.{◌≡◌, ℕ, Bool, true, false, not, ◌&&◌, ◌+◌, nat_lt, nat_le, List, [], ◌∷◌, ◌++◌, Option, None, Some, if◌then◌else◌}
+use Rattle.std.specs.Prelude.{◌≡◌, ℕ, Bool, true, false, not, ◌&&◌, ◌+◌, ◌-◌, nat_lt, List, [], ◌∷◌, ◌++◌, drop, length, Option, None, Some, if◌then◌else◌}
 use Rattle.std.specs.List.{filter, list_any}
 use Rattle.std.specs.Str.{bytes_eq}
 use Rattle.floods.specs.declared.counts.Count.{Count}
 use Rattle.floods.specs.declared.floods.Verdict.{Verdict}
-use Rattle.floods.specs.declared.floods.Verdict.TheVariants.{Passes, Dropped, Ignores}
+use Rattle.floods.specs.declared.floods.Verdict.TheVariants.{Passes, Dropped, Ignores, PassesAndIgnores}
 use Rattle.floods.specs.declared.ignores.Ignore.{Ignore}
 use Rattle.floods.specs.declared.ignores.TheConstants.{MAX_IGNORES}
+use Rattle.floods.specs.declared.kind.FloodKind.{FloodKind}
 use Rattle.floods.specs.declared.limits.Limit.{Limit}
 use Rattle.floods.specs.declared.limits.Limits.{Limits}
-use Rattle.floods.specs.declared.speech.Speech.{Speech}
-use Rattle.floods.specs.Speaking.{person_of, speech_of}
-use Rattle.floods.specs.Windows.{counted, limit_of, one_more, others, roomy, window_at}
+use Rattle.floods.specs.declared.act.Act.{Act}
+use Rattle.floods.specs.Acts.{act_of, person_of}
+use Rattle.floods.specs.Windows.{counted, is_speech, limit_of, others, roomy, window_at, with_more}
 
 -- the limits, what is counted and who is ignored, the oldest first
 pub record Watch : Type 0 where
@@ -39,70 +40,88 @@ with_ignore now ignore ignores = roomy MAX_IGNORES (in_force now ignores) ++ ign
 abbrev pub without : List ℕ → List Ignore → List Ignore
 without key ignores = filter (λ ignore. not (bytes_eq ignore.key key)) ignores
 
+-- the ignores that began last, so many of them
+abbrev pub last_of : ℕ → List Ignore → List Ignore
+last_of count ignores = drop (length ignores - count) ignores
+
 -- ---- what becomes of a line
 
--- a line that would be dropped passes if its person is trusted
+-- a line passes, and nobody is ignored for it, if its person is trusted
 abbrev pub unless : Bool → Verdict → Verdict
 unless true verdict = Passes
 unless false verdict = verdict
 
--- whether a line passes a limit: so many lines of the window have passed already
-abbrev pub is_over : ℕ → Watch → Speech → Limit → Bool
-is_over now watch speech limit = nat_le limit.lines (window_at limit now watch.counts speech).lines
+-- a line of an ignored person: it is dropped if it speaks
+abbrev pub if_ignored : FloodKind → Verdict
+if_ignored kind = if is_speech kind then Dropped else Passes
 
-abbrev pub by_limit : Bool → ℕ → Watch → Speech → Option Limit → Verdict
-by_limit trusted now watch speech None = Passes
-by_limit trusted now watch speech (Some limit) =
-    if is_over now watch speech limit then unless trusted Ignores else Passes
+-- a line that passes a limit: its person is ignored from now on, and it is dropped if it speaks
+abbrev pub if_over : FloodKind → Verdict
+if_over kind = if is_speech kind then Ignores else PassesAndIgnores
 
-abbrev pub verdict_of : Bool → ℕ → Watch → Speech → Verdict
-verdict_of trusted now watch speech =
-    if is_ignored now speech.key watch.ignores then unless trusted Dropped
-    else by_limit trusted now watch speech (limit_of watch.limits speech.kind)
+-- whether a line passes a limit: with it there are more lines in the window
+abbrev pub is_over : ℕ → Watch → Act → Limit → Bool
+is_over now watch act limit = nat_lt limit.lines ((window_at limit now watch.counts act).lines + act.weight)
+
+abbrev pub by_limit : Bool → ℕ → Watch → Act → Option Limit → Verdict
+by_limit trusted now watch act None = Passes
+by_limit trusted now watch act (Some limit) =
+    if is_over now watch act limit then unless trusted (if_over act.kind) else Passes
+
+abbrev pub verdict_of : Bool → ℕ → Watch → Act → Verdict
+verdict_of trusted now watch act =
+    if is_ignored now act.key watch.ignores then unless trusted (if_ignored act.kind)
+    else by_limit trusted now watch act (limit_of watch.limits act.kind)
 
 -- ---- what is counted and ignored after it
 
-abbrev pub with_line : ℕ → Watch → Speech → Limit → Watch
-with_line now watch speech limit =
-    record { limits = watch.limits; counts = counted speech (one_more (window_at limit now watch.counts speech)) watch.counts; ignores = watch.ignores }
+abbrev pub with_line : ℕ → Watch → Act → Limit → Watch
+with_line now watch act limit =
+    record { limits = watch.limits; counts = counted act (with_more act.weight (window_at limit now watch.counts act)) watch.counts; ignores = watch.ignores }
 
-abbrev pub with_flood : ℕ → Watch → Speech → Limit → Watch
-with_flood now watch speech limit =
+-- the ignore that begins with this line
+abbrev pub ignore_for : ℕ → Limits → Act → Limit → Ignore
+ignore_for now limits act limit =
+    record { key = act.key; until = now + limits.ignore; limit = limit; kind = act.kind; place = act.place }
+
+abbrev pub with_flood : ℕ → Watch → Act → Limit → Watch
+with_flood now watch act limit =
     record {
       limits = watch.limits;
-      counts = others speech watch.counts;
-      ignores = with_ignore now (record { key = speech.key; until = now + watch.limits.ignore; limit = limit }) watch.ignores;
+      counts = others act watch.counts;
+      ignores = with_ignore now (ignore_for now watch.limits act limit) watch.ignores;
     }
 
-abbrev pub after_limit : Bool → ℕ → Watch → Speech → Option Limit → Watch
-after_limit trusted now watch speech None = watch
-after_limit trusted now watch speech (Some limit) =
-    if is_over now watch speech limit then (if trusted then watch else with_flood now watch speech limit)
-    else with_line now watch speech limit
+abbrev pub after_limit : Bool → ℕ → Watch → Act → Option Limit → Watch
+after_limit trusted now watch act None = watch
+after_limit trusted now watch act (Some limit) =
+    if is_over now watch act limit then (if trusted then watch else with_flood now watch act limit)
+    else with_line now watch act limit
 
 -- an ignored line is not counted
-abbrev pub after_speech : Bool → ℕ → Watch → Speech → Watch
-after_speech trusted now watch speech =
-    if is_ignored now speech.key watch.ignores then watch
-    else after_limit trusted now watch speech (limit_of watch.limits speech.kind)
+abbrev pub after_act : Bool → ℕ → Watch → Act → Watch
+after_act trusted now watch act =
+    if is_ignored now act.key watch.ignores then watch
+    else after_limit trusted now watch act (limit_of watch.limits act.kind)
 
-abbrev pub verdict_by : Bool → ℕ → Watch → Option Speech → Verdict
+abbrev pub verdict_by : Bool → ℕ → Watch → Option Act → Verdict
 verdict_by trusted now watch None = Passes
-verdict_by trusted now watch (Some speech) = verdict_of trusted now watch speech
+verdict_by trusted now watch (Some act) = verdict_of trusted now watch act
 
-abbrev pub after_by : Bool → ℕ → Watch → Option Speech → Watch
+abbrev pub after_by : Bool → ℕ → Watch → Option Act → Watch
 after_by trusted now watch None = watch
-after_by trusted now watch (Some speech) = after_speech trusted now watch speech
+after_by trusted now watch (Some act) = after_act trusted now watch act
 
 -- ---- the same of any line, without its end
 
 unfoldable pub verdict : (List ℕ → Bool) → ℕ → Watch → List ℕ → Verdict
-verdict trusted now watch line = verdict_by (trusted (person_of line)) now watch (speech_of line)
+verdict trusted now watch line = verdict_by (trusted (person_of line)) now watch (act_of line)
 
 unfoldable pub after : (List ℕ → Bool) → ℕ → Watch → List ℕ → Watch
-after trusted now watch line = after_by (trusted (person_of line)) now watch (speech_of line)
+after trusted now watch line = after_by (trusted (person_of line)) now watch (act_of line)
 
 -- no kind has a limit, and nobody is ignored
 abbrev pub HasNoLimits : Watch → Type 0
 HasNoLimits watch =
-    (watch.limits.message ≡ None) × (watch.limits.ctcp ≡ None) × (watch.limits.channel ≡ None) × (watch.ignores ≡ [])
+    (watch.limits.message ≡ None) × (watch.limits.ctcp ≡ None) × (watch.limits.channel ≡ None) × (watch.limits.join ≡ None)
+    × (watch.limits.nick ≡ None) × (watch.limits.kick ≡ None) × (watch.limits.deop ≡ None) × (watch.ignores ≡ [])

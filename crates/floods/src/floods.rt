@@ -1,13 +1,14 @@
-// What becomes of the lines that persons say.
-ghost use Rattle.std.specs.Prelude.{◌≡◌, ◌<◌, [], Some, IfOk};
+// What becomes of the lines of persons.
+ghost use Rattle.std.specs.Prelude.{◌≡◌, ◌+◌, ◌<◌, ◌≤◌, [], Some, IfOk, nat_lt};
 ghost use Rattle.bytetext.specs.declared.moment.TheConstants.{MOMENTS_END};
-ghost use Rattle.floods.specs.Watching.{after, after_limit, after_speech, by_limit, is_ignored, unless, verdict, verdict_of, with_flood, with_line, without};
+ghost use Rattle.floods.specs.Watching.{after, after_act, after_limit, by_limit, if_ignored, if_over, is_ignored, unless, verdict, verdict_of, with_flood, with_line, without};
 ghost use Rattle.floods.specs.Windows.{window_at};
 
+use crate::act::{Act, act_of, person_of};
 use crate::counts::{Counts, Window};
 use crate::ignores::{Ignore, Ignores};
+use crate::kind::FloodKind;
 use crate::limits::{Limit, Limits};
-use crate::speech::{Speech, person_of, speech_of};
 use crate::trusts::Trusts;
 use bytetext::{MOMENTS_END, NoMemory};
 use std::alloc::Global;
@@ -18,10 +19,12 @@ use std::marker::Model;
 pub(crate) enum Verdict {
     // It passes.
     Passes,
-    // Its person is ignored.
+    // It is dropped, since its person is ignored.
     Dropped,
-    // It passes a limit: its person is ignored from now on.
+    // It is dropped, and passes a limit: its person is ignored from now on.
     Ignores,
+    // It passes, and passes a limit: its person is ignored from now on.
+    PassesAndIgnores,
 }
 
 // The limits, what is counted, and who is ignored. Contracts see a `Rattle.floods.specs.Watching.Watch`.
@@ -87,29 +90,23 @@ impl Floods {
         ensures verdict { result ≡ verdict (T.trusted trusts.now) now self.old line.now }
         ensures after { self.new ≡ after (T.trusted trusts.now) now self.old line.now }
     {
-        match speech_of(line) {
-            Some(speech) => self.judge_speech(speech, person_of(line), now, trusts),
+        match act_of(line) {
+            Some(act) => self.judge_act(act, person_of(line), now, trusts),
             None => Verdict::Passes,
         }
     }
 
-    // The same of a line in which `person` says this.
-    fn judge_speech<T: Trusts>(
-        &mut self,
-        speech: Speech,
-        person: &[u8],
-        now: u64,
-        trusts: &T,
-    ) -> Verdict
+    // The same of a line by which `person` does this.
+    fn judge_act<T: Trusts>(&mut self, act: Act, person: &[u8], now: u64, trusts: &T) -> Verdict
         requires moment { now < MOMENTS_END }
-        ensures verdict { result ≡ verdict_of (T.trusted trusts.now person.now) now self.old speech }
-        ensures after { self.new ≡ after_speech (T.trusted trusts.now person.now) now self.old speech }
+        ensures verdict { result ≡ verdict_of (T.trusted trusts.now person.now) now self.old act }
+        ensures after { self.new ≡ after_act (T.trusted trusts.now person.now) now self.old act }
     {
-        if self.ignores.is_ignored(now, speech.key.as_bytes()) {
-            return unless(trusts.is_trusted(person), Verdict::Dropped);
+        if self.ignores.is_ignored(now, act.key.as_bytes()) {
+            return unless(trusts.is_trusted(person), if_ignored(act.kind));
         }
-        match self.limits.of(speech.kind) {
-            Some(limit) => self.judge_by(limit, speech, person, now, trusts),
+        match self.limits.of(act.kind) {
+            Some(limit) => self.judge_by(limit, act, person, now, trusts),
             None => Verdict::Passes,
         }
     }
@@ -118,50 +115,86 @@ impl Floods {
     fn judge_by<T: Trusts>(
         &mut self,
         limit: Limit,
-        speech: Speech,
+        act: Act,
         person: &[u8],
         now: u64,
         trusts: &T,
     ) -> Verdict
         requires moment { now < MOMENTS_END }
-        ensures verdict { result ≡ by_limit (T.trusted trusts.now person.now) now self.old speech (Some limit) }
-        ensures after { self.new ≡ after_limit (T.trusted trusts.now person.now) now self.old speech (Some limit) }
+        ensures verdict { result ≡ by_limit (T.trusted trusts.now person.now) now self.old act (Some limit) }
+        ensures after { self.new ≡ after_limit (T.trusted trusts.now person.now) now self.old act (Some limit) }
     {
-        let window = self.counts.window_at(limit, now, &speech);
-        if window.lines < limit.lines {
-            self.count_line(limit, speech, window, now);
+        let window = self.counts.window_at(limit, now, &act);
+        if !exceeds(limit, window, act.weight) {
+            self.count_line(limit, act, window, now);
             return Verdict::Passes;
         }
         if trusts.is_trusted(person) {
             return Verdict::Passes;
         }
-        self.begin_ignore(limit, speech, now);
-        Verdict::Ignores
+        let verdict = if_over(act.kind);
+        self.begin_ignore(limit, act, now);
+        verdict
     }
 
-    // Counts a line in the window that it falls into, which has room for it.
-    fn count_line(&mut self, limit: Limit, speech: Speech, window: Window, now: u64)
-        requires window { window ≡ window_at limit now self.old.counts speech }
-        requires room { window.lines < limit.lines }
-        ensures { self.new ≡ with_line now self.old speech limit }
+    // Counts `act` in the window that it falls into, which has room for it.
+    fn count_line(&mut self, limit: Limit, act: Act, window: Window, now: u64)
+        requires window { window ≡ window_at limit now self.old.counts act }
+        requires room { window.lines + act.weight ≤ limit.lines }
+        ensures { self.new ≡ with_line now self.old act limit }
     {
         let window = Window {
             since: window.since,
-            lines: window.lines + 1,
+            lines: window.lines + act.weight as u16,
         };
-        self.counts.count(speech, window);
+        self.counts.count(act, window);
     }
 
-    // Ignores the person of `speech` from now on, since a line of his passes this limit.
-    fn begin_ignore(&mut self, limit: Limit, speech: Speech, now: u64)
+    // Ignores the person of `act` from now on, since a line of his passes this limit.
+    fn begin_ignore(&mut self, limit: Limit, act: Act, now: u64)
         requires moment { now < MOMENTS_END }
-        ensures { self.new ≡ with_flood now self.old speech limit }
+        ensures { self.new ≡ with_flood now self.old act limit }
     {
-        self.counts.forget(&speech);
+        self.counts.forget(&act);
         let until = now + u64::from(self.limits.ignore);
-        let key = speech.key;
-        self.ignores.push(now, Ignore { key, until, limit });
+        self.ignores.push(
+            now,
+            Ignore {
+                key: act.key,
+                until,
+                limit,
+                kind: act.kind,
+                place: act.place,
+            },
+        );
     }
+}
+
+// Whether a line that counts for `weight` lines passes the limit.
+fn exceeds(limit: Limit, window: Window, weight: usize) -> bool
+    ensures { result ≡ nat_lt limit.lines (window.lines + weight) }
+{
+    u128::from(limit.lines) < u128::from(window.lines) + weight as u128
+}
+
+// The verdict of a line whose person is ignored, unless he is trusted.
+fn if_ignored(kind: FloodKind) -> Verdict
+    ensures { result ≡ if_ignored kind }
+{
+    if kind.is_speech() {
+        return Verdict::Dropped;
+    }
+    Verdict::Passes
+}
+
+// The verdict of a line that passes a limit, unless its person is trusted.
+fn if_over(kind: FloodKind) -> Verdict
+    ensures { result ≡ if_over kind }
+{
+    if kind.is_speech() {
+        return Verdict::Ignores;
+    }
+    Verdict::PassesAndIgnores
 }
 
 // The verdict of a line that would be dropped if its person were not trusted.

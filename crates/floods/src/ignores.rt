@@ -5,7 +5,9 @@ ghost use Rattle.floods.specs.Watching.{is_ignored, is_in_force, in_force, with_
 ghost use Rattle.floods.specs.Windows.{roomy};
 
 use crate::key::FloodKey;
+use crate::kind::FloodKind;
 use crate::limits::Limit;
+use crate::place::FloodPlace;
 use bytetext::NoMemory;
 use std::alloc::Global;
 use std::marker::Model;
@@ -22,6 +24,10 @@ pub struct Ignore {
     pub until: u64,
     /// The limit that the person passed.
     pub limit: Limit,
+    /// What the lines were of which there were too many.
+    pub kind: FloodKind,
+    /// The channel of the line that passed the limit. Empty for a NICK, and for a line to the bot itself.
+    pub place: FloodPlace,
 }
 
 impl Ignore {

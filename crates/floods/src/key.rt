@@ -1,6 +1,6 @@
 // The key by which a person is counted and ignored.
 ghost use Rattle.std.specs.Prelude.{◌≡◌, []};
-ghost use Rattle.floods.specs.Speaking.{key_from, key_of, longer_key};
+ghost use Rattle.floods.specs.Acts.{key_from, key_of, longer_key};
 
 use arrayvec::ArrayVec;
 use rfccase::{Casemapping, fold_by};

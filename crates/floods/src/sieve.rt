@@ -4,7 +4,7 @@ ghost use Rattle.std.specs.Vec.{vec_capacity};
 ghost use Rattle.bytetext.specs.declared.moment.TheConstants.{MOMENTS_END};
 ghost use Rattle.floods.specs.Sifting.{after_bytes, at_byte, begin_of, begins, begun, drop_of, dropped, drops, given, passed, sifted};
 ghost use Rattle.ircline.specs.Classes.{is_end};
-ghost use Rattle.floods.specs.Watching.{is_ignored, without};
+ghost use Rattle.floods.specs.Watching.{is_ignored, last_of, without};
 
 use crate::floods::{Floods, Verdict};
 use crate::ignores::Ignore;
@@ -24,12 +24,12 @@ pub struct Sifted {
     pub bytes: Vec<u8>,
     /// How many lines do not pass.
     pub dropped: usize,
-    /// How many ignores began. They are the last of [`Sieve::ignores`].
+    /// How many ignores began: see [`Sieve::last_ignores`].
     pub begun: usize,
 }
 
-/// Lets the lines of a stream pass, without those of who floods the bot. It counts at most 256 persons and kinds, and
-/// ignores at most 100 persons; room for both is allocated at the beginning. Contracts see a
+/// Lets the lines of a stream pass, without those of who floods the bot. It counts at most 256 persons, kinds and
+/// channels, and ignores at most 100 persons; room for both is allocated at the beginning. Contracts see a
 /// `Rattle.floods.specs.Sifting.Sieving`: what is watched, and the line that has begun.
 #[derive(Drop)]
 pub struct Sieve {
@@ -69,8 +69,9 @@ impl Sieve {
     /// end a line, and a line is kept until its end arrives. If it has more than 510 bytes, the bot takes it for too
     /// long whatever it holds, and only its first 511 bytes pass.
     ///
-    /// A PRIVMSG or NOTICE passes if its person is trusted or is not ignored and passes no limit. Every other line
-    /// passes, and so does a line of a server, or of a person without a user or a host.
+    /// A PRIVMSG or NOTICE passes if its person is trusted, or is not ignored and passes no limit. Every other line
+    /// passes, and so does a line of a server, or of a person without a user or a host. A JOIN, NICK, KICK or MODE that
+    /// passes a limit begins an ignore.
     ///
     /// # Errors
     /// `NoMemory` if room for the lines cannot be allocated. The sieve is then unchanged: the caller can give the same
@@ -121,6 +122,15 @@ impl Sieve {
         self.floods.ignores()
     }
 
+    /// Returns the last `count` of these ignores, or all if there are fewer. With the `begun` of [`Sieve::sift`] they are
+    /// those that began, in their order; of more than 100 the last 100.
+    pub fn last_ignores(&self, count: usize) -> &[Ignore]
+        ensures { result.now ≡ last_of count self.now.watch.ignores }
+    {
+        let ignores = self.floods.ignores();
+        &ignores[ignores.len().saturating_sub(count)..]
+    }
+
     /// Returns whether `key` is ignored at `now`.
     pub fn is_ignored(&self, now: u64, key: &[u8]) -> bool
         ensures { result ≡ is_ignored now key.now self.now.watch.ignores }
@@ -142,7 +152,7 @@ impl Sieve {
         requires moment { now < MOMENTS_END }
         requires room { length sifted.old.bytes.items + length self.old.line < vec_capacity sifted.old.bytes }
         requires few { sifted.old.dropped + 1 < 2 ^ 64 }
-        requires fewer { sifted.old.begun ≤ sifted.old.dropped }
+        requires fewer { sifted.old.begun + 1 < 2 ^ 64 }
         ensures after { self.new ≡ at_byte (T.trusted trusts.now) now self.old byte }
         ensures bytes { sifted.new.bytes.items ≡ sifted.old.bytes.items ++ given (T.trusted trusts.now) now self.old byte }
         ensures dropped { sifted.new.dropped ≡ sifted.old.dropped + drop_of (T.trusted trusts.now) now self.old byte }
@@ -150,7 +160,7 @@ impl Sieve {
         ensures room { length sifted.new.bytes.items + length self.new.line ≤ length sifted.old.bytes.items + length self.old.line + 1 }
         ensures capacity { vec_capacity sifted.old.bytes ≤ vec_capacity sifted.new.bytes }
         ensures few { sifted.new.dropped ≤ sifted.old.dropped + 1 }
-        ensures fewer { sifted.new.begun ≤ sifted.new.dropped }
+        ensures fewer { sifted.new.begun ≤ sifted.old.begun + 1 }
     {
         if is_end(byte) {
             let verdict = self.floods.judge(self.line.as_slice(), now, trusts);
@@ -171,16 +181,16 @@ fn is_end(byte: u8) -> bool
 }
 
 impl Sifted {
-    // Appends a line if it passes, and else counts it. There is room for it.
+    // Appends a line if it passes, and else counts it. Counts an ignore that it begins. There is room for it.
     fn put(&mut self, line: &[u8], verdict: Verdict)
         requires room { length self.old.bytes.items + length line.now ≤ vec_capacity self.old.bytes }
         requires few { self.old.dropped + 1 < 2 ^ 64 }
-        requires fewer { self.old.begun ≤ self.old.dropped }
+        requires fewer { self.old.begun + 1 < 2 ^ 64 }
         ensures bytes { self.new.bytes.items ≡ self.old.bytes.items ++ passed verdict line.now }
         ensures dropped { self.new.dropped ≡ self.old.dropped + drops verdict }
         ensures begun { self.new.begun ≡ self.old.begun + begins verdict }
         ensures capacity { vec_capacity self.old.bytes ≤ vec_capacity self.new.bytes }
-        ensures fewer { self.new.begun ≤ self.new.dropped }
+        ensures fewer { self.new.begun ≤ self.old.begun + 1 }
         ensures bound { length self.new.bytes.items ≤ length self.old.bytes.items + length line.now }
         ensures few { self.new.dropped ≤ self.old.dropped + 1 }
     {
@@ -191,6 +201,10 @@ impl Sifted {
             Verdict::Dropped => self.dropped += 1,
             Verdict::Ignores => {
                 self.dropped += 1;
+                self.begun += 1;
+            }
+            Verdict::PassesAndIgnores => {
+                let _fits = self.bytes.extend_from_slice(line);
                 self.begun += 1;
             }
         }

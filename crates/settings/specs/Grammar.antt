@@ -10,7 +10,7 @@ use Rattle.settings.specs.declared.setting_word.SettingWord.TheVariants.{Account
 use Rattle.settings.specs.declared.setting_word.SettingWord.TheVariants.{Data as data_word, Exclusive as exclusive_word, Hub as hub_word, Leaf as leaf_word}
 use Rattle.settings.specs.declared.setting_word.SettingWord.TheVariants.{Listen as listen_word, Log as log_word, Nick as nick_word, Page as page_word, Perform as perform_word}
 use Rattle.settings.specs.declared.setting_word.SettingWord.TheVariants.{Secret as secret_word, Server as server_word, Zone as zone_word}
-use Rattle.settings.specs.declared.setting_word.SettingWord.TheVariants.{FloodChan, FloodCtcp, FloodMsg, IgnoreTime}
+use Rattle.settings.specs.declared.setting_word.SettingWord.TheVariants.{FloodChan, FloodCtcp, FloodDeop, FloodJoin, FloodKick, FloodMsg, FloodNick, IgnoreTime}
 use Rattle.settings.specs.declared.advice.SettingAdvice.TheVariants.{Form, Key, Leaves, Address, PageAddress, PagePassword, Port, TlsHost, Unknown, CarriageReturn, Control, ByteOrderMark}
 use Rattle.settings.specs.declared.saying.SettingSaying.{SettingSaying}
 use Rattle.settings.specs.declared.saying.SettingSaying.TheVariants.{Nothing, Wrong, Account, Bind, Bot, Channel, Data, Exclusive, Hub, Leaf, Listen}
@@ -21,7 +21,8 @@ use Rattle.settings.specs.Names.{is_key, is_nick}
 use Rattle.settings.specs.Addresses.{is_address, is_loopback}
 use Rattle.settings.specs.Words.{word_of, rest_of, after_spaces, number_of, port_of}
 use Rattle.settings.specs.Pluses.{has_plus, without_plus, is_tls_host}
-use Rattle.settings.specs.Flooding.{channel_limit_said, ctcp_limit_said, flood_limit, ignore_time_said, message_limit_said}
+use Rattle.settings.specs.Flooding.{channel_limit_said, ctcp_limit_said, deop_limit_said, flood_limit, ignore_time_said, join_limit_said}
+use Rattle.settings.specs.Flooding.{kick_limit_said, message_limit_said, nick_limit_said}
 use Rattle.settings.specs.Vocabulary.{word_named}
 
 abbrev pub is_empty : List ℕ → Bool
@@ -199,7 +200,11 @@ said_of (Some data_word) rest = data_said rest
 said_of (Some exclusive_word) rest = exclusive_said rest
 said_of (Some FloodChan) rest = channel_limit_said (flood_limit rest)
 said_of (Some FloodCtcp) rest = ctcp_limit_said (flood_limit rest)
+said_of (Some FloodDeop) rest = deop_limit_said (flood_limit rest)
+said_of (Some FloodJoin) rest = join_limit_said (flood_limit rest)
+said_of (Some FloodKick) rest = kick_limit_said (flood_limit rest)
 said_of (Some FloodMsg) rest = message_limit_said (flood_limit rest)
+said_of (Some FloodNick) rest = nick_limit_said (flood_limit rest)
 said_of (Some hub_word) rest = hub_said rest
 said_of (Some IgnoreTime) rest = ignore_time_said rest
 said_of (Some leaf_word) rest = leaf_said rest

@@ -78,7 +78,7 @@ fn words_of(advice: SettingAdvice) -> &'static str {
         SettingAdvice::TlsHost =>
             "say a name or an address before +PORT, in letters, digits, dots, dashes and colons, as in server irc.example.net +6697",
         SettingAdvice::Unknown =>
-            "begin with account, bind, bot, channel, data, exclusive, flood-chan, flood-ctcp, flood-msg, hub, ignore-time, leaf, listen, log, nick, page, perform, secret, server, zone or #",
+            "begin with account, bind, bot, channel, data, exclusive, flood-chan, flood-ctcp, flood-deop, flood-join, flood-kick, flood-msg, flood-nick, hub, ignore-time, leaf, listen, log, nick, page, perform, secret, server, zone or #",
         SettingAdvice::CarriageReturn => "end lines with a line feed alone",
         SettingAdvice::Control => "write spaces for tabs, and no other control bytes",
         SettingAdvice::ByteOrderMark => "save the file without a byte order mark",
@@ -99,8 +99,16 @@ fn form_of(word: SettingWord) -> &'static str {
             "say flood-chan LINES:SECONDS, as in flood-chan 15:60, or flood-chan 0:0 for no limit",
         SettingWord::FloodCtcp =>
             "say flood-ctcp LINES:SECONDS, as in flood-ctcp 3:60, or flood-ctcp 0:0 for no limit",
+        SettingWord::FloodDeop =>
+            "say flood-deop LINES:SECONDS, as in flood-deop 3:10, or flood-deop 0:0 for no limit",
+        SettingWord::FloodJoin =>
+            "say flood-join LINES:SECONDS, as in flood-join 5:60, or flood-join 0:0 for no limit",
+        SettingWord::FloodKick =>
+            "say flood-kick LINES:SECONDS, as in flood-kick 3:10, or flood-kick 0:0 for no limit",
         SettingWord::FloodMsg =>
             "say flood-msg LINES:SECONDS, as in flood-msg 5:60, or flood-msg 0:0 for no limit",
+        SettingWord::FloodNick =>
+            "say flood-nick LINES:SECONDS, as in flood-nick 5:60, or flood-nick 0:0 for no limit",
         SettingWord::Hub => "say hub HOST PORT, as in hub hub.example.net 7100",
         SettingWord::IgnoreTime => "say ignore-time MINUTES, from 1 to 65535, as in ignore-time 10",
         SettingWord::Leaf => "say leaf N reads or leaf N persons, as in leaf 3 reads",

@@ -1,7 +1,9 @@
-// The lines that say who floods the bot: `flood-msg`, `flood-ctcp`, `flood-chan` and `ignore-time`.
+// The lines that say who floods the bot or a channel: `flood-msg`, `flood-ctcp`, `flood-chan`, `flood-join`,
+// `flood-nick`, `flood-kick`, `flood-deop` and `ignore-time`.
 ghost use Rattle.std.specs.Prelude.{◌≡◌, ◌≤◌, length};
 ghost use Rattle.std.specs.List.{prefix_len};
-ghost use Rattle.settings.specs.Flooding.{after_colon, before_colon, channel_limit_said, ctcp_limit_said, flood_limit, ignore_found, ignore_time_said, is_not_colon, limit_by, limit_found, limit_in, message_limit_said};
+ghost use Rattle.settings.specs.Flooding.{after_colon, before_colon, channel_limit_said, ctcp_limit_said, deop_limit_said, flood_limit, ignore_found, ignore_time_said, is_not_colon, join_limit_said};
+ghost use Rattle.settings.specs.Flooding.{kick_limit_said, limit_by, limit_found, limit_in, message_limit_said, nick_limit_said};
 
 use crate::advice::SettingAdvice;
 use crate::cutting::cut_word;
@@ -20,6 +22,14 @@ pub enum FloodSaying {
     Ctcp(Option<Limit>),
     /// How many lines a person may send to channels.
     Channel(Option<Limit>),
+    /// How many JOINs of one channel a person may send.
+    Join(Option<Limit>),
+    /// How many NICKs a person may send.
+    Nick(Option<Limit>),
+    /// How many KICKs from one channel a person may send.
+    Kick(Option<Limit>),
+    /// From how many members of one channel a person may take op.
+    Deop(Option<Limit>),
     /// How many seconds a person is ignored who sends more.
     Ignore(u32),
 }
@@ -33,6 +43,14 @@ pub struct FloodDraft {
     pub ctcp: Option<Option<Limit>>,
     /// The line `flood-chan`.
     pub channel: Option<Option<Limit>>,
+    /// The line `flood-join`.
+    pub join: Option<Option<Limit>>,
+    /// The line `flood-nick`.
+    pub nick: Option<Option<Limit>>,
+    /// The line `flood-kick`.
+    pub kick: Option<Option<Limit>>,
+    /// The line `flood-deop`.
+    pub deop: Option<Option<Limit>>,
     /// The line `ignore-time`, in seconds.
     pub ignore: Option<u32>,
 }
@@ -49,6 +67,10 @@ impl FloodDraft {
             message: None,
             ctcp: None,
             channel: None,
+            join: None,
+            nick: None,
+            kick: None,
+            deop: None,
             ignore: None,
         }
     }
@@ -61,6 +83,10 @@ impl FloodDraft {
             FloodSaying::Message(_) => once(SettingWord::FloodMsg, self.message.is_some()),
             FloodSaying::Ctcp(_) => once(SettingWord::FloodCtcp, self.ctcp.is_some()),
             FloodSaying::Channel(_) => once(SettingWord::FloodChan, self.channel.is_some()),
+            FloodSaying::Join(_) => once(SettingWord::FloodJoin, self.join.is_some()),
+            FloodSaying::Nick(_) => once(SettingWord::FloodNick, self.nick.is_some()),
+            FloodSaying::Kick(_) => once(SettingWord::FloodKick, self.kick.is_some()),
+            FloodSaying::Deop(_) => once(SettingWord::FloodDeop, self.deop.is_some()),
             FloodSaying::Ignore(_) => once(SettingWord::IgnoreTime, self.ignore.is_some()),
         }
     }
@@ -73,6 +99,10 @@ impl FloodDraft {
             FloodSaying::Message(limit) => self.message = Some(limit),
             FloodSaying::Ctcp(limit) => self.ctcp = Some(limit),
             FloodSaying::Channel(limit) => self.channel = Some(limit),
+            FloodSaying::Join(limit) => self.join = Some(limit),
+            FloodSaying::Nick(limit) => self.nick = Some(limit),
+            FloodSaying::Kick(limit) => self.kick = Some(limit),
+            FloodSaying::Deop(limit) => self.deop = Some(limit),
             FloodSaying::Ignore(seconds) => self.ignore = Some(seconds),
         }
     }
@@ -86,6 +116,10 @@ impl FloodDraft {
             message: self.message.unwrap_or(usual.message),
             ctcp: self.ctcp.unwrap_or(usual.ctcp),
             channel: self.channel.unwrap_or(usual.channel),
+            join: self.join.unwrap_or(usual.join),
+            nick: self.nick.unwrap_or(usual.nick),
+            kick: self.kick.unwrap_or(usual.kick),
+            deop: self.deop.unwrap_or(usual.deop),
             ignore: self.ignore.unwrap_or(usual.ignore),
         }
     }
@@ -115,6 +149,42 @@ pub(crate) fn channel_limit_said(limit: Option<Option<Limit>>) -> SettingSaying
     match limit {
         Some(limit) => SettingSaying::Flood(FloodSaying::Channel(limit)),
         None => SettingSaying::Wrong(SettingAdvice::Form(SettingWord::FloodChan)),
+    }
+}
+
+pub(crate) fn join_limit_said(limit: Option<Option<Limit>>) -> SettingSaying
+    ensures { result ≡ join_limit_said limit }
+{
+    match limit {
+        Some(limit) => SettingSaying::Flood(FloodSaying::Join(limit)),
+        None => SettingSaying::Wrong(SettingAdvice::Form(SettingWord::FloodJoin)),
+    }
+}
+
+pub(crate) fn nick_limit_said(limit: Option<Option<Limit>>) -> SettingSaying
+    ensures { result ≡ nick_limit_said limit }
+{
+    match limit {
+        Some(limit) => SettingSaying::Flood(FloodSaying::Nick(limit)),
+        None => SettingSaying::Wrong(SettingAdvice::Form(SettingWord::FloodNick)),
+    }
+}
+
+pub(crate) fn kick_limit_said(limit: Option<Option<Limit>>) -> SettingSaying
+    ensures { result ≡ kick_limit_said limit }
+{
+    match limit {
+        Some(limit) => SettingSaying::Flood(FloodSaying::Kick(limit)),
+        None => SettingSaying::Wrong(SettingAdvice::Form(SettingWord::FloodKick)),
+    }
+}
+
+pub(crate) fn deop_limit_said(limit: Option<Option<Limit>>) -> SettingSaying
+    ensures { result ≡ deop_limit_said limit }
+{
+    match limit {
+        Some(limit) => SettingSaying::Flood(FloodSaying::Deop(limit)),
+        None => SettingSaying::Wrong(SettingAdvice::Form(SettingWord::FloodDeop)),
     }
 }
 

@@ -27,6 +27,10 @@
 //! | `flood-msg` lines`:`seconds | once or not at all | how many lines a person may send to the bot; by default `5:60` |
 //! | `flood-ctcp` lines`:`seconds | once or not at all | how many CTCPs; by default `3:60` |
 //! | `flood-chan` lines`:`seconds | once or not at all | how many lines to channels; by default `15:60` |
+//! | `flood-join` lines`:`seconds | once or not at all | how many JOINs of one channel; by default `5:60` |
+//! | `flood-nick` lines`:`seconds | once or not at all | how many NICKs; by default `5:60` |
+//! | `flood-kick` lines`:`seconds | once or not at all | how many KICKs from one channel; by default `3:10` |
+//! | `flood-deop` lines`:`seconds | once or not at all | from how many members of one channel he may take op; by default `3:10` |
 //! | `ignore-time` minutes | once or not at all | how long who sends more is ignored; by default 10 |
 //! | `page` address port FILE | once or not at all | where a page that shows the bot is served, and the file of its password |
 //!
@@ -35,7 +39,7 @@
 //! `FOLDER/tls/HOST_PORT`. So such a host has only letters, digits, `.`, `-`, `_` and `:`, and together with the folder
 //! at most [`MAX_TUNNEL`] bytes.
 //!
-//! `flood-msg 0:0` switches that limit off, and so does 0 for either number; the same holds for the other two.
+//! `flood-msg 0:0` switches that limit off, and so does 0 for either number; the same holds for the others.
 //!
 //! A `page` may lack its FILE if other machines can't reach the address ([`is_loopback`]).
 //!

@@ -10,8 +10,8 @@ use crate::advice::SettingAdvice;
 use crate::cutting::{after_spaces, cut_word};
 use crate::draft::Draft;
 use crate::flooding::{
-    FloodSaying, channel_limit_said, ctcp_limit_said, flood_limit, ignore_time_said,
-    message_limit_said,
+    FloodSaying, channel_limit_said, ctcp_limit_said, deop_limit_said, flood_limit,
+    ignore_time_said, join_limit_said, kick_limit_said, message_limit_said, nick_limit_said,
 };
 use crate::names::{is_key, is_nick};
 use crate::net_saying::{bot_said, hub_said, leaf_said, listen_said, page_said};
@@ -212,7 +212,11 @@ fn said_of(alloc: Global, word: Option<SettingWord>, rest: &[u8]) -> Result<Sett
         SettingWord::Exclusive => Ok(exclusive_said(rest)),
         SettingWord::FloodChan => Ok(channel_limit_said(flood_limit(rest))),
         SettingWord::FloodCtcp => Ok(ctcp_limit_said(flood_limit(rest))),
+        SettingWord::FloodDeop => Ok(deop_limit_said(flood_limit(rest))),
+        SettingWord::FloodJoin => Ok(join_limit_said(flood_limit(rest))),
+        SettingWord::FloodKick => Ok(kick_limit_said(flood_limit(rest))),
         SettingWord::FloodMsg => Ok(message_limit_said(flood_limit(rest))),
+        SettingWord::FloodNick => Ok(nick_limit_said(flood_limit(rest))),
         SettingWord::Hub => hub_said(alloc, rest),
         SettingWord::IgnoreTime => Ok(ignore_time_said(rest)),
         SettingWord::Leaf => Ok(leaf_said(rest)),

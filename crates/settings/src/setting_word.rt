@@ -21,8 +21,16 @@ pub enum SettingWord {
     FloodChan,
     /// How many CTCPs a person may send.
     FloodCtcp,
+    /// From how many members of one channel a person may take op.
+    FloodDeop,
+    /// How many JOINs of one channel a person may send.
+    FloodJoin,
+    /// How many KICKs from one channel a person may send.
+    FloodKick,
     /// How many lines to the bot a person may send.
     FloodMsg,
+    /// How many NICKs a person may send.
+    FloodNick,
     /// Where the hub listens.
     Hub,
     /// How long a person is ignored who sends more.
@@ -48,7 +56,7 @@ pub enum SettingWord {
 }
 
 // Every word.
-const ALL: [SettingWord; 20] = [
+const ALL: [SettingWord; 24] = [
     SettingWord::Account,
     SettingWord::Bind,
     SettingWord::Bot,
@@ -57,7 +65,11 @@ const ALL: [SettingWord; 20] = [
     SettingWord::Exclusive,
     SettingWord::FloodChan,
     SettingWord::FloodCtcp,
+    SettingWord::FloodDeop,
+    SettingWord::FloodJoin,
+    SettingWord::FloodKick,
     SettingWord::FloodMsg,
+    SettingWord::FloodNick,
     SettingWord::Hub,
     SettingWord::IgnoreTime,
     SettingWord::Leaf,
@@ -85,7 +97,11 @@ impl SettingWord {
             SettingWord::Exclusive => "exclusive",
             SettingWord::FloodChan => "flood-chan",
             SettingWord::FloodCtcp => "flood-ctcp",
+            SettingWord::FloodDeop => "flood-deop",
+            SettingWord::FloodJoin => "flood-join",
+            SettingWord::FloodKick => "flood-kick",
             SettingWord::FloodMsg => "flood-msg",
+            SettingWord::FloodNick => "flood-nick",
             SettingWord::Hub => "hub",
             SettingWord::IgnoreTime => "ignore-time",
             SettingWord::Leaf => "leaf",

@@ -1,11 +1,11 @@
-// Who floods the bot, what of it the log says, and what an admin can do about it.
-ghost use Rattle.std.specs.Prelude.{◌≡◌, ◌<◌, [], IfOk, OnErr, OnOk};
+// Who floods the bot or a channel, what the bot hears of it, what the log says, and what an admin can do about it.
+ghost use Rattle.std.specs.Prelude.{◌≡◌, ◌++◌, ◌<◌, [], IfOk, OnErr, OnOk};
 ghost use Rattle.bytetext.specs.declared.moment.TheConstants.{MOMENTS_END};
-ghost use Rattle.floods.specs.Sifting.{sifted};
-ghost use Rattle.upkeep.specs.Flooding.{begun_with, forgiven};
+ghost use Rattle.floods.specs.Sifting.{after_bytes};
+ghost use Rattle.upkeep.specs.Flooding.{begun_with, flood_line, flood_lines, forgiven, heard_lines, kind_words, place_word};
 
 use bytetext::{NoMemory, Text};
-use floods::{Ignore, Limits, Sieve, Trusts};
+use floods::{FloodKind, FloodPlace, Ignore, Limits, Sieve, Sifted, Trusts};
 use itoa::Buffer;
 use net::Log;
 use recordjson::JsonLine;
@@ -52,11 +52,14 @@ impl FloodWatch {
     }
 
     /// Takes `bytes` that the server sent, under these `limits`, and returns the lines that pass ([`Sieve::sift`]). A
-    /// connection begins with them if it is `connected`. Logs whom it ignores from now on, and once a minute how many
-    /// lines it dropped.
+    /// connection begins with them if it is `connected`. After them stands a line `FLOOD USER@HOST PLACE :KIND` for each
+    /// ignore that began, in their order; of more than 100 for the last 100. PLACE is the channel of the line that passed
+    /// the limit, or `*`. KIND is `messages`, `CTCPs`, `lines`, `joins`, `nick changes`, `kicks` or `deops`.
+    ///
+    /// Logs whom it ignores from now on, and once a minute how many lines it dropped.
     ///
     /// # Errors
-    /// `NoMemory` if the lines cannot be allocated.
+    /// `NoMemory` if the lines cannot be allocated. They may then be lost, though what they did is counted.
     pub fn hear<T: Trusts>(
         &mut self,
         alloc: Global,
@@ -68,12 +71,21 @@ impl FloodWatch {
         trusts: &T,
     ) -> Result<Vec<u8>, NoMemory>
         requires moment { now < MOMENTS_END }
-        ensures { IfOk result (λ heard. heard.items ≡ sifted (T.trusted trusts.now) now (begun_with limits connected self.old) bytes.now) }
+        ensures heard { IfOk result (λ heard. heard.items ≡
+            heard_lines (T.trusted trusts.now) now (begun_with limits connected self.old) bytes.now) }
+        ensures after { OnOk result (self.new ≡
+            after_bytes (T.trusted trusts.now) now (begun_with limits connected self.old) bytes.now) }
     {
         self.begin(limits, connected);
         let sifted = self.sieve.sift(alloc, bytes, now, trusts)?;
-        self.tell(log, sifted.dropped, sifted.begun, now);
-        Ok(sifted.bytes)
+        let Sifted {
+            bytes: mut lines,
+            dropped,
+            begun,
+        } = sifted;
+        self.tell(log, dropped, begun, now);
+        put_floods(&mut lines, self.sieve.last_ignores(begun))?;
+        Ok(lines)
     }
 
     // Takes these limits, and forgets the line that has begun if a connection begins.
@@ -91,7 +103,7 @@ impl FloodWatch {
         ensures { self.new ≡ self.old }
     {
         if begun > 0 {
-            tell_ignores(log, self.sieve.ignores(), begun, now);
+            tell_ignores(log, self.sieve.last_ignores(begun), now);
         }
         self.dropped = self.dropped.saturating_add(dropped);
         if self.dropped > 0 && now.saturating_sub(self.told) >= TOLD_EACH {
@@ -134,10 +146,59 @@ impl FloodWatch {
     }
 }
 
-// Logs the last `count` of these ignores.
-fn tell_ignores(log: &mut Log, ignores: &[Ignore], count: usize, now: u64) {
-    let begin = ignores.len().saturating_sub(count);
-    for ignore in &ignores[begin..] {
+// Appends a line for each of these ignores.
+fn put_floods(lines: &mut Vec<u8>, ignores: &[Ignore]) -> Result<(), NoMemory>
+    ensures { OnOk result (lines.new.items ≡ lines.old.items ++ flood_lines ignores.now) }
+{
+    for ignore in ignores {
+        put_flood(lines, ignore)?;
+    }
+    Ok(())
+}
+
+// Appends `FLOOD USER@HOST PLACE :KIND`.
+fn put_flood(lines: &mut Vec<u8>, ignore: &Ignore) -> Result<(), NoMemory>
+    ensures { OnOk result (lines.new.items ≡ lines.old.items ++ flood_line ignore.now) }
+{
+    lines.extend_from_slice(b"FLOOD ")?;
+    lines.extend_from_slice(ignore.key.as_bytes())?;
+    lines.extend_from_slice(b" ")?;
+    lines.extend_from_slice(place_word(&ignore.place))?;
+    lines.extend_from_slice(b" :")?;
+    lines.extend_from_slice(kind_words(ignore.kind).as_bytes())?;
+    lines.extend_from_slice(b"\r\n")?;
+    Ok(())
+}
+
+// The channel, or a star for none.
+fn place_word(place: &FloodPlace) -> &[u8]
+    ensures { result.now ≡ place_word place.now }
+{
+    let channel = place.as_bytes();
+    if channel.is_empty() {
+        return b"*";
+    }
+    channel
+}
+
+// What the lines are of which there were too many.
+fn kind_words(kind: FloodKind) -> &'static str
+    ensures { result.now ≡ kind_words kind }
+{
+    match kind {
+        FloodKind::Message => "messages",
+        FloodKind::Ctcp => "CTCPs",
+        FloodKind::Channel => "lines",
+        FloodKind::Join => "joins",
+        FloodKind::Nick => "nick changes",
+        FloodKind::Kick => "kicks",
+        FloodKind::Deop => "deops",
+    }
+}
+
+// Logs these ignores.
+fn tell_ignores(log: &mut Log, ignores: &[Ignore], now: u64) {
+    for ignore in ignores {
         log.note(
             now,
             &FloodEntry::Ignores(ignore, ignore.until.saturating_sub(now)),
@@ -198,7 +259,8 @@ impl Display for FloodEntry<'_> {
                 put(f, "ignores ", &Shown(ignore.key.as_bytes()))?;
                 put(f, " for ", &seconds)?;
                 put(f, " s: more than ", &ignore.limit.lines)?;
-                put(f, " lines in ", &ignore.limit.seconds)?;
+                put(f, " ", &kind_words(ignore.kind))?;
+                put(f, " in ", &ignore.limit.seconds)?;
                 f.write_str(" s")
             }
             FloodEntry::Dropped(count) => {

@@ -4,4 +4,4 @@ use Rattle.floods.specs.Windows.{is_of}
 use Rattle.floods.proofs.counts.keep_others.Goals as goal
 
 pub returns-clause-items : goal.returns-clause-items
-returns-clause-items c = filter_same _ (λ count. not (is_of c.args.speech.now count)) _ (λ x b f' k. search rules) _ _ c.retain.ensures.filtered
+returns-clause-items c = filter_same _ (λ count. not (is_of c.args.act.now count)) _ (λ x b f' k. search rules) _ _ c.retain.ensures.filtered

@@ -1,7 +1,6 @@
 use Rattle.std.proofs.Common.{◌∙◌, Bool, false, ap, refl, sym}
-use Rattle.floods.specs.Sifting.{sifted}
 use Rattle.peers.specs.Tells.{granted}
-use Rattle.upkeep.specs.Flooding.{begun_with}
+use Rattle.upkeep.specs.Flooding.{begun_with, heard_lines}
 use Rattle.botrun.specs.Trusting.{trusts}
 use Rattle.upkeep.specs.Spaces.{admitted}
 use Rattle.watching.proofs.FollowingLemmas.{at_watched}
@@ -59,7 +58,7 @@ returns g c = record {
       compact = false;
     };
     same = c.in_ok-bytes.ensures
-        ∙ ap (sifted (trusts c.args.self.now.bot) c.args.now (begun_with c.args.settings.now.floods c.args.connected c.args.self.now.floods))
+        ∙ ap (heard_lines (trusts c.args.self.now.bot) c.args.now (begun_with c.args.settings.now.floods c.args.connected c.args.self.now.floods))
         (c.as_slice-sent.ensures.value ∙ c.take_heard-heard.ensures.all);
     left = c.watched_packets.new.mailbox.mail.links;
     waiting = c.in_ok-waiting.waiting.items;

@@ -1,5 +1,5 @@
 use Rattle.std.proofs.Common.{◌≡◌, drop}
-use Rattle.floods.specs.Speaking.{key_from}
+use Rattle.floods.specs.Acts.{key_from}
 use Rattle.floods.proofs.key.FloodKey.extend.Given as goal
 
 abbrev pub invariant-loop-byte : goal.invariant-loop-byte

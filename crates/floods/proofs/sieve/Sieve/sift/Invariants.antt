@@ -11,7 +11,7 @@ invariant-loop-byte g l =
     record {
       room : length l.sifted.bytes.items + length l.self.line + length rest ≤ vec_capacity l.sifted.bytes;
       few : l.sifted.dropped ≤ l.byte-index;
-      fewer : l.sifted.begun ≤ l.sifted.dropped;
+      fewer : l.sifted.begun ≤ l.byte-index;
       bytes : l.sifted.bytes.items ++ sifted trusted l.now l.self rest ≡ sifted trusted l.now l.initial.self l.bytes;
       dropped : l.sifted.dropped + dropped trusted l.now l.self rest ≡ dropped trusted l.now l.initial.self l.bytes;
       begun : l.sifted.begun + begun trusted l.now l.self rest ≡ begun trusted l.now l.initial.self l.bytes;
