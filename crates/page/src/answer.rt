@@ -85,19 +85,19 @@ fn page_of(alloc: Global, request: &PageRequest, view: &PageView<'_>) -> Result<
         return refused(alloc, status);
     }
     let mut sheet = Sheet::new(alloc);
-    let kind = put_page(alloc, &mut sheet, &request.want, view);
+    let kind = put_page(&mut sheet, &request.want, view);
     shown(alloc, kind, sheet)
 }
 
 // Appends the page that is wanted. Returns what it is.
-fn put_page(alloc: Global, sheet: &mut Sheet, want: &PageWant, view: &PageView<'_>) -> Kind {
+fn put_page(sheet: &mut Sheet, want: &PageWant, view: &PageView<'_>) -> Kind {
     match want {
         PageWant::Net { from } => {
-            put_net_page(alloc, sheet, view, *from);
+            put_net_page(sheet, view, *from);
             Kind::Html
         }
         PageWant::Records { from, who } => {
-            put_records_page(alloc, sheet, view, *from, who);
+            put_records_page(sheet, view, *from, who);
             Kind::Html
         }
         PageWant::Log => {

@@ -4,36 +4,48 @@ ghost use Rattle.page.specs.Marks.{ArePrinted};
 ghost use Rattle.page.specs.Writing.{holes};
 
 use crate::sheet::Sheet;
+use flagexpr::Flags;
+
+// A value in a form.
+#[derive(Clone, Copy)]
+pub(crate) enum Value<'a> {
+    // A number, in base ten.
+    Number(u64),
+    // A second, as a date.
+    Time(u64),
+    // A text from outside, or words without markup.
+    Text(&'a [u8]),
+    // The letters of flags.
+    Letters(Flags),
+    // Yes in green, or no in red.
+    Answer(bool),
+}
 
 impl Sheet {
-    // Appends a form, with a number in base ten in place of each `$`.
-    pub(crate) fn put_numbers(&mut self, form: &[u8], numbers: &[u64])
+    // Appends a form, with a value in place of each `$`.
+    pub(crate) fn put_form(&mut self, form: &[u8], values: &[Value<'_>])
         requires printed { ArePrinted form.now }
-        requires filled { holes form.now ≡ length numbers.now }
+        requires filled { holes form.now ≡ length values.now }
     {
         let mut rest = form;
-        for number in numbers {
+        for value in values {
             let (words, others) = cut(rest);
             self.put(words);
-            self.put_number(*number);
+            self.put_value(value);
             rest = others;
         }
         self.put(rest);
     }
 
-    // Appends a form, with a text from outside in place of each `$`.
-    pub(crate) fn put_texts(&mut self, form: &[u8], texts: &[&[u8]])
-        requires printed { ArePrinted form.now }
-        requires filled { holes form.now ≡ length texts.now }
-    {
-        let mut rest = form;
-        for text in texts {
-            let (words, others) = cut(rest);
-            self.put(words);
-            self.put_text(text);
-            rest = others;
+    fn put_value(&mut self, value: &Value<'_>) {
+        match value {
+            Value::Number(number) => self.put_number(*number),
+            Value::Time(second) => self.put_time(*second),
+            Value::Text(text) => self.put_text(text),
+            Value::Letters(flags) => self.put_letters(*flags),
+            Value::Answer(true) => self.put(b"<span class=\"good\">yes</span>"),
+            Value::Answer(false) => self.put(b"<span class=\"bad\">no</span>"),
         }
-        self.put(rest);
     }
 }
 

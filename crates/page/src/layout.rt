@@ -1,6 +1,5 @@
 // What stands around each page.
-ghost use Rattle.page.specs.Marks.{ArePrinted};
-
+use crate::forms::Value;
 use crate::request::PagePath;
 use crate::sheet::Sheet;
 use crate::view::{OwnView, PlaceView};
@@ -20,9 +19,10 @@ pub(crate) fn put_top(sheet: &mut Sheet, own: OwnView, place: PlaceView, here: P
     put_link(sheet, here, PagePath::Records);
     put_link(sheet, here, PagePath::Log);
     put_link(sheet, here, PagePath::Metrics);
-    sheet.put(b"</nav>\n</header>\n<main id=\"content\">\n<h1>");
-    sheet.put(name_of(here));
-    sheet.put(b"</h1>\n");
+    sheet.put_form(
+        b"</nav>\n</header>\n<main id=\"content\">\n<h1>$</h1>\n",
+        &[Value::Text(name_of(here))],
+    );
 }
 
 // Appends the head of the document. The page of the net comes again by itself.
@@ -34,9 +34,10 @@ fn put_head(sheet: &mut Sheet, own: OwnView, place: PlaceView, here: PagePath) {
     if here == PagePath::Net {
         sheet.put(b"<meta http-equiv=\"refresh\" content=\"30\">\n");
     }
-    sheet.put(b"<link rel=\"stylesheet\" href=\"/style.css\">\n<title>");
-    sheet.put(name_of(here));
-    sheet.put(b": ");
+    sheet.put_form(
+        b"<link rel=\"stylesheet\" href=\"/style.css\">\n<title>$: ",
+        &[Value::Text(name_of(here))],
+    );
     put_bot(sheet, own, place);
     sheet.put(b"</title>\n</head>\n");
 }
@@ -45,31 +46,27 @@ fn put_head(sheet: &mut Sheet, own: OwnView, place: PlaceView, here: PagePath) {
 fn put_bot(sheet: &mut Sheet, own: OwnView, place: PlaceView) {
     let number = u64::from(own.number);
     match place {
-        PlaceView::Alone => sheet.put_numbers(b"bot $", &[number]),
-        PlaceView::Hub => sheet.put_numbers(
+        PlaceView::Alone => sheet.put_form(b"bot $", &[Value::Number(number)]),
+        PlaceView::Hub => sheet.put_form(
             b"bot $, the hub of $ leaves",
-            &[number, u64::from(own.leaves)],
+            &[Value::Number(number), Value::Number(u64::from(own.leaves))],
         ),
-        PlaceView::Leaf => sheet.put_numbers(b"bot $, a leaf", &[number]),
+        PlaceView::Leaf => sheet.put_form(b"bot $, a leaf", &[Value::Number(number)]),
     }
 }
 
 // Appends the link to a page.
 fn put_link(sheet: &mut Sheet, here: PagePath, page: PagePath) {
-    sheet.put(b"<a href=\"");
-    sheet.put(address_of(page));
+    let values = [Value::Text(address_of(page)), Value::Text(name_of(page))];
     if here == page {
-        sheet.put(b"\" aria-current=\"page");
+        sheet.put_form(b"<a href=\"$\" aria-current=\"page\">$</a>\n", &values);
+    } else {
+        sheet.put_form(b"<a href=\"$\">$</a>\n", &values);
     }
-    sheet.put(b"\">");
-    sheet.put(name_of(page));
-    sheet.put(b"</a>\n");
 }
 
 // The name of a page.
-fn name_of(page: PagePath) -> &'static [u8]
-    ensures { ArePrinted result.now }
-{
+fn name_of(page: PagePath) -> &'static [u8] {
     match page {
         PagePath::Net => b"Net",
         PagePath::Records => b"Records",
@@ -80,9 +77,7 @@ fn name_of(page: PagePath) -> &'static [u8]
 }
 
 // The path of a page.
-fn address_of(page: PagePath) -> &'static [u8]
-    ensures { ArePrinted result.now }
-{
+fn address_of(page: PagePath) -> &'static [u8] {
     match page {
         PagePath::Net => b"/",
         PagePath::Records => b"/records",
@@ -94,9 +89,10 @@ fn address_of(page: PagePath) -> &'static [u8]
 
 // Appends what stands after the content of a page, at second `now`.
 pub(crate) fn put_end(sheet: &mut Sheet, now: u64) {
-    sheet.put(b"</main>\n<footer>\n<p>As of ");
-    sheet.put_time(now);
-    sheet.put(b".</p>\n</footer>\n</body>\n</html>\n");
+    sheet.put_form(
+        b"</main>\n<footer>\n<p>As of $.</p>\n</footer>\n</body>\n</html>\n",
+        &[Value::Time(now)],
+    );
 }
 
 // Appends the links to the rows before those from `from` on, and to those from `next` on.
@@ -104,42 +100,22 @@ pub(crate) fn put_turns(sheet: &mut Sheet, page: PagePath, from: u64, next: Opti
     if from == 0 && next.is_none() {
         return;
     }
+    let address = address_of(page);
     sheet.put(b"<nav class=\"turns\" aria-label=\"Rows\">\n");
     if from > 0 {
-        put_turn(sheet, page, from.saturating_sub(MAX_ROWS as u64));
-        sheet.put(b"\" rel=\"prev\">Previous</a>\n");
+        sheet.put_form(
+            b"<a href=\"$?from=$\" rel=\"prev\">Previous</a>\n",
+            &[
+                Value::Text(address),
+                Value::Number(from.saturating_sub(MAX_ROWS as u64)),
+            ],
+        );
     }
     if let Some(next) = next {
-        put_turn(sheet, page, next);
-        sheet.put(b"\" rel=\"next\">Next</a>\n");
+        sheet.put_form(
+            b"<a href=\"$?from=$\" rel=\"next\">Next</a>\n",
+            &[Value::Text(address), Value::Number(next)],
+        );
     }
     sheet.put(b"</nav>\n");
-}
-
-// Appends a link to the rows from `from` on, up to its address.
-fn put_turn(sheet: &mut Sheet, page: PagePath, from: u64) {
-    sheet.put(b"<a href=\"");
-    sheet.put(address_of(page));
-    sheet.put(b"?from=");
-    sheet.put_number(from);
-}
-
-// Appends a row of a list of facts: a name, and a second.
-pub(crate) fn put_moment(sheet: &mut Sheet, name: &[u8], second: u64)
-    requires printed { ArePrinted name.now }
-{
-    sheet.put(b"<div><dt>");
-    sheet.put(name);
-    sheet.put(b"</dt><dd>");
-    sheet.put_time(second);
-    sheet.put(b"</dd></div>\n");
-}
-
-// Appends the begin of a cell of a table, under this heading.
-pub(crate) fn put_cell(sheet: &mut Sheet, heading: &[u8])
-    requires printed { ArePrinted heading.now }
-{
-    sheet.put(b"<td data-label=\"");
-    sheet.put(heading);
-    sheet.put(b"\">");
 }

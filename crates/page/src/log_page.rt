@@ -1,6 +1,7 @@
 // The page of the log.
 ghost use Rattle.std.specs.Prelude.{◌≤◌, length};
 
+use crate::forms::Value;
 use crate::layout::{put_end, put_top};
 use crate::request::PagePath;
 use crate::sheet::Sheet;
@@ -53,7 +54,7 @@ fn put_lines(sheet: &mut Sheet, lines: &[u8], room: Room) -> Room {
         if left.lines == 0 || line.len() > left.bytes {
             break;
         }
-        put_line(sheet, line);
+        sheet.put_form(b"<li>$</li>\n", &[Value::Text(without_end(line))]);
         left = Room {
             lines: left.lines - 1,
             bytes: left.bytes - line.len(),
@@ -61,12 +62,6 @@ fn put_lines(sheet: &mut Sheet, lines: &[u8], room: Room) -> Room {
         rest = before;
     }
     Room { lines: 0, bytes: 0 }
-}
-
-fn put_line(sheet: &mut Sheet, line: &[u8]) {
-    sheet.put(b"<li>");
-    sheet.put_text(without_end(line));
-    sheet.put(b"</li>\n");
 }
 
 // Cuts lines before the last one.

@@ -9,7 +9,7 @@ use rfccase::Casemapping;
 use userfile::{Hostmask, User, Userfile};
 
 // A known person: the user, and the hostmask by which the person is that user.
-#[derive(Drop)]
+#[derive(Clone, Copy)]
 pub(crate) struct KnownPerson<'a> {
     pub(crate) user: &'a User,
     pub(crate) mask: &'a Hostmask,

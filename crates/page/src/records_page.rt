@@ -1,17 +1,12 @@
 // The page of the records.
-ghost use Rattle.flagexpr.specs.Letters.{spelling};
-ghost use Rattle.page.specs.Marks.{ArePrinted, shown_text};
-ghost use Rattle.page.specs.Writing.{Adds};
-
-use crate::layout::{MAX_ROWS, put_cell, put_end, put_top, put_turns};
+use crate::forms::Value;
+use crate::layout::{MAX_ROWS, put_end, put_top, put_turns};
 use crate::person::person_of;
 use crate::request::PagePath;
 use crate::sheet::Sheet;
 use crate::view::PageView;
 use bytetext::Text;
-use flagexpr::Flags;
 use rfccase::Casemapping;
-use std::alloc::Global;
 use userfile::{Ban, ChannelFlags, Hostmask, User, Userfile};
 
 // A page begins no further row once it has this many bytes.
@@ -20,7 +15,6 @@ const FULL: usize = 262_144;
 // Appends the page of the records from place `from` on: the users come first, and then the bans. It says who the person
 // `who` would be, if one is named.
 pub(crate) fn put_records_page(
-    alloc: Global,
     sheet: &mut Sheet,
     view: &PageView<'_>,
     from: usize,
@@ -29,9 +23,9 @@ pub(crate) fn put_records_page(
     put_top(sheet, view.own, view.links.place, PagePath::Records);
     match who {
         Some(who) => put_search(sheet, view.mapping, view.userfile, who.as_bytes()),
-        None => sheet.put_texts(SEARCH, &[b""]),
+        None => sheet.put_form(SEARCH, &[Value::Text(b"")]),
     }
-    let next = put_records(alloc, sheet, view.userfile, from);
+    let next = put_records(sheet, view.userfile, from);
     put_turns(sheet, PagePath::Records, from as u64, next);
     put_end(sheet, view.now);
 }
@@ -44,24 +38,28 @@ const SEARCH: &[u8] = b"<form action=\"/records\" method=\"get\" role=\"search\"
 
 // The form of the search, and its answer: who the person would be, and by which hostmask.
 fn put_search(sheet: &mut Sheet, mapping: Casemapping, userfile: &Userfile, who: &[u8]) {
-    sheet.put_texts(SEARCH, &[who]);
+    sheet.put_form(SEARCH, &[Value::Text(who)]);
     match person_of(mapping, userfile, who) {
-        Some(known) => sheet.put_texts(
+        Some(known) => sheet.put_form(
             b"<p class=\"found\" role=\"status\"><strong>$</strong> would be <strong>$</strong> by the hostmask <code>$</code>.</p>\n",
-            &[who, known.user.handle.as_bytes(), known.mask.as_bytes()],
+            &[
+                Value::Text(who),
+                Value::Text(known.user.handle.as_bytes()),
+                Value::Text(known.mask.as_bytes()),
+            ],
         ),
-        None => sheet.put_texts(
+        None => sheet.put_form(
             b"<p class=\"found\" role=\"status\"><strong>$</strong> would be nobody: no hostmask matches.</p>\n",
-            &[who],
+            &[Value::Text(who)],
         ),
     }
 }
 
 // The records from place `from` on, and the place of the first one after them, if there is one.
-fn put_records(alloc: Global, sheet: &mut Sheet, userfile: &Userfile, from: usize) -> Option<u64> {
+fn put_records(sheet: &mut Sheet, userfile: &Userfile, from: usize) -> Option<u64> {
     let users = userfile.user_count();
     let end = users.saturating_add(userfile.ban_count());
-    let place = put_users(alloc, sheet, userfile, from);
+    let place = put_users(sheet, userfile, from);
     let shown = place.saturating_sub(from);
     let place = if place >= users && shown < MAX_ROWS {
         put_bans(sheet, userfile, place, MAX_ROWS - shown)
@@ -76,7 +74,7 @@ fn put_records(alloc: Global, sheet: &mut Sheet, userfile: &Userfile, from: usiz
 }
 
 // The users from place `from` on. Returns the place after them.
-fn put_users(alloc: Global, sheet: &mut Sheet, userfile: &Userfile, from: usize) -> usize {
+fn put_users(sheet: &mut Sheet, userfile: &Userfile, from: usize) -> usize {
     if from >= userfile.user_count() {
         return from;
     }
@@ -92,68 +90,52 @@ fn put_users(alloc: Global, sheet: &mut Sheet, userfile: &Userfile, from: usize)
         if sheet.len() > FULL {
             break;
         }
-        put_user(alloc, sheet, user);
+        put_user(sheet, user);
         place = place.saturating_add(1);
     }
     sheet.put(b"</tbody>\n</table>\n");
     place
 }
 
-fn put_user(alloc: Global, sheet: &mut Sheet, user: &User) {
-    sheet.put_texts(b"<tr><th scope=\"row\">$</th>", &[user.handle.as_bytes()]);
-    put_flags(alloc, sheet, b"Flags", user.global);
-    put_flags(alloc, sheet, b"As a bot", user.bot);
-    put_masks(sheet, user.masks.as_slice());
-    put_entries(alloc, sheet, user.channels.as_slice());
-    sheet.put_texts(
-        b"<td data-label=\"Info\">$</td></tr>\n",
-        &[user.info.as_bytes()],
+fn put_user(sheet: &mut Sheet, user: &User) {
+    sheet.put_form(
+        b"<tr><th scope=\"row\">$</th><td data-label=\"Flags\">$</td><td data-label=\"As a bot\">$</td>",
+        &[
+            Value::Text(user.handle.as_bytes()),
+            Value::Letters(user.global),
+            Value::Letters(user.bot),
+        ],
     );
-}
-
-// A cell of flags.
-fn put_flags(alloc: Global, sheet: &mut Sheet, heading: &[u8], flags: Flags)
-    requires printed { ArePrinted heading.now }
-{
-    put_cell(sheet, heading);
-    put_letters(alloc, sheet, flags);
-    sheet.put(b"</td>");
-}
-
-// The letters of flags, or `-` if there are none.
-fn put_letters(alloc: Global, sheet: &mut Sheet, flags: Flags)
-    ensures { Adds sheet.old (shown_text (spelling flags)) sheet.new }
-{
-    match flags.text(alloc) {
-        Ok(letters) => sheet.put_text(letters.as_bytes()),
-        Err(_) => sheet.lack_memory(),
-    }
+    put_masks(sheet, user.masks.as_slice());
+    put_entries(sheet, user.channels.as_slice());
+    sheet.put_form(
+        b"<td data-label=\"Info\">$</td></tr>\n",
+        &[Value::Text(user.info.as_bytes())],
+    );
 }
 
 // A cell of hostmasks, each on a line of its own.
 fn put_masks(sheet: &mut Sheet, masks: &[Hostmask]) {
-    put_cell(sheet, b"Hostmasks");
+    sheet.put(b"<td data-label=\"Hostmasks\">");
     for mask in masks {
-        sheet.put_text(mask.as_bytes());
-        sheet.put(b"<br>");
+        sheet.put_form(b"$<br>", &[Value::Text(mask.as_bytes())]);
     }
     sheet.put(b"</td>");
 }
 
 // A cell of the flags on channels, each on a line of its own.
-fn put_entries(alloc: Global, sheet: &mut Sheet, entries: &[ChannelFlags]) {
-    put_cell(sheet, b"On channels");
+fn put_entries(sheet: &mut Sheet, entries: &[ChannelFlags]) {
+    sheet.put(b"<td data-label=\"On channels\">");
     for entry in entries {
-        put_entry(alloc, sheet, entry);
+        sheet.put_form(
+            b"$ $<br>",
+            &[
+                Value::Text(entry.channel.as_bytes()),
+                Value::Letters(entry.flags),
+            ],
+        );
     }
     sheet.put(b"</td>");
-}
-
-fn put_entry(alloc: Global, sheet: &mut Sheet, entry: &ChannelFlags) {
-    sheet.put_text(entry.channel.as_bytes());
-    sheet.put(b" ");
-    put_letters(alloc, sheet, entry.flags);
-    sheet.put(b"<br>");
 }
 
 // At most `most` bans from place `from` on, where the first ban's place is the number of users. Returns the place after
@@ -183,33 +165,38 @@ fn put_bans(sheet: &mut Sheet, userfile: &Userfile, from: usize, most: usize) ->
 }
 
 fn put_ban(sheet: &mut Sheet, ban: &Ban) {
-    let channel = if ban.channel.is_empty() {
-        b"all"
-    } else {
-        ban.channel.as_bytes()
-    };
-    sheet.put_texts(
-        b"<tr><th scope=\"row\">$</th><td data-label=\"Channel\">$</td><td data-label=\"By\">$</td>",
-        &[ban.mask.as_bytes(), channel, ban.creator.as_bytes()],
-    );
-    put_terms(sheet, ban.expires, ban.sticky);
-    sheet.put_texts(
-        b"<td data-label=\"Comment\">$</td></tr>\n",
-        &[ban.comment.as_bytes()],
+    sheet.put_form(
+        BAN,
+        &[
+            Value::Text(ban.mask.as_bytes()),
+            Value::Text(channel_of(ban.channel.as_bytes())),
+            Value::Text(ban.creator.as_bytes()),
+            end_of(ban.expires),
+            Value::Text(sticky_of(ban.sticky)),
+            Value::Text(ban.comment.as_bytes()),
+        ],
     );
 }
 
-// Until when a ban holds, and whether it comes back when somebody removes it.
-fn put_terms(sheet: &mut Sheet, expires: u64, sticky: bool) {
-    sheet.put(b"<td data-label=\"Until\">");
+const BAN: &[u8] =
+    b"<tr><th scope=\"row\">$</th><td data-label=\"Channel\">$</td><td data-label=\"By\">$</td>\
+<td data-label=\"Until\">$</td><td data-label=\"Sticky\">$</td><td data-label=\"Comment\">$</td></tr>\n";
+
+// The channel of a ban.
+fn channel_of(channel: &[u8]) -> &[u8] {
+    if channel.is_empty() { b"all" } else { channel }
+}
+
+// Until when a ban holds.
+fn end_of(expires: u64) -> Value<'static> {
     if expires == 0 {
-        sheet.put(b"ever");
+        Value::Text(b"ever")
     } else {
-        sheet.put_time(expires);
+        Value::Time(expires)
     }
-    if sticky {
-        sheet.put(b"</td><td data-label=\"Sticky\">yes</td>");
-    } else {
-        sheet.put(b"</td><td data-label=\"Sticky\">no</td>");
-    }
+}
+
+// Whether a ban comes back when somebody removes it.
+fn sticky_of(sticky: bool) -> &'static [u8] {
+    if sticky { b"yes" } else { b"no" }
 }

@@ -3,11 +3,13 @@ ghost use Rattle.std.specs.Prelude.{◌≤◌, vec_len};
 ghost use Rattle.page.specs.declared.sheet.TheConstants.{MAX_PAGE};
 
 use crate::marks::{are_bare, hidden, is_bare, is_markup, reference};
-use bytetext::Failure;
+use bytetext::{Failure, NoMemory};
+use flagexpr::Flags;
 use httpdate::HttpDate;
 use itoa::Buffer;
 use std::alloc::Global;
 use std::marker::Model;
+use std::net::SocketAddr;
 use std::str;
 
 /// The most bytes of the body of an answer.
@@ -24,6 +26,7 @@ pub(crate) type SheetError = Failure<TooLong>;
 // all is there that was to be written. A sheet that lacks something takes nothing more, and `finish` says why: so whoever
 // writes looks at no single step.
 pub(crate) struct Sheet {
+    alloc: Global,
     bytes: Vec<u8>,
     // Why something is not there.
     fault: Option<SheetError>,
@@ -33,7 +36,11 @@ pub(crate) struct Sheet {
 // By hand, so that this is proved once, and not in each function in which one ends.
 impl Drop for Sheet {
     fn drop(self) {
-        let Sheet { bytes: _, fault: _ } = self;
+        let Sheet {
+            alloc: _,
+            bytes: _,
+            fault: _,
+        } = self;
     }
 }
 
@@ -53,6 +60,7 @@ impl Sheet {
     ghost use Rattle.std.specs.Prelude.{◌≡◌, ◌≤◌, IfOk, decimal, false, length, true};
     ghost use Rattle.std.specs.List.{flat_map};
     ghost use Rattle.std.specs.Str.{chars};
+    ghost use Rattle.flagexpr.specs.Letters.{spelling};
     ghost use Rattle.page.specs.Marks.{ArePrinted, numbered, shown_byte, shown_char, shown_text};
     ghost use Rattle.page.specs.Writing.{Adds, nothing};
     ghost use Rattle.page.specs.declared.sheet.TheConstants.{MAX_PAGE};
@@ -62,6 +70,7 @@ impl Sheet {
         ensures { result ≡ nothing }
     {
         Sheet {
+            alloc,
             bytes: Vec::new(alloc),
             fault: None,
         }
@@ -90,7 +99,7 @@ impl Sheet {
     }
 
     // Notes that no memory is left for something that was to be written.
-    pub(crate) fn lack_memory(&mut self)
+    fn lack_memory(&mut self)
         ensures { self.new.is_whole ≡ false }
     {
         if self.fault.is_none() {
@@ -179,13 +188,35 @@ impl Sheet {
         }
     }
 
+    // Appends the letters of flags, or `-` if there are none.
+    pub(crate) fn put_letters(&mut self, flags: Flags)
+        ensures { Adds self.old (shown_text (spelling flags)) self.new }
+    {
+        match flags.text(self.alloc) {
+            Ok(letters) => self.put_text(letters.as_bytes()),
+            Err(NoMemory) => self.lack_memory(),
+        }
+    }
+
+    // Appends an address and its port.
+    pub(crate) fn put_address(&mut self, address: SocketAddr) {
+        match format!(in self.alloc; "{}", address) {
+            Ok(text) => self.put_text(text.as_bytes()),
+            Err(_) => self.lack_memory(),
+        }
+    }
+
     // Returns the bytes, or why something is not there. Does not allocate.
     pub(crate) fn finish(self) -> Result<Vec<u8>, SheetError>
         ensures whole { IfOk result (λ bytes. self ≡ record { bytes = bytes.items; is_whole = true }) }
         ensures printed { IfOk result (λ bytes. ArePrinted bytes.items) }
         ensures bound { IfOk result (λ bytes. length bytes.items ≤ MAX_PAGE) }
     {
-        let Sheet { bytes, fault } = self;
+        let Sheet {
+            alloc: _,
+            bytes,
+            fault,
+        } = self;
         match fault {
             Some(fault) => Err(fault),
             None => Ok(bytes),

@@ -176,7 +176,7 @@ fn host_text(alloc: Global, host: &[u8]) -> Result<Vec<u8>, NoMemory>
 fn has_colon(host: &[u8]) -> bool
     ensures { result ≡ list_any (λ b. b == 58) host.now }
 {
-    host.iter().any(|byte| *byte == b':')
+    host.contains(&b':')
 }
 
 // A host and its port, as the Host of a request has them.

@@ -10,11 +10,7 @@ use crate::status::PageStatus;
 use bytetext::{Failure, NoMemory, Text};
 use form_urlencoded::parse;
 use http_uri::{Uri, UriError};
-use std::alloc::{AllocError, Global};
-use std::borrow::CowStr;
-
-// A name and its value, as a query has them.
-type Pair<'a> = (CowStr<'a, Global>, CowStr<'a, Global>);
+use std::alloc::Global;
 
 // Returns what a `target` asks for (RFC 9112 section 3.2).
 pub(crate) fn want_of(alloc: Global, target: &[u8]) -> Result<PageWant, NoMemory>
@@ -79,7 +75,7 @@ fn want_by(path: PagePath, from: u64, who: Option<Text>) -> PageWant
 #[derive(Clone, Copy)]
 struct NoNumber;
 
-// What a query says. It keeps its first fault: so whoever reads looks at no single step.
+// What a query says, up to its first fault; nothing after one counts. So whoever reads looks at no single step.
 #[derive(Drop)]
 struct PageQuery {
     // The first row that is to be shown.
@@ -98,24 +94,17 @@ fn query_of(alloc: Global, query: &[u8]) -> PageQuery {
         fault: None,
     };
     for pair in parse(alloc, query) {
-        read.take(alloc, pair);
+        match pair {
+            Ok((name, value)) => read.take(alloc, name.as_str(), value.as_str()),
+            Err(_) => read.fail(Failure::NoMemory),
+        }
     }
     read
 }
 
 impl PageQuery {
-    // Takes a name and its value; nothing after a fault.
-    fn take(&mut self, alloc: Global, pair: Result<Pair<'_>, AllocError>) {
-        if self.fault.is_some() {
-            return;
-        }
-        match pair {
-            Ok((name, value)) => self.take_value(alloc, name.as_str(), value.as_str()),
-            Err(_) => self.fault = Some(Failure::NoMemory),
-        }
-    }
-
-    fn take_value(&mut self, alloc: Global, name: &str, value: &str) {
+    // Takes a name and its value.
+    fn take(&mut self, alloc: Global, name: &str, value: &str) {
         match name {
             "from" => self.take_from(value),
             "who" if !value.is_empty() => self.take_who(alloc, value),
@@ -126,14 +115,21 @@ impl PageQuery {
     fn take_from(&mut self, value: &str) {
         match value.parse::<u64>() {
             Ok(number) => self.from = number,
-            Err(_) => self.fault = Some(Failure::Refused(NoNumber)),
+            Err(_) => self.fail(Failure::Refused(NoNumber)),
         }
     }
 
     fn take_who(&mut self, alloc: Global, value: &str) {
         match Text::from_slice(alloc, value.as_bytes()) {
             Ok(who) => self.who = Some(who),
-            Err(_) => self.fault = Some(Failure::NoMemory),
+            Err(_) => self.fail(Failure::NoMemory),
+        }
+    }
+
+    // Keeps a fault, unless there was one before.
+    fn fail(&mut self, fault: Failure<NoNumber>) {
+        if self.fault.is_none() {
+            self.fault = Some(fault);
         }
     }
 }

@@ -4,7 +4,7 @@ use std::net::SocketAddr;
 use userfile::Userfile;
 
 /// What a page shows of a bot, as its process is at one moment.
-#[derive(Drop)]
+#[derive(Clone, Copy)]
 pub struct PageView<'a> {
     /// The second since 1970-01-01 UTC.
     pub now: u64,
