@@ -48,10 +48,10 @@ fn strangers_are_ignored(rt: HostRuntime) {
     assert!(rt; sifted.bytes.as_slice() == b":bob!b@hoST NOTICE #a :x\n".as_slice());
 }
 
-// What a sieve is to say of a person's line the last time that he sends it.
+// A line, and the ignore that it begins if it is sent too often.
 struct Flood {
     line: &'static [u8],
-    // How often it is sent and begins no ignore.
+    // How often it is sent without beginning one.
     harmless: usize,
     kind: FloodKind,
     place: &'static [u8],
@@ -141,7 +141,12 @@ fn who_floods_a_channel_is_told(rt: HostRuntime) {
         assert!(rt; ignores[0].limit.seconds == flood.seconds);
         // Who is ignored is not heard, though what he does to channels is.
         let sifted = sieve
-            .sift(alloc, b":bob!b@h PRIVMSG egg :hi\n:bob!b@h PART #egg\n", 100, &Ann)
+            .sift(
+                alloc,
+                b":bob!b@h PRIVMSG egg :hi\n:bob!b@h PART #egg\n",
+                100,
+                &Ann,
+            )
             .expect(&rt, "memory");
         assert!(rt; sifted.bytes.as_slice() == b":bob!b@h PART #egg\n".as_slice());
     }
@@ -179,7 +184,8 @@ fn a_limit_ends_with_its_window(rt: HostRuntime) {
     let alloc = rt.alloc();
     let mut sieve = Sieve::new(alloc, Limits::eggdrop()).expect(&rt, "memory");
     let lines = b":bob!b@h KICK #egg ann\n:bob!b@h KICK #egg cat\n".as_slice();
-    for (now, begun) in [(100, 0), (110, 0), (119, 1), (720, 0)] {
+    for (now, begun) in [(100_u16, 0), (110, 0), (119, 1), (720, 0)] {
+        let now = u64::from(now);
         let sifted = sieve.sift(alloc, lines, now, &Ann).expect(&rt, "memory");
         assert!(rt; sifted.bytes.as_slice() == lines);
         assert!(rt; sifted.begun == begun);
