@@ -40,7 +40,7 @@ def is_ignored(tally, bot, nick):
     tally.note("status shows the stranger alone", len(keys) == 1 and nick in keys[0], str(keys))
     shown = json.loads(bot.answers("status json"))["ignored"]
     tally.note("and so does status json", [it["key"] for it in shown] == keys and 0 < shown[0]["seconds"] <= 300, str(shown))
-    tally.note("the log says it once", len(re.findall(r" ignores \S+ for 300 s: more than \d+ lines in 60 s$", bot.logged(), re.M)) == 1)
+    tally.note("the log says it once", len(re.findall(r" ignores \S+ for 300 s: more than \d+ (?:messages|lines) in 60 s$", bot.logged(), re.M)) == 1)
     return keys[0] if keys else "nobody@nowhere"
 
 
