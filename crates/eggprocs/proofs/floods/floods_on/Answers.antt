@@ -9,4 +9,4 @@ loop-name-preserved c =
     first-lists-more MAX_ACTIONS (λ channel. flood_on channel c.args.call.now c.args.view.now) c.args.names.now c.loop-name.name-index c.name-item.result
     _ c.loop-name.actions _ (omega arith) c.name-item.is
     (c.in_ok-more.ensures ∙ ap (λ channel. flood_on channel c.args.call.now c.args.view.now) c.as_bytes.ensures) c.loop-name.invariant
-    c.in_ok-first_of.ensures
+    c.in_ok-actions.ensures
