@@ -64,3 +64,8 @@ first-lists-more n h xs count x given before after within at is so_far grown =
     ∙ ap (take n) (sym (flat_map-append h (take count xs) (x ∷ [])))
     ∙ ap (λ y. take n (flat_map h (take count xs ++ y ∷ []))) at
     ∙ ap (λ ys. take n (flat_map h ys)) (sym (take_more xs count x within))
+
+-- the same once no element is left
+pub first-lists-all : {X Y : Type 0} (n : ℕ) (h : X → List Y) (xs : List X) (count : ℕ) (given : List Y) → length xs ≤ count
+    → given ≡ take n (flat_map h (take count xs)) → given ≡ take n (flat_map h xs)
+first-lists-all n h xs count given past is = is ∙ ap (λ ys. take n (flat_map h ys)) (take_all count xs past)

@@ -6,6 +6,7 @@ use Rattle.std.proofs.lemmas.List.Elements.{All-take}
 use Rattle.std.proofs.lemmas.List.Sums.{AllPass-from_list_all, list_all-from_AllPass}
 use Rattle.chanstate.specs.declared.member.Member.{Member}
 use Rattle.chanstate.specs.Views.{members_in, channels_with}
+use Rattle.chanstate.specs.declared.state.ChanState.{ChanState}
 use Rattle.outqueue.specs.declared.queue.Queue.TheVariants.{Mode as mode_queue}
 use Rattle.procs.specs.declared.action.Action.{Action}
 use Rattle.procs.specs.declared.call.Call.{Call}
@@ -18,7 +19,7 @@ use Rattle.eggprocs.specs.ChannelLaws.{is_flood_kick, is_flood_ban, is_flood_lin
 use Rattle.eggprocs.specs.Channel.{put}
 use Rattle.eggprocs.specs.Ends.{call_on}
 use Rattle.eggprocs.specs.Floods.{is_flood, flooder_of, flood_place, flood_kind, is_nowhere, is_of_joins, is_of_nicks, is_flooder, flood_reason, flood_mask}
-use Rattle.eggprocs.specs.Floods.{flood_kick, flood_kicks, is_spared_flooder, is_banned, flood_ban, flood_lines, flood_on, floods_all}
+use Rattle.eggprocs.specs.Floods.{flood_kick, flood_kicks, is_spared_flooder, is_banned, flood_ban, flood_lines, flood_on, floods_all, flood_nowhere, asked_by_kickfloods}
 use Rattle.eggprocs.specs.Keeping.{is_spared}
 use Rattle.eggprocs.specs.Laws.{DoesOnly, is_bot_or_known, is_line_in_turn}
 use Rattle.eggprocs.specs.Lines.{mode, kick}
@@ -198,3 +199,36 @@ joiners-banned call seen flood here op banned first reply kept =
     ∙ ap (λ (b : Bool). if b then share_out TurnsOp on seen lines else []) op
     ∙ ap (λ (turn : ℕ). by_turn TurnsOp turn on seen lines) first
     ∙ ap (λ (b : Bool). if b then take MAX_ACTIONS (flood_ban on call ∷ flood_kicks on call seen) else flood_kicks on call seen) banned)
+
+-- ---- the code
+
+-- the share of the lines on a channel on which the bot is an operator
+pub on-op : (channel : List ℕ) (call on : Call) (seen : Seen) (wanted actions : List Action) (op : Bool) → op ≡ is_op_of channel seen → op ≡ true
+    → on ≡ call_on channel → wanted ≡ flood_lines on call seen → actions ≡ share_out TurnsOp on seen wanted → actions ≡ flood_on channel call seen
+on-op channel call on seen wanted actions op op_is true_is on_is wanted_is is =
+    is
+    ∙ ap (λ (lines : List Action). share_out TurnsOp on seen lines) wanted_is
+    ∙ ap (λ (there : Call). share_out TurnsOp there seen (flood_lines there call seen)) on_is
+    ∙ sym (ap (λ (b : Bool). if b then share_out TurnsOp (call_on channel) seen (flood_lines (call_on channel) call seen) else []) (sym op_is ∙ true_is))
+
+-- what is requested on the channels that the bot has looked up
+pub on-all : (call : Call) (seen : Seen) (channels : ChanState) (nick : List ℕ) (held names : List (List ℕ)) (actions : List Action)
+    → channels ≡ seen.sight.channels → nick ≡ channels.nick → held ≡ channels_with nick channels → names ≡ held
+    → actions ≡ take MAX_ACTIONS (flat_map (λ channel. flood_on channel call seen) names) → actions ≡ floods_all call seen
+on-all call seen channels nick held names actions same own all slice is =
+    is
+    ∙ ap (λ (list : List (List ℕ)). take MAX_ACTIONS (flat_map (λ channel. flood_on channel call seen) list))
+    (slice ∙ all ∙ ap (λ (n : List ℕ). channels_with n channels) own ∙ ap (λ (state : ChanState). channels_with state.nick state) same)
+
+pub on-nowhere : (call : Call) (seen : Seen) (nicks : Bool) (actions : List Action) → nicks ≡ is_of_nicks call → nicks ≡ true
+    → actions ≡ floods_all call seen → actions ≡ flood_nowhere call seen
+on-nowhere call seen nicks actions nicks_is true_is is =
+    is ∙ sym (ap (λ (b : Bool). if b then floods_all call seen else []) (sym nicks_is ∙ true_is))
+
+pub on-place : (call : Call) (seen : Seen) (flood nowhere : Bool) (place : List ℕ) (actions : List Action) → flood ≡ is_flood call → flood ≡ true
+    → nowhere ≡ is_nowhere call → nowhere ≡ false → place ≡ flood_place call → actions ≡ flood_on place call seen → actions ≡ asked_by_kickfloods call seen
+on-place call seen flood nowhere place actions flood_is true_is nowhere_is false_is place_is is =
+    is
+    ∙ ap (λ (channel : List ℕ). flood_on channel call seen) place_is
+    ∙ sym (ap (λ (b : Bool). if b then (if is_nowhere call then flood_nowhere call seen else flood_on (flood_place call) call seen) else []) (sym flood_is ∙ true_is)
+    ∙ ap (λ (b : Bool). if b then flood_nowhere call seen else flood_on (flood_place call) call seen) (sym nowhere_is ∙ false_is))

@@ -35,10 +35,10 @@ pub(crate) fn asked_by_kickfloods(
         return Ok(Actions::empty(alloc));
     }
     if is_nowhere(call) {
-        flood_nowhere(alloc, call, view)
-    } else {
-        flood_on(alloc, flood_place(call), call, view)
+        return flood_nowhere(alloc, call, view);
     }
+    let actions = flood_on(alloc, flood_place(call), call, view)?;
+    Ok(actions)
 }
 
 // Whether a call is for the line of a flood.
@@ -97,9 +97,18 @@ fn flood_nowhere(alloc: Global, call: &Call, view: &View<'_>) -> Result<Actions,
     if !is_of_nicks(call) {
         return Ok(Actions::empty(alloc));
     }
+    let actions = floods_all(alloc, call, view)?;
+    Ok(actions)
+}
+
+// What is requested on all channels of the bot, as much as an answer has room for.
+fn floods_all(alloc: Global, call: &Call, view: &View<'_>) -> Result<Actions, NoMemory>
+    ensures { IfOk result (λ actions. actions ≡ floods_all call.now view.now) }
+{
     let channels = view.channels();
     let names = channels.channels_of(alloc, channels.own_nick())?;
-    floods_on(alloc, names.as_slice(), call, view)
+    let actions = floods_on(alloc, names.as_slice(), call, view)?;
+    Ok(actions)
 }
 
 // What is requested on these channels, as much as an answer has room for.
@@ -146,7 +155,8 @@ fn flood_on(
     }
     let on = call_on(alloc, channel)?;
     let wanted = flood_lines(alloc, &on, call, view)?;
-    share_out(alloc, Duty::TurnsOp, &on, view, wanted)
+    let actions = share_out(alloc, Duty::TurnsOp, &on, view, wanted)?;
+    Ok(actions)
 }
 
 // The lines of a bot that is the first on the channel of `on`.
