@@ -18,13 +18,14 @@ BACK = {"-n": "+n", "+i": "-i", "+m": "-m"}  # what undoes a stranger's change
 
 BINDS = ["log lines", "bind pub - ban !ban", "bind join - autoop *", "bind join - greet *", "bind join - opall *",
          *[f"bind mode - {it} *" for it in ("opall", "protectops", "bitch", "guard", "enforcebans", "dynamicbans")],
-         *[f"bind mode - keepmodes #egg {it}" for it in BACK], *[f"bind {it} - cycle *" for it in ("part", "sign", "kick")]]
+         *[f"bind mode - keepmodes #egg {it}" for it in BACK], *[f"bind {it} - cycle *" for it in ("part", "sign", "kick")],
+         "bind raw - kickfloods FLOOD"]
 OF_HUB = ["bind cron - expire * * * * *", "bind bot - giveop needop"]
 OF_LEAF = ["bind join - needop *", "bind mode - needop *", "bind cron - needop */5 * * * *"]
 
 # Eggdrop's settings for the same. Its limit of deops is the one that it has by itself.
 DROP = """
-foreach channel {#drop #lone2} {channel set $channel +protectops +bitch +enforcebans +autoop +cycle +greet flood-deop 3:10 aop-delay 0:0}
+foreach channel {#drop #lone2} {channel set $channel +protectops +bitch +enforcebans +autoop +cycle +greet flood-deop 3:10 flood-chan 15:60 flood-nick 5:60 flood-join 5:60 flood-kick 3:10 aop-delay 0:0}
 channel set #drop chanmode +nt-imk
 proc ban {nick address handle channel text} {
   lassign [split $text] mask minutes

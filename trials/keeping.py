@@ -1,13 +1,13 @@
 #!/usr/bin/env python3
 """Whether the bots of a net keep a channel that strangers try to take over, and do each thing once. Beside Eggdrop.
 
-    trials/keeping.py [PROGRAM]      ends within ten minutes
+    trials/keeping.py [PROGRAM]      ends within thirteen minutes
     apt-get install eggdrop ngircd inspircd      what isn't here is left out, with a sentence
 
 PROGRAM is the program to try, else what EGGNET names, else ours. At ngircd and InspIRCd a hub and four leaves are op on a channel,
 and an Eggdrop is op on another one. The same happens on each: three ops of the records join; an op gives a stranger op; a stranger
 with op takes op from three ops, bans a bot and an op, and changes modes; twenty strangers under one recorded ban join; a bot is left
-alone on a channel without op; an op bans somebody for a minute, and all bots are killed and started again in that minute. Of our
+alone on a channel without op; strangers flood the channel by lines, nicks, joins and kicks; an op bans somebody for a minute, and all bots are killed and started again in that minute. Of our
 net, a leaf loses op too, and the bot that acts first is stopped. Each time the bots answer soon, and all their logs together have
 one MODE or KICK for each thing to do. The twenty strangers are more than the first bot can kick in the five seconds after which the
 next one looks, so several bots kick them: none sends a line twice, and they are out as fast as from Eggdrop's channel.
@@ -88,6 +88,27 @@ def clones(side):
         end_all(*them)
 
 
+def floods(side):
+    """Strangers flood the channel: by lines, by nicks, by joins, and one with op by kicks."""
+    loud, nick = side.on_channel("loud"), f"nix{side.end}x6"
+    side.tried("a stranger says 20 lines", lambda: [loud.say(f"PRIVMSG {side.channel} :line {it}") for it in range(20)],
+               lambda _: [f"KICK {loud.nick}"])
+    nix = side.on_channel("nix")
+    side.tried("a stranger takes seven nicks", lambda: [nix.say(f"NICK {nick[:-1]}{it}") for it in range(7)], lambda _: [f"KICK {nick}"])
+    hopper = side.on_channel("hopper")
+    joined = next(it for it in reversed(side.chief.lines) if re.match(rf":{hopper.nick}!\S+ JOIN", it))
+    address = joined.split()[0].partition("!")[2].lower()
+
+    def hop():
+        for _ in range(7):
+            hopper.say(f"PART {side.channel}")
+            hopper.say(f"JOIN {side.channel}")
+    side.tried("a stranger joins eight times", hop, lambda _: [f"+b *!{address}", f"KICK {hopper.nick}"])
+    mallory, them = side.stranger(), [side.on_channel(f"poor{it}") for it in range(5)]
+    side.tried("a stranger with op kicks five people", lambda: [mallory.say(f"KICK {side.channel} {it.nick}") for it in them],
+               lambda _: [f"KICK {mallory.nick}"])
+
+
 def leaf_loses_op(side):
     mallory = side.stranger()
     side.tried("a leaf loses op", lambda: mallory.say(f"MODE {side.channel} -o egg3"), lambda _: ["+o egg3"], 15)
@@ -141,7 +162,7 @@ def tries(side):
     own = [leaf_loses_op, first_stopped] if side.name == "ours" else []
     try:
         side.start()
-        for scene in [deops, bans, modes, clones, *own, alone, timed_ban]:
+        for scene in [deops, bans, modes, clones, floods, *own, alone, timed_ban]:
             scene(side)
     except (OSError, RuntimeError) as error:
         side.tally.note(f"{side.server.name}: {side.name}", False, repr(error))
