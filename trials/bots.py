@@ -269,6 +269,9 @@ class Guest:
         self.socket.close()
 
 
+KINDS = ("msg", "ctcp", "chan", "join", "nick", "kick", "deop")  # of what floods are
+
+
 class Bot:
     """A bot of a configuration file, as a process."""
 
@@ -281,7 +284,7 @@ class Bot:
         said = [f"data {self.folder}", f"nick {nick}"]
         said += [f"server {it.host} {it.port} {it.password}".rstrip() for it in servers]
         if not any(it.startswith("flood-") for it in lines):
-            said += [f"flood-{kind} 0:0" for kind in ("msg", "ctcp", "chan")]  # the people of most trials say much
+            said += [f"flood-{kind} 0:0" for kind in KINDS]  # the people of most trials say and do much
         Path(self.config).write_text("\n".join([*said, *lines]) + "\n", encoding="utf-8")
         self.process = None
 

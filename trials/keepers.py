@@ -120,8 +120,9 @@ class Ours(Side):
         self.net = Net(program, room, server, LEAVES)
         self.bots, self.nicks = self.net.bots, [it.nick for it in self.net.bots]
         for place, bot in enumerate(self.bots):
-            with open(bot.config, "a", encoding="utf-8") as config:
-                config.write("\n".join(BINDS + (OF_LEAF if place else OF_HUB)) + "\n")
+            # (without a line, a limit is Eggdrop's)
+            said = [it for it in Path(bot.config).read_text(encoding="utf-8").splitlines() if not it.startswith("flood-")]
+            Path(bot.config).write_text("\n".join(said + BINDS + (OF_LEAF if place else OF_HUB)) + "\n", encoding="utf-8")
 
     def note(self, what, holds, seen=""):
         self.tally.note(f"{self.server.name}: {what}", holds, seen)

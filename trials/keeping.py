@@ -103,7 +103,7 @@ def floods(side):
         for _ in range(7):
             hopper.say(f"PART {side.channel}")
             hopper.say(f"JOIN {side.channel}")
-    side.tried("a stranger joins eight times", hop, lambda _: [f"+b *!{address}", f"KICK {hopper.nick}"])
+    side.tried("a stranger joins eight times", hop, lambda _: [f"+b *!{address}", f"KICK {hopper.nick}"], by_each=True)
     mallory, them = side.stranger(), [side.on_channel(f"poor{it}") for it in range(5)]
     side.tried("a stranger with op kicks five people", lambda: [mallory.say(f"KICK {side.channel} {it.nick}") for it in them],
                lambda _: [f"KICK {mallory.nick}"])
