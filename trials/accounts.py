@@ -214,7 +214,7 @@ def autoop(part):
 
 def floods(part):
     """Somebody who has the flag o everywhere is never ignored, and a stranger is after four lines."""
-    with part.stage(OWNER, binds=["flood-msg 0:0", "flood-ctcp 0:0", "flood-chan 4:60"]) as stage:
+    with part.stage(OWNER, binds=["flood-msg 0:0", "flood-ctcp 0:0", "flood-chan 4:60", "flood-join 0:0"]) as stage:
         people = [stage.person("ann", "one", "127.0.0.2", "boss"), stage.person("eve", "two", "127.0.0.3", "mallory")]
         for it in people:
             stage.after(it, f"JOIN {stage.channel}")
