@@ -1,6 +1,7 @@
 // What a case of the edge of a bot as a process asks for.
 use crate::{
-    books, configurations, handshakes, lookups, records, registrations, seconds, uplinks, whois, wires,
+    books, configurations, handshakes, lookups, records, registrations, seconds, uplinks, whois,
+    wires,
 };
 use bytetext::Text;
 use caselines::{CaseError, NO_SUCH_CASE, Sink};
