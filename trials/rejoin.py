@@ -11,9 +11,10 @@ longer after each refusal, PART and KICK; and at last it is on all of them. It k
 seconds, and some in advance. While it has its nick it sends no ISON and no NICK.
 
 At ngircd and at InspIRCd somebody has the nick of a bot and leaves, at a channel of the bot or elsewhere: the bot takes its
-nick back. At InspIRCd an operator takes the bot off its channels by SAPART and REMOVE, and a channel is for the registered
-alone for a while (477) or for operators alone (520): the bot is back each time. A bot whose nick InspIRCd takes from nobody (432)
-is not asked for each minute.
+nick back, and at InspIRCd, which has MONITOR, at once. At InspIRCd an operator takes the bot off its channels by SAPART and
+REMOVE, and a channel is for the registered alone for a while (477) or for operators alone (520): the bot is back each time. One
+is for the invited alone (473): once the bot waits long, twenty invitations have it join once, within six seconds. A bot whose
+nick InspIRCd takes from nobody (432) is not asked for each minute.
 The last line is 'N well, M bad'; the status is 1 where any is bad.
 """
 import os
@@ -37,6 +38,8 @@ SECOND = ["#none", "#keyed", "#often", "#sealed", "#opers", "#moved"]
 LONGER = [*REFUSED, "#parted", "#kicked"]  # the bot waits longer the second time
 NAMES = {"#parted": "a PART in its name", "#kicked": "a KICK", "#unanswered": "no answer to a JOIN", "#moved": "470"}
 TIMES = 2  # each is refused, and the bot is taken off, so often
+LONG = 5  # after so many refusals the bot waits for 32 seconds
+INVITATIONS = 20
 SOON = 70  # seconds
 IN_ADVANCE = 12  # lines
 REST = 8  # seconds before the welcome, so that the lines of a registration no longer count for the pace
@@ -125,7 +128,7 @@ class Modules(Inspircd):
         words = super().words()
         with open(f"{self.room}/inspircd.conf", "a", encoding="utf-8") as conf:
             conf.write("""
-<module name="sapart"><module name="remove"><module name="services_account"><module name="operchans">
+<module name="sapart"><module name="remove"><module name="services_account"><module name="operchans"><module name="monitor">
 <class name="all" commands="*" privs="*" usermodes="*" chanmodes="*">
 <type name="boss" classes="all">
 <oper name="boss" password="boss" host="*@*" type="boss">
@@ -159,7 +162,7 @@ class Trial:
             self.note("it starts", self.server.start())
             acts = [self.nick_back_elsewhere, self.nick_back_at_a_channel]
             if isinstance(self.server, Modules):
-                acts += [self.taken_off, self.kept_off, self.nick_of_nobody]
+                acts += [self.taken_off, self.kept_off, self.invited, self.nick_of_nobody]
             threads = [threading.Thread(target=self.one, args=(it,)) for it in acts]
             for it in threads:
                 it.start()
@@ -188,7 +191,7 @@ class Trial:
         time.sleep(65)  # it has asked once
         self.note("while somebody has the nick, it does not ask for it", " 433 " not in bot.logged().partition("welcome as")[2])
         ghost.leave()
-        took = self.has(bot, "egg")
+        took = self.has(bot, "egg", 3 if isinstance(self.server, Modules) else SOON)
         self.note("the nick is free, and the bot takes it back", took, took or bot.logged()[-300:])
 
     def nick_back_at_a_channel(self):
@@ -234,6 +237,21 @@ class Trial:
             began = time.monotonic()
             back = owner.hears(rf"^:goose!\S+ JOIN :?{channel}", since, 40)
             self.note(f"{channel} is open again, and it comes", back, f"{time.monotonic() - began:.0f} s later")
+
+    def invited(self):
+        owner = self.guest("host")
+        owner.asks("JOIN #closed", "366")
+        owner.asks("MODE #closed +i", "MODE #closed ")
+        bot = self.bot("swan", ["#closed"])
+        refused = comes(lambda: bot.logged().count("not let onto #closed") >= LONG, SOON)
+        self.note("473 keeps it off", refused, bot.logged()[-300:])
+        since, began = len(owner.lines), time.monotonic()
+        for _ in range(INVITATIONS):
+            owner.say("INVITE swan #closed")
+        came = owner.hears(r"^:swan!\S+ JOIN :?#closed", since, 20)
+        seconds = time.monotonic() - began
+        self.note("it is invited, and comes within six seconds", came and seconds < 6, f"{seconds:.1f} s later")
+        self.note("its log tells of the invitation once", bot.logged().count("invited to #closed") == 1, bot.logged()[-300:])
 
     def nick_of_nobody(self):
         bot = self.bot("badegg", ["#bad"])

@@ -6,7 +6,7 @@ use Rattle.rfccase.specs.Casemapping.{is_same_by}
 use Rattle.ircline.specs.declared.message.Message.{Message}
 use Rattle.registration.specs.Runs.{count_of, if_so}
 use Rattle.serverlink.specs.declared.cue.Cue.{Cue}
-use Rattle.serverlink.specs.declared.cue.Cue.TheVariants.{Welcomed, Renamed, Joined, Parted, Kicked, Barred, Forwarded, NickRefused, Refused, Supports, Nothing}
+use Rattle.serverlink.specs.declared.cue.Cue.TheVariants.{Welcomed, Renamed, Joined, Parted, Kicked, Barred, Forwarded, NickRefused, Refused, Supports, Invited, Nothing}
 use Rattle.serverlink.specs.Cues.{param}
 use Rattle.serverlink.specs.Inquiries.{Event, Hears, Asks, all_asked, all_joined, announced_by, announces, joined_by, one_of}
 use Rattle.serverlink.specs.Questions.{Questions, asked, begun, due, heard, notified, without}
@@ -59,6 +59,7 @@ heard_count test mapping Barred message questions = same_count (count_of test qu
 heard_count test mapping Forwarded message questions = same_count (count_of test questions.channels)
 heard_count test mapping NickRefused message questions = same_count (count_of test questions.channels)
 heard_count test mapping Refused message questions = same_count (count_of test questions.channels)
+heard_count test mapping Invited message questions = same_count (count_of test questions.channels)
 heard_count test mapping Nothing message questions = same_count (count_of test questions.channels)
 
 asked_count : (test : List ℕ → Bool) (notifies knows : Bool) (channels : List (List ℕ))
@@ -122,6 +123,7 @@ heard_unknown mapping Barred message questions unknown none = unknown
 heard_unknown mapping Forwarded message questions unknown none = unknown
 heard_unknown mapping NickRefused message questions unknown none = unknown
 heard_unknown mapping Refused message questions unknown none = unknown
+heard_unknown mapping Invited message questions unknown none = unknown
 heard_unknown mapping Nothing message questions unknown none = unknown
 
 none_due : (notifies knows : Bool) (channels : List (List ℕ)) → knows ≡ false
@@ -158,6 +160,7 @@ heard_stale mapping Barred message questions stale = stale
 heard_stale mapping Forwarded message questions stale = stale
 heard_stale mapping NickRefused message questions stale = stale
 heard_stale mapping Refused message questions stale = stale
+heard_stale mapping Invited message questions stale = stale
 heard_stale mapping Nothing message questions stale = stale
 
 stale_due : (notifies knows : Bool) (channels : List (List ℕ)) → notifies ≡ false

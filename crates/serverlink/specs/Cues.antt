@@ -11,7 +11,7 @@ use Rattle.ircline.specs.declared.numeric.Numeric.TheVariants.{Welcome, Erroneou
 use Rattle.ircline.specs.Numeric.{is_command, numeric_of}
 use Rattle.ircline.specs.Sources.{Source, Nobody, Server, Person, source_of}
 use Rattle.serverlink.specs.declared.cue.Cue.{Cue}
-use Rattle.serverlink.specs.declared.cue.Cue.TheVariants.{Welcomed, Renamed, Joined, Parted, Kicked, Barred, Forwarded, NickRefused, Refused, Supports, Nothing}
+use Rattle.serverlink.specs.declared.cue.Cue.TheVariants.{Welcomed, Renamed, Joined, Parted, Kicked, Barred, Forwarded, NickRefused, Refused, Supports, Invited, Nothing}
 
 -- the parameter at a place, empty if the message has fewer
 abbrev pub param : Message → ℕ → List ℕ
@@ -28,6 +28,10 @@ is_by mapping message own = is_from mapping (source_of message.prefix) own
 
 abbrev pub is_to : Casemapping → Message → List ℕ → Bool
 is_to mapping message own = is_same_by mapping (param message 1) own
+
+-- the first parameter is this nick
+abbrev pub is_for : Casemapping → Message → List ℕ → Bool
+is_for mapping message own = is_same_by mapping (param message 0) own
 
 -- no such channel, one too many, full, for the invited alone, banned, with a key, no name of a channel (476, 479), for the
 -- registered alone, joined too often, for TLS alone, for operators of the server alone
@@ -78,6 +82,7 @@ nick_by Forwarded message = None
 nick_by NickRefused message = None
 nick_by Refused message = None
 nick_by Supports message = None
+nick_by Invited message = None
 nick_by Nothing message = None
 
 abbrev pub cue_of : Casemapping → Message → List ℕ → Cue
@@ -86,6 +91,7 @@ cue_of mapping message own =
     else if is_command (codes "PART") message.command && is_by mapping message own then Parted
     else if is_command (codes "NICK") message.command && is_by mapping message own then Renamed
     else if is_command (codes "KICK") message.command && is_to mapping message own then Kicked
+    else if is_command (codes "INVITE") message.command && is_for mapping message own then Invited
     else if is_command (codes "ERROR") message.command then Refused
     else numeric_cue message
 

@@ -4,7 +4,7 @@ use Rattle.std.specs.List.{list_any}
 use Rattle.rfccase.specs.declared.casemappings.Casemapping.{Casemapping}
 use Rattle.ircline.specs.declared.message.Message.{Message}
 use Rattle.serverlink.specs.declared.cue.Cue.{Cue}
-use Rattle.serverlink.specs.declared.cue.Cue.TheVariants.{Welcomed, Renamed, Joined, Parted, Kicked, Barred, Forwarded, NickRefused, Refused, Supports, Nothing}
+use Rattle.serverlink.specs.declared.cue.Cue.TheVariants.{Welcomed, Renamed, Joined, Parted, Kicked, Barred, Forwarded, NickRefused, Refused, Supports, Invited, Nothing}
 use Rattle.serverlink.specs.Cues.{param}
 use Rattle.serverlink.specs.Questions.{Questions, asked, due, heard, is_whox}
 
@@ -44,6 +44,7 @@ joined_by Forwarded message = []
 joined_by NickRefused message = []
 joined_by Refused message = []
 joined_by Supports message = []
+joined_by Invited message = []
 joined_by Nothing message = []
 
 abbrev pub joined_in : Event → List (List ℕ)
@@ -67,6 +68,7 @@ announced_by Barred message = false
 announced_by Forwarded message = false
 announced_by NickRefused message = false
 announced_by Refused message = false
+announced_by Invited message = false
 announced_by Nothing message = false
 
 abbrev pub announces : Event → Bool

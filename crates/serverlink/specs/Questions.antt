@@ -6,7 +6,7 @@ use Rattle.rfccase.specs.declared.casemappings.Casemapping.{Casemapping}
 use Rattle.rfccase.specs.Casemapping.{is_same_by}
 use Rattle.ircline.specs.declared.message.Message.{Message}
 use Rattle.serverlink.specs.declared.cue.Cue.{Cue}
-use Rattle.serverlink.specs.declared.cue.Cue.TheVariants.{Welcomed, Renamed, Joined, Parted, Kicked, Barred, Forwarded, NickRefused, Refused, Supports, Nothing}
+use Rattle.serverlink.specs.declared.cue.Cue.TheVariants.{Welcomed, Renamed, Joined, Parted, Kicked, Barred, Forwarded, NickRefused, Refused, Supports, Invited, Nothing}
 use Rattle.serverlink.specs.Cues.{param}
 
 -- whether the server says on this connection when somebody logs in or out (account-notify), and whether it has WHOX; the
@@ -61,6 +61,7 @@ heard mapping Barred message questions = questions
 heard mapping Forwarded message questions = questions
 heard mapping NickRefused message questions = questions
 heard mapping Refused message questions = questions
+heard mapping Invited message questions = questions
 heard mapping Nothing message questions = questions
 
 -- ---- the question

@@ -1,5 +1,5 @@
 -- A channel on which the bot is to be, and when the process asks to join it.
-use Rattle.std.specs.Prelude.{ℕ, ◌+◌, ◌-◌, ◌^◌, ◌&&◌, not, min, nat_le, Bool, true, false, List, Option, None, Some, if◌then◌else◌}
+use Rattle.std.specs.Prelude.{ℕ, ◌+◌, ◌-◌, ◌^◌, ◌&&◌, not, min, nat_le, nat_lt, Bool, true, false, List, Option, None, Some, if◌then◌else◌}
 use Rattle.std.specs.List.{list_any}
 use Rattle.std.specs.Option.{option_map}
 use Rattle.std.specs.Str.{bytes_eq}
@@ -8,7 +8,7 @@ use Rattle.rfccase.specs.Casemapping.{is_same_by}
 use Rattle.net.specs.declared.redial.TheConstants.{FIRST_WAIT}
 use Rattle.net.specs.Waits.{Waits, lost as lost_wait}
 use Rattle.settings.specs.declared.settings.ChannelSetting.{ChannelSetting}
-use Rattle.serverlink.specs.declared.seat.TheConstants.{ASK_AGAIN, LONGEST_WAIT}
+use Rattle.serverlink.specs.declared.seat.TheConstants.{ASK_AGAIN, INVITED, LONGEST_WAIT}
 use Rattle.serverlink.specs.declared.vigil.TheConstants.{GOOD}
 
 -- its name and its key; whether the bot is on it, and when it last joined; when the process asks to join, if a server has welcomed
@@ -68,6 +68,21 @@ is_due seat now = not seat.on && is_past seat.asks now
 -- the process has asked; if the server does not answer, it asks again a minute later
 abbrev pub retried : Seated → ℕ → Seated
 retried seat now = record seat { asks = later now }
+
+-- five seconds from now
+abbrev pub soon : ℕ → ℕ
+soon now = min (now + INVITED) (2 ^ 64 - 1)
+
+abbrev pub is_after : Option ℕ → ℕ → Bool
+is_after None second = false
+is_after (Some asks) second = nat_lt second asks
+
+-- an invitation has a bot that is not on the channel ask sooner
+abbrev pub is_sooner : Seated → ℕ → Bool
+is_sooner seat now = not seat.on && is_after seat.asks (soon now)
+
+abbrev pub invited : Seated → ℕ → Seated
+invited seat now = if is_sooner seat now then record seat { asks = Some (soon now) } else seat
 
 -- whether two keys are the same, or there is neither
 abbrev pub same_key : Option (List ℕ) → Option (List ℕ) → Bool

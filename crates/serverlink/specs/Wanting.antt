@@ -20,9 +20,16 @@ abbrev pub asks_in : Option Session → List ℕ → ℕ → Bool
 asks_in None wanted now = false
 asks_in (Some session) wanted now = is_nick_due session wanted now
 
--- the line that is queued, if it is due
+abbrev pub watches_in : Option Session → Bool
+watches_in None = false
+watches_in (Some session) = session.regain.monitors
+
+-- the lines that are queued, if it is due: a server that has MONITOR is asked by that, too
 abbrev pub questions : Option Session → List ℕ → ℕ → List (List ℕ)
-questions session wanted now = if asks_in session wanted now then (codes "ISON " ++ wanted) ∷ [] else []
+questions session wanted now =
+    if asks_in session wanted now
+    then if watches_in session then (codes "MONITOR + " ++ wanted) ∷ (codes "ISON " ++ wanted) ∷ [] else (codes "ISON " ++ wanted) ∷ []
+    else []
 
 abbrev pub with_question : List ℕ → ℕ → Session → Session
 with_question wanted now session =

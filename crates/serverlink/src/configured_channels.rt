@@ -157,6 +157,15 @@ impl ConfiguredChannels {
         }
     }
 
+    // Notes that somebody invited the bot to a channel at second `now`. Returns whether the process asks to join it sooner
+    // than before.
+    pub(crate) fn invite(&mut self, mapping: Casemapping, name: &[u8], now: u64) -> bool {
+        match self.seat_of(mapping, name) {
+            Some(seat) => seat.invite(now),
+            None => false,
+        }
+    }
+
     // Notes that the bot has lost its server.
     pub(crate) fn lose_all(&mut self) {
         for seat in self.seats.iter_mut() {

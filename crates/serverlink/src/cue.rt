@@ -1,6 +1,6 @@
 // What a message means for a bot's registration and its channels.
 ghost use Rattle.std.specs.Prelude.{◌≡◌};
-ghost use Rattle.serverlink.specs.Cues.{cue_of, is_barring, is_by, is_numeric_fault, is_to, numeric_cue, other_cue, param, unavailable};
+ghost use Rattle.serverlink.specs.Cues.{cue_of, is_barring, is_by, is_for, is_numeric_fault, is_to, numeric_cue, other_cue, param, unavailable};
 
 use ircline::{Message, Numeric, Source, numeric_of, source};
 use rfccase::{Casemapping, is_channel_name, same_by};
@@ -29,6 +29,8 @@ pub enum Cue {
     Refused,
     /// The server says what it supports (005).
     Supports,
+    /// Somebody invites the bot to the channel that is the second parameter.
+    Invited,
     /// Nothing.
     Nothing,
 }
@@ -47,6 +49,8 @@ pub fn cue_of(mapping: Casemapping, message: &Message, own: &[u8]) -> Cue
         Cue::Renamed
     } else if command == b"KICK".as_slice() && is_to(mapping, message, own) {
         Cue::Kicked
+    } else if command == b"INVITE".as_slice() && is_for(mapping, message, own) {
+        Cue::Invited
     } else if command == b"ERROR".as_slice() {
         Cue::Refused
     } else {
@@ -145,6 +149,13 @@ fn is_to(mapping: Casemapping, message: &Message, own: &[u8]) -> bool
     ensures { result ≡ is_to mapping message.now own.now }
 {
     same_by(mapping, param(message, 1), own)
+}
+
+// Whether a message's first parameter is this nick.
+fn is_for(mapping: Casemapping, message: &Message, own: &[u8]) -> bool
+    ensures { result ≡ is_for mapping message.now own.now }
+{
+    same_by(mapping, param(message, 0), own)
 }
 
 /// Returns the parameter of `message` at `place`, counted from 0, or an empty slice if the message has fewer.

@@ -56,6 +56,8 @@ pub(crate) enum Fact {
     Kicked,
     // The server did not let the bot onto this channel.
     Barred,
+    // Somebody has invited the bot to this channel, so that it asks to join sooner.
+    Invited,
     // A line of the bot's is queued for the server.
     Told,
 }
@@ -70,6 +72,7 @@ fn words_of(fact: Fact) -> &'static str {
         Fact::Parted => "left ",
         Fact::Kicked => "kicked off ",
         Fact::Barred => "not let onto ",
+        Fact::Invited => "invited to ",
         Fact::Told => "> ",
     }
 }

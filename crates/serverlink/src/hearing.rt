@@ -69,6 +69,7 @@ impl IrcConnection {
             | Cue::NickRefused
             | Cue::Refused
             | Cue::Supports
+            | Cue::Invited
             | Cue::Nothing => Ok(None),
         }
     }
@@ -109,6 +110,7 @@ impl IrcConnection {
             | Cue::NickRefused
             | Cue::Refused
             | Cue::Supports
+            | Cue::Invited
             | Cue::Nothing => Ok(()),
         }
     }
@@ -220,6 +222,11 @@ impl IrcConnection {
             Cue::Forwarded => log.note(now, &Entry::Forwarded(second, param(message, 2))),
             Cue::Refused => log_refusal(log, message, now),
             Cue::Supports => note_case(log, mapping, message, now),
+            Cue::Invited => {
+                if self.channels.invite(mapping, second, now) {
+                    log.note(now, &Entry::Plain(Fact::Invited, second));
+                }
+            }
             Cue::Nothing => {}
         }
         Ok(())

@@ -16,7 +16,7 @@ impl IrcConnection {
     ghost use Rattle.bytetext.specs.declared.moment.TheConstants.{MOMENTS_END};
     ghost use Rattle.serverlink.specs.Asking.{due_in, question_taken, question_told};
     ghost use Rattle.serverlink.specs.Talks.{stays, talk_in};
-    ghost use Rattle.serverlink.specs.Wanting.{asks_in, nick_asked, questions};
+    ghost use Rattle.serverlink.specs.Wanting.{asks_in, nick_asked, questions, watches_in};
 
     /// Does what is due at second `now` even if the server says nothing. Pings a silent server, or disconnects it.
     /// Queues lines of the process's own, asks to join channels that the bot is not on, and asks for the members of those
@@ -68,17 +68,33 @@ impl IrcConnection {
         }
     }
 
-    // Queues the question whether somebody has the nick that the bot wants, if that is due.
+    // Queues the question whether somebody has the nick that the bot wants, if that is due; by MONITOR, too, if the server
+    // has it.
     fn ask_for_nick(&mut self, alloc: Global, settings: &Settings, now: u64) -> Result<(), NoMemory>
         ensures own { OnOk result (self.new.own ≡ self.old.own ++ questions self.old.session settings.now.nick now) }
         ensures session { OnOk result (self.new.session ≡ nick_asked settings.now.nick now self.old.session) }
         ensures same { is_some self.new.session ≡ is_some self.old.session }
     {
         let wanted = settings.nick.as_bytes();
-        if self.asks_for_nick(wanted, now) {
-            self.own.put(Text::new(joined(alloc, b"ISON ", wanted)?))?;
+        let watches = self.watches();
+        if !self.asks_for_nick(wanted, now) {
+            return Ok(());
         }
-        Ok(())
+        if watches {
+            self.own
+                .put(Text::new(joined(alloc, b"MONITOR + ", wanted)?))?;
+        }
+        self.own.put(Text::new(joined(alloc, b"ISON ", wanted)?))
+    }
+
+    // Whether the server has MONITOR.
+    fn watches(&self) -> bool
+        ensures { result ≡ watches_in self.now.session }
+    {
+        match &self.session {
+            Some(session) => session.regain.monitors(),
+            None => false,
+        }
     }
 
     // Whether the process is due to ask whether somebody has the nick `wanted`. If it is, notes that it asks.

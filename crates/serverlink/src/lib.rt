@@ -30,12 +30,12 @@
 //! - another nick, if the server rejects the bot's;
 //! - the lines `perform`, once after each welcome;
 //! - a JOIN for each channel, at once after each welcome, and then each minute while the bot is not on it; after a KICK
-//!   or a PART in the bot's name, or if the server does not let the bot in, the JOIN comes after a growing wait instead
-//!   ([`Seat`]);
+//!   or a PART in the bot's name, or if the server does not let the bot in, the JOIN comes after a growing wait instead,
+//!   and five seconds after an invitation at the latest ([`Seat`]);
 //! - a WHO for the members of each channel, once after each JOIN of the bot's own, at a server that announces WHOX
 //!   and says when somebody logs in or out ([`WhoQuestions`]);
-//! - an ISON each minute while the bot has another nick than that of the configuration, and a NICK once nobody has it
-//!   ([`Regain`]);
+//! - an ISON each minute while the bot has another nick than that of the configuration, and a MONITOR with it at a server
+//!   that announces that; and a NICK once nobody has it ([`Regain`]);
 //! - a PART for each channel on which the bot is no longer to be, and a NICK if the configuration has another one by now;
 //! - lines that an operator has it send, and answers to a person ([`OwnLines`]).
 //!
@@ -104,7 +104,7 @@ pub use crate::own_lines::OwnLines;
 pub use crate::pace::{AHEAD, COST, Pace};
 pub use crate::questions::{WhoQuestions, who_line};
 pub use crate::regain::{REGAIN, Regain, UNFIT};
-pub use crate::seat::{ASK_AGAIN, LONGEST_WAIT, Seat};
+pub use crate::seat::{ASK_AGAIN, INVITED, LONGEST_WAIT, Seat};
 pub use crate::server_wire::ServerWire;
 pub use crate::session::Session;
 pub use crate::shown::{Shown, put};

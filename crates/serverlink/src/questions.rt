@@ -94,6 +94,7 @@ impl WhoQuestions {
             | Cue::Forwarded
             | Cue::NickRefused
             | Cue::Refused
+            | Cue::Invited
             | Cue::Nothing => {}
         }
         Ok(())

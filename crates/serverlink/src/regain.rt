@@ -1,7 +1,7 @@
 // The nick that the bot wants, while it has another one.
 ghost use Rattle.std.specs.Prelude.{◌≡◌};
-ghost use Rattle.std.specs.List.{list_all};
-ghost use Rattle.serverlink.specs.Regains.{is_answer, is_left, is_nobody, is_space, is_unfit};
+ghost use Rattle.std.specs.List.{list_all, list_any};
+ghost use Rattle.serverlink.specs.Regains.{announces, has_nick, is_answer, is_gone, is_left, is_monitor, is_nobody, is_space, is_unfit};
 
 use crate::cue::{is_by, param};
 use bytetext::{NoMemory, Text};
@@ -23,6 +23,9 @@ pub const UNFIT: u64 = 3_600;
 /// somebody has the wanted one (RFC 2812 section 4.9). If nobody has, it sends NICK. So it does at once when it hears who
 /// has the nick quit or take another one. It sends at most one NICK in a minute: if the server refuses it, the next
 /// question decides. It asks nothing while the bot has the nick, and before the server has welcomed the bot.
+///
+/// With the ISON it also asks a server that announces MONITOR (a token of a 005) to tell when the nick is free (731). Such a
+/// server tells that once, and at once. So the ISON stays: the server may tell it within a minute of a NICK.
 #[derive(Drop)]
 pub struct Regain {
     // `None` until the server welcomes the bot.
@@ -33,6 +36,8 @@ pub struct Regain {
     asked: bool,
     // The second from which on a NICK may be sent.
     tells: u64,
+    // Whether the server has MONITOR.
+    monitors: bool,
 }
 
 impl Model for Regain {
@@ -45,6 +50,7 @@ impl Model for Regain {
       asks = r.asks;
       asked = r.asked;
       tells = r.tells;
+      monitors = r.monitors;
     } };
 }
 
@@ -61,6 +67,7 @@ impl Regain {
             asks: 0,
             asked: false,
             tells: 0,
+            monitors: false,
         }
     }
 
@@ -95,6 +102,13 @@ impl Regain {
         self.lacks(mapping, wanted) && self.asks <= now
     }
 
+    /// Whether the server has announced MONITOR. If so, the process asks by MONITOR, too.
+    pub fn monitors(&self) -> bool
+        ensures { result ≡ self.now.monitors }
+    {
+        self.monitors
+    }
+
     /// Notes that the process asks at second `now` whether somebody has the nick.
     pub fn ask(&mut self, now: u64)
         ensures { self.new ≡ asked self.old now }
@@ -111,6 +125,7 @@ impl Regain {
     {
         let is_free = self.is_free(mapping, message, wanted);
         let regains = self.lacks(mapping, wanted) && self.tells <= now && is_free;
+        self.monitors = self.monitors || announces(message);
         if is_answer(message) {
             self.asked = false;
         }
@@ -127,7 +142,9 @@ impl Regain {
     fn is_free(&self, mapping: Casemapping, message: &Message, wanted: &[u8]) -> bool
         ensures { result ≡ is_free mapping self.now message.now wanted.now }
     {
-        is_left(mapping, message, wanted) || self.asked && is_nobody(message)
+        is_left(mapping, message, wanted)
+            || is_gone(mapping, message, wanted)
+            || self.asked && is_nobody(message)
     }
 }
 
@@ -139,6 +156,51 @@ fn is_left(mapping: Casemapping, message: &Message, wanted: &[u8]) -> bool
     is_by(mapping, message, wanted)
         && (command == b"QUIT".as_slice()
             || command == b"NICK".as_slice() && !same_by(mapping, param(message, 0), wanted))
+}
+
+// Whether a server with MONITOR says that nobody has the nick `wanted` any more (731).
+fn is_gone(mapping: Casemapping, message: &Message, wanted: &[u8]) -> bool
+    ensures { result ≡ is_gone mapping message.now wanted.now }
+{
+    message.command.as_bytes() == b"731".as_slice() && has_nick(mapping, wanted, param(message, 1))
+}
+
+// Whether `nick` stands in `list`, whose nicks are separated by commas.
+fn has_nick(mapping: Casemapping, nick: &[u8], list: &[u8]) -> bool
+    ensures { result ≡ has_nick mapping nick.now list.now }
+{
+    for piece in list.split(|byte| *byte == b',') {
+        if same_by(mapping, piece, nick) {
+            return true;
+        }
+    }
+    false
+}
+
+// Whether the server says by `message` that it has MONITOR (005).
+fn announces(message: &Message) -> bool
+    ensures { result ≡ announces message.now }
+{
+    if message.command.as_bytes() != b"005".as_slice() {
+        return false;
+    }
+    match message.params.as_slice().split_first() {
+        Some((_nick, tokens)) => has_monitor(tokens),
+        None => false,
+    }
+}
+
+// Whether the token MONITOR is among these.
+fn has_monitor(tokens: &[Text]) -> bool
+    ensures { result ≡ list_any is_monitor tokens.now }
+{
+    tokens.iter().any(|token| is_monitor(token.as_bytes()))
+}
+
+fn is_monitor(token: &[u8]) -> bool
+    ensures { result ≡ is_monitor token.now }
+{
+    token.starts_with(b"MONITOR=") || token == b"MONITOR".as_slice()
 }
 
 // Whether a message answers an ISON (303).

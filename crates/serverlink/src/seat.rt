@@ -1,7 +1,7 @@
 // A channel on which the bot is to be.
 ghost use Rattle.std.specs.Prelude.{◌≡◌};
 ghost use Rattle.net.specs.Waits.{lost as lost_wait};
-ghost use Rattle.serverlink.specs.Seats.{begun, is_due, joined, later, lost, not_let_in, rekeyed, retried, same_key, taken_off, waiting, welcomed};
+ghost use Rattle.serverlink.specs.Seats.{begun, invited, is_after, is_due, is_sooner, joined, later, lost, not_let_in, rekeyed, retried, same_key, taken_off, waiting, welcomed};
 
 use crate::vigil::GOOD;
 use bytetext::Text;
@@ -14,12 +14,16 @@ pub const LONGEST_WAIT: u16 = 300;
 /// How many seconds after the process last asked to join a channel it asks again, if the server has not answered.
 pub const ASK_AGAIN: u64 = 60;
 
+/// How many seconds after an invitation the process asks to join the channel, unless it was due sooner.
+pub const INVITED: u64 = 5;
+
 /// A channel on which the bot is to be: its key, whether the bot is on it, and when the process asks to join it.
 ///
 /// The process asks as soon as the server has welcomed the bot, and then each minute while the bot is not on the
 /// channel. After a KICK, after a PART in the bot's name, and each time that the server does not let the bot in, it asks
-/// after a wait instead. That wait grows from 2 to 300 seconds, until the bot has stayed for two minutes. The process
-/// asks nothing before the server has welcomed the bot.
+/// after a wait instead. That wait grows from 2 to 300 seconds, until the bot has stayed for two minutes. Five seconds after
+/// somebody has invited the bot, the process asks at the latest. The process asks nothing before the server has welcomed
+/// the bot.
 ///
 /// The process itself leaves a channel only if the bot is no longer to be there, and then the channel has no seat. So
 /// each PART that a seat hears of is one that the process did not ask for.
@@ -167,6 +171,21 @@ impl Seat {
         }
     }
 
+    /// Notes that somebody invited the bot to the channel at second `now`: if the bot is not on it, the process asks five
+    /// seconds later, unless it was due sooner. Returns whether it asks sooner than before. However often the bot is invited,
+    /// the process asks at most once in five seconds.
+    pub fn invite(&mut self, now: u64) -> bool
+        ensures sooner { result ≡ is_sooner self.old now }
+        ensures invited { self.new ≡ invited self.old now }
+    {
+        let soon = now.saturating_add(INVITED);
+        if self.is_on || !is_after(self.asks, soon) {
+            return false;
+        }
+        self.asks = Some(soon);
+        true
+    }
+
     // The bot is not on the channel, and asks to join after the next wait.
     fn wait(&mut self, now: u64, was_good: bool)
         requires { now < MOMENTS_END }
@@ -193,6 +212,16 @@ impl Seat {
         ensures { self.new ≡ retried self.old now }
     {
         self.asks = later(now);
+    }
+}
+
+// Whether the process asks, and later than at this second.
+fn is_after(asks: Option<u64>, second: u64) -> bool
+    ensures { result ≡ is_after asks second }
+{
+    match asks {
+        Some(asks) => second < asks,
+        None => false,
     }
 }
 

@@ -38,6 +38,7 @@ fn word_of(cue: Cue) -> &'static [u8] {
         Cue::NickRefused => b"nick refused",
         Cue::Refused => b"refused",
         Cue::Supports => b"supports",
+        Cue::Invited => b"invited",
         Cue::Nothing => b"nothing",
     }
 }
@@ -69,7 +70,11 @@ fn regain_step(
             return Ok(b"none");
         }
         regain.ask(now);
-        return Ok(b"ISON");
+        return Ok(if regain.monitors() {
+            b"MONITOR,ISON"
+        } else {
+            b"ISON"
+        });
     }
     if let Some(nick) = step.strip_prefix(b"nick ") {
         regain.name(alloc, nick, now)?;
@@ -118,6 +123,9 @@ fn seat_step(seat: &mut Seat, word: &[u8], now: u64) -> Result<(), CaseError>
         b"join" => seat.join(now),
         b"off" => seat.take_off(now),
         b"bar" => seat.bar(now),
+        b"invite" => {
+            seat.invite(now);
+        }
         b"ask" => seat.retry(now),
         b"lose" => seat.lose(),
         _ => return Err(BAD_WORDS),
