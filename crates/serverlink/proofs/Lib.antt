@@ -1,3 +1,4 @@
 pub mod ToldLemmas
 pub mod TagLemmas
 pub mod InquiryLemmas
+pub mod WaitingLemmas

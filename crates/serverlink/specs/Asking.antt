@@ -1,5 +1,5 @@
 -- What a connection asks about the channels of the bot.
-use Rattle.std.specs.Prelude.{List, ℕ, Bool, Option, None, Some, is_some, option_map}
+use Rattle.std.specs.Prelude.{List, ℕ, Option, None, Some, option_map}
 use Rattle.rfccase.specs.declared.casemappings.Casemapping.{Casemapping}
 use Rattle.ircline.specs.declared.message.Message.{Message}
 use Rattle.net.specs.Connections.{Talk}

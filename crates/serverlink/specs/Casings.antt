@@ -1,5 +1,5 @@
 -- By which casemapping the server of a connection compares names, as the connection learns it from the server's lines.
-use Rattle.std.specs.Prelude.{Bool, true, false, ℕ, List, [], ◌∷◌, take, drop, Option, None, Some, if◌then◌else◌, codes}
+use Rattle.std.specs.Prelude.{true, false, ℕ, List, [], ◌∷◌, take, drop, Option, None, Some, if◌then◌else◌, codes}
 use Rattle.std.specs.Str.{bytes_eq}
 use Rattle.rfccase.specs.declared.casemappings.Casemapping.{Casemapping}
 use Rattle.rfccase.specs.declared.casemappings.Casemapping.TheVariants.{Rfc1459}

@@ -7,6 +7,7 @@ pub mod Cues
 pub mod Seats
 pub mod Regains
 pub mod Wanting
+pub mod Waiting
 pub mod Questions
 pub mod Inquiries
 pub mod Asking

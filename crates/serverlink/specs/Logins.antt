@@ -18,7 +18,6 @@ use Rattle.registration.specs.Talks.{Turn, Hear, Derive, Finish, turned, said_in
 use Rattle.settings.specs.declared.settings.Server.{Server}
 use Rattle.serverlink.specs.Questions.{Questions, notified}
 use Rattle.serverlink.specs.Talks.{told}
-use Rattle.serverlink.specs.Told.{ended}
 use Rattle.serverlink.specs.declared.login.TheConstants.{ROUNDS}
 use Rattle.serverlink.specs.declared.session.Session.{Session}
 

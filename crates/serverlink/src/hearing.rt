@@ -4,6 +4,8 @@ use crate::cue::{Cue, cue_of, param};
 use crate::entry::{Entry, Fact};
 use crate::irc_connection::{IrcConnection, joined};
 use crate::nicks::other_nick;
+use crate::own_lines::OwnLines;
+use crate::session::Session;
 use bytetext::{NoMemory, Text, TryCopy};
 use ircline::{Line, Message};
 use net::Log;
@@ -15,8 +17,9 @@ impl IrcConnection {
     ghost use Rattle.std.specs.Prelude.{◌≡◌, ◌≢◌, ◌<◌, ◌++◌, None, Some, IfOk, IfSome, MatchOption, OnOk, OnErr, is_some, option_map};
     ghost use Rattle.bytetext.specs.declared.moment.TheConstants.{MOMENTS_END};
     ghost use Rattle.serverlink.specs.Asking.{questions_heard};
-    ghost use Rattle.serverlink.specs.Casings.{casing_in, heard, mapping_in};
-    ghost use Rattle.serverlink.specs.Cues.{new_nick};
+    ghost use Rattle.serverlink.specs.Casings.{mapping_in};
+    ghost use Rattle.serverlink.specs.Cues.{cue_of, new_nick};
+    ghost use Rattle.serverlink.specs.Waiting.{HasHeard, HasHeardMessage, casing_heard, wants_in};
     ghost use Rattle.serverlink.specs.Wanting.{nick_heard, nick_noted, regained, regains_in, with_nick};
 
     /// Processes `line`, which the server sent by second `now` and whose step the bot has made, for the registration,
@@ -43,23 +46,16 @@ impl IrcConnection {
         ensures nick { IfOk result (λ found. MatchOption found (new_nick (mapping_in self.old.session) line.now own.now ≡ None)
             (λ nick. new_nick (mapping_in self.old.session) line.now own.now ≡ Some nick.now)) }
         ensures memory { OnErr result (self.old.session ≢ None) }
+        ensures wants { OnOk result
+            (HasHeard line.now own.now settings.now.nick now self.old.session self.new.session) }
     {
         let Line::Message(message) = line else {
             return Ok(None);
         };
-        let mapping = self.casemapping();
         if settings.log_lines && logged {
             log_message(log, message, now);
         }
-        self.hear_for_login(rt.alloc(), log, settings, line, now)?;
-        let cue = cue_of(mapping, message, own);
-        self.hear_casing(message);
-        if self.session.is_some() {
-            self.note(rt.alloc(), log, settings, cue, message, now)?;
-            self.note_nick(rt.alloc(), settings, mapping, cue, message, now)?;
-            self.note_channel(rt.alloc(), mapping, cue, message)?;
-        }
-        match cue {
+        match self.take_in(rt.alloc(), log, settings, line, message, own, now)? {
             Cue::Welcomed | Cue::Renamed => Ok(Some(param(message, 0))),
             Cue::Joined
             | Cue::Parted
@@ -74,10 +70,58 @@ impl IrcConnection {
         }
     }
 
+    // Takes in `message`, which is that of `line`. Returns what it means for the bot.
+    fn take_in(
+        &mut self,
+        alloc: Global,
+        log: &mut Log,
+        settings: &Settings,
+        line: &Line,
+        message: &Message,
+        own: &[u8],
+        now: u64,
+    ) -> Result<Cue, NoMemory>
+        requires moment { now < MOMENTS_END }
+        ensures cue { IfOk result (λ cue. cue ≡ cue_of (mapping_in self.old.session) message.now own.now) }
+        ensures memory { OnErr result (self.old.session ≢ None) }
+        ensures wants { OnOk result
+            (HasHeardMessage message.now own.now settings.now.nick now self.old.session self.new.session) }
+    {
+        let mapping = self.casemapping();
+        self.hear_for_login(alloc, log, settings, line, now)?;
+        let cue = cue_of(mapping, message, own);
+        self.hear_casing(message);
+        self.note_all(alloc, log, settings, mapping, cue, message, now)?;
+        Ok(cue)
+    }
+
+    // Does what a message means, if there still is a connection.
+    fn note_all(
+        &mut self,
+        alloc: Global,
+        log: &mut Log,
+        settings: &Settings,
+        mapping: Casemapping,
+        cue: Cue,
+        message: &Message,
+        now: u64,
+    ) -> Result<(), NoMemory>
+        requires moment { now < MOMENTS_END }
+        ensures memory { OnErr result (self.old.session ≢ None) }
+        ensures wants { OnOk result (wants_in self.new.session
+            ≡ wants_in (nick_noted mapping cue message.now settings.now.nick now self.old.session)) }
+    {
+        if self.session.is_none() {
+            return Ok(());
+        }
+        self.note(alloc, log, settings, cue, message, now)?;
+        self.note_nick(alloc, settings, mapping, cue, message, now)?;
+        self.note_channel(alloc, mapping, cue, message)
+    }
+
     // Takes in how the server compares names.
     fn hear_casing(&mut self, message: &Message)
-        ensures same { is_some self.new.session ≡ is_some self.old.session }
-        ensures casing { IfSome self.new.session (λ session. session.casing ≡ heard message.now (casing_in self.old.session)) }
+        ensures { self.new.session ≡ casing_heard message.now self.old.session }
     {
         if let Some(session) = &mut self.session {
             session.casing.hear(message);
@@ -192,6 +236,7 @@ impl IrcConnection {
         now: u64,
     ) -> Result<(), NoMemory>
         requires moment { now < MOMENTS_END }
+        ensures wants { wants_in self.new.session ≡ wants_in self.old.session }
     {
         let mapping = self.casemapping();
         let first = param(message, 0);
@@ -240,21 +285,27 @@ impl IrcConnection {
         settings: &Settings,
         nick: &[u8],
         now: u64,
-    ) -> Result<(), NoMemory> {
+    ) -> Result<(), NoMemory>
+        ensures wants { wants_in self.new.session ≡ wants_in self.old.session }
+    {
         log.note(now, &Entry::Plain(Fact::Welcomed, nick));
-        let Some(session) = &mut self.session else {
-            return Ok(());
-        };
-        if session.is_welcomed {
+        if !self.is_first_welcome() {
             return Ok(());
         }
-        session.is_welcomed = true;
         self.channels.welcome_all(now);
-        for line in settings.performs.as_slice() {
-            self.own.put(line.copy(alloc)?)?;
-        }
+        put_all(alloc, &mut self.own, settings.performs.as_slice())?;
         self.rename(alloc, nick)?;
         self.tell_own(log, settings, now)
+    }
+
+    // Notes that the server has welcomed the bot. Returns whether it had not before.
+    fn is_first_welcome(&mut self) -> bool
+        ensures wants { wants_in self.new.session ≡ wants_in self.old.session }
+    {
+        match &mut self.session {
+            Some(session) => session.is_first_welcome(),
+            None => false,
+        }
     }
 
     // The server rejects a nick by `message`. Until it has welcomed the bot, the bot asks for another one.
@@ -265,20 +316,50 @@ impl IrcConnection {
         settings: &Settings,
         message: &Message,
         now: u64,
-    ) -> Result<(), NoMemory> {
-        let Some(session) = &mut self.session else {
-            return Ok(());
-        };
-        if session.is_welcomed {
+    ) -> Result<(), NoMemory>
+        ensures wants { wants_in self.new.session ≡ wants_in self.old.session }
+    {
+        match &mut self.session {
+            Some(session) => session.ask_nick(alloc, log, settings.nick.as_bytes(), message, now),
+            None => Ok(()),
+        }
+    }
+}
+
+impl Session {
+    ghost use Rattle.std.specs.Prelude.{◌≡◌};
+    ghost use Rattle.serverlink.specs.Waiting.{wants_of};
+
+    // Notes that the server has welcomed the bot. Returns whether it had not before.
+    fn is_first_welcome(&mut self) -> bool
+        ensures wants { wants_of self.new ≡ wants_of self.old }
+    {
+        let is_first = !self.is_welcomed;
+        self.is_welcomed = true;
+        is_first
+    }
+
+    // The server rejects a nick by `message`, and the configuration's is `wanted`.
+    fn ask_nick(
+        &mut self,
+        alloc: Global,
+        log: &mut Log,
+        wanted: &[u8],
+        message: &Message,
+        now: u64,
+    ) -> Result<(), NoMemory>
+        ensures wants { wants_of self.new ≡ wants_of self.old }
+    {
+        if self.is_welcomed {
             log_refusal(log, message, now);
             return Ok(());
         }
-        match other_nick(alloc, settings.nick.as_bytes(), session.tried)? {
+        match other_nick(alloc, wanted, self.tried)? {
             Some(nick) => {
-                session.tried = session.tried.saturating_add(1);
+                self.tried = self.tried.saturating_add(1);
                 log.note(now, &Entry::Plain(Fact::OtherNick, nick.as_bytes()));
                 let line = joined(alloc, b"NICK ", nick.as_bytes())?;
-                session.wire.tell(line.as_slice(), now)
+                self.wire.tell(line.as_slice(), now)
             }
             None => {
                 log.note(now, &Entry::NoNick);
@@ -286,6 +367,14 @@ impl IrcConnection {
             }
         }
     }
+}
+
+// Queues copies of these lines.
+fn put_all(alloc: Global, own: &mut OwnLines, lines: &[Text]) -> Result<(), NoMemory> {
+    for line in lines {
+        own.put(line.copy(alloc)?)?;
+    }
+    Ok(())
 }
 
 // Logs a casemapping that the server announces (CASEMAPPING of a 005), unless it is the usual one, where `mapping` is the

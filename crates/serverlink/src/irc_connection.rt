@@ -75,6 +75,7 @@ impl IrcConnection {
     ghost use Rattle.serverlink.specs.Casings.{mapping_in};
     ghost use Rattle.serverlink.specs.Logins.{BeginsIn};
     ghost use Rattle.serverlink.specs.Tagging.{tags_after, tags_in, untagged_in};
+    ghost use Rattle.serverlink.specs.Waiting.{wants_in};
     ghost use Rattle.serverlink.specs.Talks.{EndsSilence, MayReadAll, MaySend, ReadsSome, may_give_in, held, told, woken, talk_in};
 
     /// Creates an uplink from `settings` without a connection; an attempt to connect is due at once. Each connection logs
@@ -312,6 +313,8 @@ impl IrcConnection {
         ensures err { OnErr result (talk_in self.new.session ≡ talk_in self.old.session) }
         ensures same { is_some self.new.session ≡ is_some self.old.session }
         ensures memory { OnErr result (self.old.session ≢ None) }
+        ensures wants { wants_in self.new.session ≡ wants_in self.old.session }
+        ensures own { self.new.own ≡ self.old.own }
     {
         let Some(Session { wire, .. }) = &mut self.session else {
             return Ok(());

@@ -12,10 +12,11 @@ use settings::Settings;
 use std::alloc::Global;
 
 impl IrcConnection {
-    ghost use Rattle.std.specs.Prelude.{◌≡◌, ◌≢◌, ◌<◌, ◌++◌, None, OnOk, OnErr, is_some, option_map};
+    ghost use Rattle.std.specs.Prelude.{◌≡◌, ◌≢◌, ◌<◌, ◌++◌, None, OnOk, OnErr, drop, is_some, option_map};
     ghost use Rattle.bytetext.specs.declared.moment.TheConstants.{MOMENTS_END};
     ghost use Rattle.serverlink.specs.Asking.{due_in, question_taken, question_told};
     ghost use Rattle.serverlink.specs.Talks.{stays, talk_in};
+    ghost use Rattle.serverlink.specs.Waiting.{AreLast, HasAsked, wants_in};
     ghost use Rattle.serverlink.specs.Wanting.{asks_in, nick_asked, questions, watches_in};
 
     /// Does what is due at second `now` even if the server says nothing. Pings a silent server, or disconnects it.
@@ -36,6 +37,10 @@ impl IrcConnection {
         requires moment { now < MOMENTS_END }
         ensures memory { OnErr result (self.old.session ≢ None) }
         ensures stays { is_some self.new.session ≡ stays self.old.steady self.old.session }
+        // A question about the nick that is due is queued after the lines that wait. Of all these the first are sent.
+        ensures own { OnOk result
+            (AreLast (self.old.own ++ questions self.old.session settings.now.nick now) self.new.own) }
+        ensures asked { OnOk result (HasAsked settings.now.nick now self.old.session self.new.session) }
     {
         let care = match &mut self.session {
             Some(session) => session.care(self.steady),
@@ -50,16 +55,34 @@ impl IrcConnection {
             }
         }
         self.hold();
-        self.ask_for_nick(rt.alloc(), settings, now)?;
+        self.tell_due(rt.alloc(), log, settings, now)
+    }
+
+    // Queues lines of the process's own, and asks for what is due, as many lines as may go.
+    fn tell_due(
+        &mut self,
+        alloc: Global,
+        log: &mut Log,
+        settings: &Settings,
+        now: u64,
+    ) -> Result<(), NoMemory>
+        ensures same { is_some self.new.session ≡ is_some self.old.session }
+        ensures own { OnOk result
+            (AreLast (self.old.own ++ questions self.old.session settings.now.nick now) self.new.own) }
+        ensures wants { OnOk result
+            (wants_in self.new.session ≡ wants_in (nick_asked settings.now.nick now self.old.session)) }
+    {
+        self.ask_for_nick(alloc, settings, now)?;
         // These first: they come to an end, and the server may never let the bot onto a channel.
         self.tell_own(log, settings, now)?;
-        self.join_again(rt.alloc(), log, settings, now)?;
-        self.ask_for_members(rt.alloc(), log, settings, now)
+        self.join_again(alloc, log, settings, now)?;
+        self.ask_for_members(alloc, log, settings, now)
     }
 
     // A connection that has held for long was a good one.
     fn hold(&mut self)
-        ensures { self.new.session ≡ self.old.session }
+        ensures session { self.new.session ≡ self.old.session }
+        ensures own { self.new.own ≡ self.old.own }
     {
         if let Some(session) = &self.session {
             if session.is_good(self.steady) {
@@ -117,7 +140,9 @@ impl IrcConnection {
         settings: &Settings,
         now: u64,
     ) -> Result<(), NoMemory>
-        ensures { is_some self.new.session ≡ is_some self.old.session }
+        ensures same { is_some self.new.session ≡ is_some self.old.session }
+        ensures wants { wants_in self.new.session ≡ wants_in self.old.session }
+        ensures own { self.new.own ≡ self.old.own }
     {
         for _channel in 0..self.channels.len() {
             if !self.may_tell(now) || !self.join_next(alloc, log, settings, now)? {
@@ -135,7 +160,9 @@ impl IrcConnection {
         settings: &Settings,
         now: u64,
     ) -> Result<bool, NoMemory>
-        ensures { is_some self.new.session ≡ is_some self.old.session }
+        ensures same { is_some self.new.session ≡ is_some self.old.session }
+        ensures wants { wants_in self.new.session ≡ wants_in self.old.session }
+        ensures own { self.new.own ≡ self.old.own }
     {
         let Some(seat) = self.channels.retry_next(now) else {
             return Ok(false);
@@ -158,7 +185,9 @@ impl IrcConnection {
         settings: &Settings,
         now: u64,
     ) -> Result<(), NoMemory>
-        ensures { is_some self.new.session ≡ is_some self.old.session }
+        ensures same { is_some self.new.session ≡ is_some self.old.session }
+        ensures wants { wants_in self.new.session ≡ wants_in self.old.session }
+        ensures own { self.new.own ≡ self.old.own }
     {
         for _channel in 0..self.unasked() {
             if !self.may_tell(now) {
@@ -187,6 +216,8 @@ impl IrcConnection {
     ) -> Result<(), NoMemory>
         ensures told { OnOk result (talk_in self.new.session ≡ option_map question_told self.old.session) }
         ensures same { is_some self.new.session ≡ is_some self.old.session }
+        ensures wants { wants_in self.new.session ≡ wants_in self.old.session }
+        ensures own { self.new.own ≡ self.old.own }
     {
         match self.next_question() {
             Some(channel) => {
@@ -201,6 +232,7 @@ impl IrcConnection {
     fn next_question(&mut self) -> Option<Text>
         ensures due { result ≡ due_in self.old.session }
         ensures taken { self.new.session ≡ question_taken self.old.session }
+        ensures own { self.new.own ≡ self.old.own }
     {
         match &mut self.session {
             Some(session) => session.questions.next(),
@@ -215,7 +247,9 @@ impl IrcConnection {
         settings: &Settings,
         now: u64,
     ) -> Result<(), NoMemory>
-        ensures { is_some self.new.session ≡ is_some self.old.session }
+        ensures same { is_some self.new.session ≡ is_some self.old.session }
+        ensures wants { wants_in self.new.session ≡ wants_in self.old.session }
+        ensures own { AreLast self.old.own self.new.own }
     {
         for _line in 0..self.own.len() {
             if !self.may_tell(now) {
@@ -228,7 +262,9 @@ impl IrcConnection {
 
     // Queues the oldest line of the process's own.
     fn tell_next(&mut self, log: &mut Log, settings: &Settings, now: u64) -> Result<(), NoMemory>
-        ensures { is_some self.new.session ≡ is_some self.old.session }
+        ensures same { is_some self.new.session ≡ is_some self.old.session }
+        ensures wants { wants_in self.new.session ≡ wants_in self.old.session }
+        ensures own { self.new.own ≡ drop 1 self.old.own }
     {
         match self.own.next() {
             Some(line) => self.tell_unseen(log, settings, line.as_bytes(), now),
@@ -244,7 +280,9 @@ impl IrcConnection {
         line: &[u8],
         now: u64,
     ) -> Result<(), NoMemory>
-        ensures { is_some self.new.session ≡ is_some self.old.session }
+        ensures same { is_some self.new.session ≡ is_some self.old.session }
+        ensures wants { wants_in self.new.session ≡ wants_in self.old.session }
+        ensures own { self.new.own ≡ self.old.own }
     {
         let Some(Session { wire, .. }) = &mut self.session else {
             return Ok(());

@@ -1,6 +1,7 @@
 // The nick that the bot wants, while it has another one.
 ghost use Rattle.std.specs.Prelude.{◌≡◌};
 ghost use Rattle.std.specs.List.{list_all, list_any};
+ghost use Rattle.rfccase.specs.Casemapping.{is_same_by};
 ghost use Rattle.serverlink.specs.Regains.{announces, has_nick, is_answer, is_gone, is_left, is_monitor, is_nobody, is_space, is_unfit};
 
 use crate::cue::{is_by, param};
@@ -170,11 +171,17 @@ fn has_nick(mapping: Casemapping, nick: &[u8], list: &[u8]) -> bool
     ensures { result ≡ has_nick mapping nick.now list.now }
 {
     for piece in list.split(|byte| *byte == b',') {
-        if same_by(mapping, piece, nick) {
+        if is_the_nick(mapping, piece, nick) {
             return true;
         }
     }
     false
+}
+
+fn is_the_nick(mapping: Casemapping, piece: &[u8], nick: &[u8]) -> bool
+    ensures { result ≡ is_same_by mapping piece.now nick.now }
+{
+    same_by(mapping, piece, nick)
 }
 
 // Whether the server says by `message` that it has MONITOR (005).

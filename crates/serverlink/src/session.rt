@@ -7,6 +7,7 @@ ghost use Rattle.serverlink.specs.Regains.{begun as no_nick};
 ghost use Rattle.net.specs.Connections.{handed};
 ghost use Rattle.serverlink.specs.Tags.{stage_after, untagged};
 ghost use Rattle.serverlink.specs.Vigils.{begun, care_of};
+ghost use Rattle.serverlink.specs.Waiting.{wants_of};
 ghost use Rattle.serverlink.specs.Wanting.{is_nick_due, with_question};
 ghost use Rattle.serverlink.specs.declared.tags.TagStage.TheVariants.{Front};
 
@@ -121,7 +122,8 @@ impl Session {
     // Returns what to do about the connection at second `steady` of the monotonic clock. Returns `Ask` once for each
     // silence.
     pub(crate) fn care(&mut self, steady: u64) -> Care
-        ensures { result ≡ care_of self.old.vigil steady self.old.is_welcomed }
+        ensures care { result ≡ care_of self.old.vigil steady self.old.is_welcomed }
+        ensures wants { wants_of self.new ≡ wants_of self.old }
     {
         let care = self.vigil.care(steady, self.is_welcomed);
         if care == Care::Ask {
