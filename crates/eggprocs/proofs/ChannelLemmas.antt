@@ -1,5 +1,5 @@
 -- What the procs request that keep a channel by themselves, and when they request nothing.
-use Rattle.std.proofs.Common.{◌≡◌, ◌∙◌, ◌&&◌, ◌||◌, ◌∷◌, not, ℕ, List, [], Bool, true, false, refl, ap, codes, if◌then◌else◌, Option, Some, None}
+use Rattle.std.proofs.Common.{◌≡◌, ◌∙◌, ◌&&◌, ◌||◌, ◌∷◌, not, ℕ, List, [], Bool, true, false, refl, ap, codes, if◌then◌else◌, Option, Some, None, ◌⊎◌, inl, inr}
 use Rattle.std.specs.Prelude.{slice_index}
 use Rattle.std.specs.List.{list_all}
 use Rattle.std.specs.Str.{bytes_eq}
@@ -11,24 +11,26 @@ use Rattle.outqueue.specs.declared.queue.Queue.TheVariants.{Mode as mode_queue, 
 use Rattle.procs.specs.declared.action.Action.{Action}
 use Rattle.procs.specs.declared.call.Call.{Call}
 use Rattle.procs.specs.Seen.{Seen}
+use Rattle.eggprocs.specs.declared.needs.TheConstants.{GIVE_SECONDS}
 use Rattle.eggprocs.specs.declared.proc_name.ProcName.TheVariants as which
 use Rattle.eggprocs.specs.Args.{channel_of, mode_change, mode_argument}
-use Rattle.eggprocs.specs.ChannelLaws.{is_plain_reverse, is_end_of_key, is_reverse, is_gift_to, is_gift, LeavesNobodyBehind, IsOnlyWithoutOp, IsOnlyForOwn, SparesSticky, IsOnlyToBot, IsOnlyForTexts}
+use Rattle.eggprocs.specs.ChannelLaws.{is_plain_reverse, is_end_of_key, is_reverse, is_gift_to, is_gift, GivesOpLater, LeavesNobodyBehind, IsOnlyWithoutOp, IsOnlyForOwn, SparesSticky, IsOnlyToBot, IsOnlyForTexts}
 use Rattle.eggprocs.specs.Channel.{put}
 use Rattle.eggprocs.specs.Ctcp.{is_raw, is_request, is_tagged, addressee_of, command_of, text_of, sender_of, untagged, answer_to, answered}
 use Rattle.eggprocs.specs.Cycling.{leaver_of, is_made_again, lacks_op, is_self_or, is_left_alone, cycled}
 use Rattle.eggprocs.specs.Dynamic.{is_sticky, later_lift, lifted_at}
 use Rattle.eggprocs.specs.Ends.{call_on}
-use Rattle.eggprocs.specs.Everyone.{is_own_nick, flags_of_member}
+use Rattle.eggprocs.specs.Everyone.{is_own_nick, address_of, flags_of_member}
 use Rattle.eggprocs.specs.Keeping.{is_change_here, is_by_bot, is_change_by_untrusted}
-use Rattle.eggprocs.specs.Laws.{IsOnlyByOps, IsOnlyForOthers, LeavesTrusted, DoesOnly, has_one_of, op_letters, is_line, is_line_in_turn}
+use Rattle.eggprocs.specs.Laws.{IsOnlyByOps, IsOnlyForOthers, LeavesTrusted, DoesOnly, has_one_of, op_letters, is_line_in_turn}
 use Rattle.eggprocs.specs.Lines.{mode, plain_mode, part, join}
 use Rattle.eggprocs.specs.Modes.{has_plain_reverse, reverse_of, plain_reverse, sets_key, undone}
-use Rattle.eggprocs.specs.Needs.{needed_on, needed_by, may_give, op_for}
+use Rattle.eggprocs.specs.Looks.{or_at_once}
+use Rattle.eggprocs.specs.Needs.{needed_on, needed_by, is_known_bot, may_give, op_later, op_for}
 use Rattle.eggprocs.specs.Procs.{wanted_by}
 use Rattle.eggprocs.specs.Rights.{has_bot, has_op, is_bot_op}
 use Rattle.eggprocs.proofs.KeepingLemmas.{false-and, nothing-if, by_untrusted-bot, by_untrusted-own, by_untrusted-trusted, is_change_here-bot, is_line-put, lone-line, test-kept}
-use Rattle.eggprocs.proofs.TurnLemmas.{either-kept}
+use Rattle.eggprocs.proofs.TurnLemmas.{either-kept, in-place}
 use Rattle.eggprocs.proofs.LawLemmas.{and-false, alone-kept, shares-kept, does-nothing, has_one_of-ops}
 
 -- ---- modes
@@ -134,9 +136,10 @@ dynamicbans-sticky call seen second at is =
 
 -- ---- op for other bots
 
-lone-put : (test : Bool) (line : List ℕ) → list_all (λ action. test && is_line line action) (if test then put mode_queue line ∷ [] else []) ≡ true
-lone-put false line = refl
-lone-put true line = ap (λ (b : Bool). b && true) (is_line-put line)
+lone-gift : (test : Bool) (channel : List ℕ) (member : Member)
+    → list_all (λ action. test && is_line_in_turn (mode channel (codes "+o") member.nick) action) (if test then op_later channel member ∷ [] else []) ≡ true
+lone-gift false channel member = refl
+lone-gift true channel member = ap (λ (b : Bool). b && true) (in-place GIVE_SECONDS (mode channel (codes "+o") member.nick) (Some (address_of member)))
 
 gift-only : (may : Bool) (channel : List ℕ) (member : Option Member) (seen : Seen)
     → list_all (is_gift_to channel member seen) (if may then op_for channel member seen else []) ≡ true
@@ -145,9 +148,10 @@ gift-only true channel None seen = refl
 gift-only true channel (Some member) seen =
     let flags : PersonFlags = flags_of_member (call_on channel) seen member in
     let line : List ℕ = mode channel (codes "+o") member.nick in
-    ap (λ (known : Bool). list_all (λ action. (has_bot flags && known) && is_line line action) (if has_bot flags && has_op flags then put mode_queue line ∷ [] else []))
+    ap (λ (known : Bool). list_all (λ action. (has_bot flags && known) && is_line_in_turn line action)
+    (if has_bot flags && has_op flags then op_later channel member ∷ [] else []))
     (has_one_of-ops flags)
-    ∙ lone-put (has_bot flags && has_op flags) line
+    ∙ lone-gift (has_bot flags && has_op flags) channel member
 
 pub giveop-only : DoesOnly is_gift (codes "giveop")
 unfolding wanted_by
@@ -155,6 +159,21 @@ giveop-only call seen reply kept =
     ap (list_all (is_gift call seen)) (alone-kept which.GiveOp call seen reply refl kept)
     ∙ gift-only (may_give call seen) (needed_on call)
     (member_in (needed_on call) (needed_by call) seen.sight.channels) seen
+
+pub giveop-later : GivesOpLater (codes "giveop")
+unfolding wanted_by
+giveop-later call seen member look is looks = λ reply kept.
+    by reply.actions (may_give call seen) (is_known_bot (flags_of_member (call_on (needed_on call)) seen member))
+    (alone-kept which.GiveOp call seen reply refl kept
+    ∙ ap (λ (found : Option Member). if may_give call seen then op_for (needed_on call) found seen else []) is)
+  where
+    by : (actions : List Action) (may known : Bool)
+        → actions ≡ (if may then (if known then op_later (needed_on call) member ∷ [] else []) else [])
+        → (actions ≡ []) ⊎ (actions ≡ look ∷ [])
+    by actions false known given = inl given
+    by actions true false given = inl given
+    by actions true true given =
+        inr (given ∙ ap (λ (found : Option Action). or_at_once (mode (needed_on call) (codes "+o") member.nick) found ∷ []) looks)
 
 -- ---- requests of other programs
 

@@ -1,7 +1,8 @@
 -- Each change that any proc requests is in the caller's name, or in nobody's and gives nothing.
-use Rattle.std.proofs.Common.{◌≡◌, ◌||◌, ◌&&◌, ◌==◌, ◌∷◌, ◌++◌, not, inl, inr, ℕ, zero, suc, List, [], length, take, Bool, true, false, refl, ap, sym, subst, codes, if◌then◌else◌, Option, Some, None}
+use Rattle.std.proofs.Common.{◌≡◌, ◌||◌, ◌&&◌, ◌==◌, ◌∷◌, ◌++◌, ◌*◌, not, inl, inr, ℕ, zero, suc, List, [], length, take, Bool, true, false, refl, ap, sym, subst, codes, if◌then◌else◌, Option, Some, None}
 use Rattle.std.specs.List.{list_any, filter_map, flat_map}
 use Rattle.std.specs.Option.{option_map, option_to_list}
+use Rattle.std.specs.Str.{bytes_eq}
 use Rattle.bytetext.specs.Words.{after_word, first_word}
 use Rattle.userfile.specs.Changes.{by_nobody}
 use Rattle.userfile.specs.Shapes.{is_hostmask}
@@ -14,13 +15,16 @@ use Rattle.chanstate.specs.Views.{member_in, members_in, channels_with}
 use Rattle.outqueue.specs.declared.queue.Queue.{Queue}
 use Rattle.outqueue.specs.declared.queue.Queue.TheVariants.{Help, Mode as mode_queue, Server}
 use Rattle.procs.specs.declared.action.Action.{Action}
-use Rattle.procs.specs.declared.action.Action.TheVariants.{Ask, SendBot}
+use Rattle.procs.specs.declared.action.Action.TheVariants.{Ask, SendBot, Utimer}
+use Rattle.procs.specs.declared.action.TimerWish.{TimerWish}
 use Rattle.procs.specs.declared.call.Call.{Call}
 use Rattle.procs.specs.declared.limits.TheConstants.{MAX_ACTIONS}
 use Rattle.procs.specs.declared.reply.ProcReply.{ProcReply}
 use Rattle.procs.specs.Promises.{IsKept}
 use Rattle.procs.specs.Seen.{Seen}
 use Rattle.eggprocs.specs.declared.duties.Duty.TheVariants.{FirstOp, TurnsOp}
+use Rattle.eggprocs.specs.declared.looks.TheConstants.{LOOK_SECONDS}
+use Rattle.eggprocs.specs.declared.needs.TheConstants.{GIVE_SECONDS}
 use Rattle.eggprocs.specs.declared.proc_name.ProcName.{ProcName}
 use Rattle.eggprocs.specs.declared.proc_name.ProcName.TheVariants as which
 use Rattle.eggprocs.specs.Args.{arg_at, nick_of, channel_of, said_of, last_of, mode_change, mode_argument, timer_text, has_word, or_else}
@@ -31,19 +35,19 @@ use Rattle.eggprocs.specs.Cycling.{leaver_of, is_made_again, is_left_alone, cycl
 use Rattle.eggprocs.specs.Dynamic.{is_sticky, later_lift, lifted_at}
 use Rattle.eggprocs.specs.Ends.{call_on, has_ended, lifts_on, is_left, lift_if, delete_if, ends_of, is_minute, all_ends}
 use Rattle.eggprocs.specs.Entries.{closed_channel, is_kept_out, needs_in, may_let_in}
-use Rattle.eggprocs.specs.Everyone.{flags_of_member, is_own_join, gives_bot_op, change_of, mode_for}
+use Rattle.eggprocs.specs.Everyone.{address_of, flags_of_member, is_own_join, gives_bot_op, change_of, mode_for}
 use Rattle.eggprocs.specs.Floods.{is_flood, flood_place, flood_reason, is_nowhere, is_of_nicks, is_flooder, flood_kick, flood_kicks, is_banned, flood_ban, flood_lines, flood_on, floods_all, flood_nowhere}
 use Rattle.eggprocs.specs.Guards.{hits_guarded, removes}
 use Rattle.eggprocs.specs.Infos.{info_by, greeting}
 use Rattle.eggprocs.specs.Keeping.{is_change_here, is_by_bot, is_change_by_others, is_change_by_untrusted, mode_back, takes_op, gives_op, flags_named, op_again, op_undone, is_hit, is_spared, kick_for}
 use Rattle.eggprocs.specs.Laws.{EachAsk, AsksOnly, IsNamedOrGivesNothing, is_ask}
 use Rattle.eggprocs.specs.Lines.{privmsg, topic, invite, mode, kick, part, join, who}
-use Rattle.eggprocs.specs.Looks.{may_look, is_wanted, line_of}
+use Rattle.eggprocs.specs.Looks.{look_text, look_after, look_if, or_at_once, may_look, is_wanted, line_of}
 use Rattle.eggprocs.specs.Modes.{plain_reverse, sets_key, undone}
-use Rattle.eggprocs.specs.Needs.{lacks_op_on, needs_op_on, later_need, is_for_later, is_need, need_on, all_needs, needs_now, needed_on, needed_by, is_known_bot, may_give, op_for}
+use Rattle.eggprocs.specs.Needs.{lacks_op_on, needs_op_on, later_need, is_for_later, is_need, need_on, all_needs, needs_now, needed_on, needed_by, is_known_bot, may_give, op_later, op_for}
 use Rattle.eggprocs.specs.People.{told}
 use Rattle.eggprocs.specs.Procs.{name_of, which_named, duty_of, wanted_by, actions_by, actions_if, ours}
-use Rattle.eggprocs.specs.Recorded.{is_newcomer, ban_on, kept_off, asked_for_join, ban_back, set_again, asked_for_removal}
+use Rattle.eggprocs.specs.Recorded.{is_newcomer, ban_text, ban_line, ban_on, kick_line, address_beside, kept_off, asked_for_join, ban_back, set_again, asked_for_removal}
 use Rattle.eggprocs.specs.Rights.{has_op, has_bot, flags_by, is_bot_op, is_from_op, is_from_voice, is_join, is_op_of, is_timer}
 use Rattle.eggprocs.specs.Turns.{share_out}
 use Rattle.eggprocs.specs.Whereabouts.{whereabouts}
@@ -165,9 +169,25 @@ guard-known is_so call false first = no-asks is_so [] refl
 guard-known is_so call true true = no-asks is_so (mode_back (codes "-b") call) refl
 guard-known is_so call true false = no-asks is_so [] refl
 
-kept_off-known : (is_so : Change → Type 0) (call : Call) (ban : Option Ban) → EachAsk is_so (kept_off call ban)
-kept_off-known is_so call None = no-asks is_so [] refl
-kept_off-known is_so call (Some ban) = no-asks is_so (kept_off call (Some ban)) refl
+-- a look, or the line in its place, and then such actions as request no change
+look-known : (is_so : Change → Type 0) (reads : Bool) (line : List ℕ) (look : TimerWish) (rest : List Action) → list_any is_ask rest ≡ false
+    → EachAsk is_so (or_at_once line (if reads then Some (Utimer look) else None) ∷ rest)
+look-known is_so true line look rest quiet = no-asks is_so (Utimer look ∷ rest) quiet
+look-known is_so false line look rest quiet = no-asks is_so (put mode_queue line ∷ rest) quiet
+
+after-known : (is_so : Change → Type 0) (seconds : ℕ) (line address : List ℕ) (rest : List Action) → list_any is_ask rest ≡ false
+    → EachAsk is_so (or_at_once line (look_after seconds line address) ∷ rest)
+after-known is_so seconds line address rest quiet =
+    look-known is_so (bytes_eq (after_word (look_text address line)) line) line
+    (record { interval = seconds; count = 1; proc = codes "later"; text = look_text address line }) rest quiet
+
+kept_off-known : (is_so : Change → Type 0) (call : Call) (seen : Seen) (ban : Option Ban) → EachAsk is_so (kept_off call seen ban)
+kept_off-known is_so call seen None = no-asks is_so [] refl
+kept_off-known is_so call seen (Some ban) = by (address_beside ban.mask call seen)
+  where
+    by : (address : Option (List ℕ)) → EachAsk is_so (or_at_once (ban_text call ban) (look_if 1 (ban_text call ban) address) ∷ kick_line call ban ∷ [])
+    by None = no-asks is_so (ban_line call ban ∷ kick_line call ban ∷ []) refl
+    by (Some address) = after-known is_so (1 * LOOK_SECONDS) (ban_text call ban) address (kick_line call ban ∷ []) refl
 
 set_again-known : (is_so : Change → Type 0) (call : Call) (ban : Option Ban) → EachAsk is_so (set_again call ban)
 set_again-known is_so call None = no-asks is_so [] refl
@@ -220,7 +240,8 @@ all_needs-known is_so seen =
 op_for-known : (is_so : Change → Type 0) (channel : List ℕ) (member : Option Member) (seen : Seen) → EachAsk is_so (op_for channel member seen)
 op_for-known is_so channel None seen = no-asks is_so [] refl
 op_for-known is_so channel (Some member) seen =
-    line-if is_so (is_known_bot (flags_of_member (call_on channel) seen member)) mode_queue (mode channel (codes "+o") member.nick)
+    each-if is_so (is_known_bot (flags_of_member (call_on channel) seen member)) (op_later channel member ∷ []) []
+    (after-known is_so GIVE_SECONDS (mode channel (codes "+o") member.nick) (address_of member) [] refl) (no-asks is_so [] refl)
 
 flood-quiet : (test : Bool) (line : List ℕ) (action : Action) → (if test then Some (put mode_queue line) else None) ≡ Some action → is_ask action ≡ false
 flood-quiet false line action is = cc
@@ -348,8 +369,8 @@ wanted-known which.GiveOp call seen =
 wanted-known which.KeepBans call seen =
     let again : List Action = set_again call (ban_back call seen) in
     each-if (IsNamedOrGivesNothing call seen) (is_join call.kind) (asked_for_join call seen) (asked_for_removal call seen)
-    (each-if (IsNamedOrGivesNothing call seen) (is_newcomer call seen) (kept_off call (ban_on call seen)) []
-    (kept_off-known (IsNamedOrGivesNothing call seen) call (ban_on call seen)) (no-asks (IsNamedOrGivesNothing call seen) [] refl))
+    (each-if (IsNamedOrGivesNothing call seen) (is_newcomer call seen) (kept_off call seen (ban_on call seen)) []
+    (kept_off-known (IsNamedOrGivesNothing call seen) call seen (ban_on call seen)) (no-asks (IsNamedOrGivesNothing call seen) [] refl))
     (each-if (IsNamedOrGivesNothing call seen) (is_change_by_others (codes "-b") call seen) (share_out FirstOp call seen again) []
     (share-asks (IsNamedOrGivesNothing call seen) FirstOp call seen again (set_again-known (IsNamedOrGivesNothing call seen) call (ban_back call seen)))
     (no-asks (IsNamedOrGivesNothing call seen) [] refl))

@@ -29,7 +29,7 @@ use Rattle.eggprocs.specs.TurnLaws.{is_look_after}
 use Rattle.eggprocs.specs.Turns.{turn_of, by_turn, share_out}
 use Rattle.eggprocs.proofs.EndLemmas.{all-flat}
 use Rattle.eggprocs.proofs.KeepingLemmas.{is_line-put, known-spared, kick-by, test-kept}
-use Rattle.eggprocs.proofs.LawLemmas.{alone-kept, does-nothing}
+use Rattle.eggprocs.proofs.LawLemmas.{alone-kept, does-nothing, same-either}
 use Rattle.eggprocs.proofs.Lists.{any-more, any-same, all-of, all-given}
 use Rattle.eggprocs.proofs.LookLemmas.{later-turn}
 use Rattle.eggprocs.proofs.TurnLemmas.{KeepsLooks, either-kept, share-only}
@@ -150,10 +150,6 @@ floods-only call seen reply kept =
     by false = refl
     by true = flood-right call seen (is_nowhere call) (is_of_nicks call)
 
-either : (b : Bool) (actions : List Action) → (if b then actions else actions) ≡ actions
-either true actions = refl
-either false actions = refl
-
 pub floods-nowhere : LeavesOtherFloods (codes "kickfloods")
 unfolding wanted_by
 floods-nowhere call seen nowhere other =
@@ -161,7 +157,7 @@ floods-nowhere call seen nowhere other =
     does-nothing which.KickFloods call seen
     (ap (λ (b : Bool). if is_flood call then (if b then (if is_of_nicks call then floods_all call seen else []) else here) else []) nowhere
     ∙ ap (λ (b : Bool). if is_flood call then (if b then floods_all call seen else []) else []) other
-    ∙ either (is_flood call) [])
+    ∙ same-either (is_flood call) [])
 
 -- ---- turns
 

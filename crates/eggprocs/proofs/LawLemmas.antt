@@ -63,7 +63,8 @@ and-false true b e = e
 or-false : (a b : Bool) → a ≡ false → b ≡ false → (a || b) ≡ false
 or-false a b e f = ap (λ (x : Bool). x || b) e ∙ f
 
-same-either : (b : Bool) (actions : List Action) → (if b then actions else actions) ≡ actions
+-- nothing turns on a test of which both ways are the same
+pub same-either : (b : Bool) (actions : List Action) → (if b then actions else actions) ≡ actions
 same-either false actions = refl
 same-either true actions = refl
 

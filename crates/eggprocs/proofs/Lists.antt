@@ -1,5 +1,5 @@
 -- Tests and counts of lists.
-use Rattle.std.proofs.Common.{◌≡◌, ◌∙◌, ◌<◌, ◌≤◌, ◌&&◌, ◌||◌, ◌∷◌, ◌++◌, not, List, [], length, get_or, filter, Bool, true, false, cond, refl, ap, sym, arith, Option, Some, None}
+use Rattle.std.proofs.Common.{◌≡◌, ◌∙◌, ◌<◌, ◌≤◌, ◌&&◌, ◌||◌, ◌∷◌, ◌++◌, not, ℕ, zero, suc, List, [], length, get_or, take, filter, Bool, true, false, cond, refl, ap, sym, arith, Option, Some, None}
 use Rattle.std.specs.Prelude.{find, unwrap_or}
 use Rattle.std.specs.List.{list_all, list_any, filter_map, cons_option, count_by}
 use Rattle.std.proofs.lemmas.Bool.{and_from, or_parts, or_right}
@@ -104,6 +104,23 @@ count-without p before after x none =
 pub find-without : {X : Type 0} (p : X → Bool) (before after : List X) (x : X) → p x ≡ false → find p (before ++ x ∷ after) ≡ find p (before ++ after)
 find-without p [] after x none = ap (λ (b : Bool). cond b (Some x) (find p after)) none
 find-without p (y ∷ before) after x none = ap (λ (o : Option _). cond (p y) (Some y) o) (find-without p before after x none)
+
+-- none is found if none passes
+pub found-none : {X : Type 0} (p : X → Bool) (xs : List X) → list_any p xs ≡ false → find p xs ≡ None
+found-none p [] none = refl
+found-none {X} p (x ∷ xs) none =
+    let parts = or_parts (p x) (list_any p xs) none in
+    ap (λ (b : Bool). cond b (Some x) (find p xs)) parts.0 ∙ found-none p xs parts.1
+
+-- what passes, behind what does not, is found
+pub first-found : {X : Type 0} (p : X → Bool) (xs : List X) (count : ℕ) (x : X) → count < length xs → x ≡ get_or xs count x
+    → list_any p (take count xs) ≡ false → p x ≡ true → find p xs ≡ Some x
+first-found p [] count x within at none is = absurd (omega (arith, within))
+first-found {X} p (y ∷ ys) zero x within at none is =
+    ap (λ (z : X). cond (p z) (Some z) (find p ys)) (sym at) ∙ ap (λ (b : Bool). cond b (Some x) (find p ys)) is
+first-found {X} p (y ∷ ys) (suc count) x within at none is =
+    let parts = or_parts (p y) (list_any p (take count ys)) none in
+    ap (λ (b : Bool). cond b (Some y) (find p ys)) parts.0 ∙ first-found p ys count x (omega (arith, within)) at parts.1 is
 
 -- what is found passes
 pub found-among : {X : Type 0} (p q : X → Bool) (xs : List X) (one : X) → find p xs ≡ Some one → q one ≡ true → list_any (λ x. p x && q x) xs ≡ true

@@ -1,36 +1,39 @@
 -- Whom `keepbans` keeps off, and which bans it sets again.
-use Rattle.std.proofs.Common.{◌≡◌, ◌∙◌, ◌&&◌, ◌||◌, ◌∷◌, not, ℕ, List, [], Bool, true, false, cond, refl, ap, sym, codes, if◌then◌else◌, Option, Some, None}
+use Rattle.std.proofs.Common.{◌≡◌, ◌∙◌, ◌&&◌, ◌||◌, ◌∷◌, ◌*◌, not, ℕ, List, [], Bool, true, false, refl, ap, sym, codes, if◌then◌else◌, Option, Some, None}
 use Rattle.std.specs.Prelude.{find}
 use Rattle.std.specs.List.{list_all, list_any}
-use Rattle.std.proofs.lemmas.Bool.{and_from, and_parts, and_right, and_left, or_parts, or_right}
+use Rattle.std.specs.Option.{option_map}
+use Rattle.std.proofs.lemmas.Bool.{and_from, and_parts, and_right, and_left, or_right}
 use Rattle.userfile.specs.declared.ban.Ban.{Ban}
 use Rattle.userfile.specs.Persons.{returns_to}
-use Rattle.chanstate.specs.Views.{mapping_of}
+use Rattle.chanstate.specs.declared.member.Member.{Member}
+use Rattle.chanstate.specs.Views.{mapping_of, members_in}
 use Rattle.procs.specs.declared.action.Action.{Action}
 use Rattle.procs.specs.declared.call.Call.{Call}
+use Rattle.procs.specs.declared.reply.ProcReply.{ProcReply}
+use Rattle.procs.specs.Promises.{IsKept}
 use Rattle.procs.specs.Seen.{Seen}
-use Rattle.eggprocs.specs.declared.duties.Duty.TheVariants.{FirstOp}
+use Rattle.eggprocs.specs.declared.duties.Duty.TheVariants.{FirstOp, TurnsOp}
+use Rattle.eggprocs.specs.declared.looks.TheConstants.{LOOK_SECONDS}
 use Rattle.eggprocs.specs.declared.proc_name.ProcName.TheVariants as which
 use Rattle.eggprocs.specs.Args.{nick_of, channel_of, mode_argument, or_else}
-use Rattle.eggprocs.specs.ChannelLaws.{is_barring, is_line_of, is_kept_off, is_set_again, is_kept, SparesUnbanned, KeepsOff, SetsAgain, LeavesRemovalsToTheFirst}
+use Rattle.eggprocs.specs.ChannelLaws.{is_barring, is_line_of, is_kept_off, is_set_again, is_kept, SparesUnbanned, KeepsOff, KeepsOffBeside, SetsAgain, LeavesRemovalsToTheFirst}
+use Rattle.eggprocs.specs.Everyone.{address_of}
 use Rattle.eggprocs.specs.Keeping.{is_by_bot, is_change_here, is_change_by_others}
 use Rattle.eggprocs.specs.Laws.{DoesOnly, IsOnlyByOps, IsOnlyForOthers, is_line_in_turn}
 use Rattle.eggprocs.specs.Lines.{mode, kick}
-use Rattle.eggprocs.specs.Procs.{wanted_by}
-use Rattle.eggprocs.specs.Recorded.{second_of, ban_line, is_newcomer, ban_on, kick_line, kept_off, asked_for_join, ban_back, set_again, asked_for_removal}
+use Rattle.eggprocs.specs.Looks.{look_if, or_at_once}
+use Rattle.eggprocs.specs.Procs.{wanted_by, ours}
+use Rattle.eggprocs.specs.Recorded.{second_of, ban_text, ban_line, is_newcomer, ban_on, kick_line, is_beside, address_beside, ban_or_look, kept_off, asked_for_join, ban_back, set_again, asked_for_removal}
 use Rattle.eggprocs.specs.Rights.{is_join, is_change, is_bot_op}
 use Rattle.eggprocs.specs.Turns.{turn_of, by_turn, share_out}
 use Rattle.eggprocs.proofs.KeepingLemmas.{nothing-if, is_change_here-bot, is_line-put}
-use Rattle.eggprocs.proofs.LawLemmas.{does-nothing, shares-kept}
-use Rattle.eggprocs.proofs.Lists.{any-more, all-of, found-among}
+use Rattle.eggprocs.proofs.LawLemmas.{does-nothing, shares-kept, same-either}
+use Rattle.eggprocs.proofs.Lists.{any-more, all-of, found-none, found-among}
 use Rattle.eggprocs.proofs.LookLemmas.{acts-at-once, silent}
-use Rattle.eggprocs.proofs.TurnLemmas.{KeepsLooks, keeps-line, share-only}
+use Rattle.eggprocs.proofs.TurnLemmas.{KeepsLooks, in-place, keeps-line, share-only}
 
 -- ---- nothing
-
-either : (b : Bool) (actions : List Action) → (if b then actions else actions) ≡ actions
-either true actions = refl
-either false actions = refl
 
 -- nothing is requested if neither a join nor a removal asks for anything
 keepbans-none : (call : Call) (seen : Seen) → is_newcomer call seen ≡ false → is_change_by_others (codes "-b") call seen ≡ false
@@ -38,10 +41,10 @@ keepbans-none : (call : Call) (seen : Seen) → is_newcomer call seen ≡ false 
 unfolding wanted_by
 keepbans-none call seen new change =
     ap (λ (actions : List Action). if is_join call.kind then actions else asked_for_removal call seen)
-    (nothing-if (is_newcomer call seen) (kept_off call (ban_on call seen)) new)
+    (nothing-if (is_newcomer call seen) (kept_off call seen (ban_on call seen)) new)
     ∙ ap (λ (actions : List Action). if is_join call.kind then [] else actions)
     (nothing-if (is_change_by_others (codes "-b") call seen) (share_out FirstOp call seen (set_again call (ban_back call seen))) change)
-    ∙ either (is_join call.kind) []
+    ∙ same-either (is_join call.kind) []
 
 pub keepbans-bot : IsOnlyByOps (codes "keepbans")
 keepbans-bot call seen denied =
@@ -66,32 +69,49 @@ for-removal call seen is = ap (λ (b : Bool). if b then asked_for_join call seen
 
 -- ---- joins
 
--- none is found if none passes
-found-none : {X : Type 0} (p : X → Bool) (xs : List X) → list_any p xs ≡ false → find p xs ≡ None
-found-none p [] none = refl
-found-none {X} p (x ∷ xs) none =
-    let parts = or_parts (p x) (list_any p xs) none in
-    ap (λ (b : Bool). cond b (Some x) (find p xs)) parts.0 ∙ found-none p xs parts.1
-
 pub keepbans-unbanned : SparesUnbanned (codes "keepbans")
 keepbans-unbanned call seen joins none =
     does-nothing which.KeepBans call seen
     (for-join call seen joins
-    ∙ ap (λ (found : Option Ban). if is_newcomer call seen then kept_off call found else []) (found-none (is_barring call seen) seen.sight.records.bans none)
-    ∙ either (is_newcomer call seen) [])
+    ∙ ap (λ (found : Option Ban). if is_newcomer call seen then kept_off call seen found else []) (found-none (is_barring call seen) seen.sight.records.bans none)
+    ∙ same-either (is_newcomer call seen) [])
 
-pub keeps-off : KeepsOff (codes "keepbans")
-keeps-off call seen ban joins new is first = λ reply kept.
+-- what the first bot requests for a join
+first-wants : (call : Call) (seen : Seen) (ban : Ban) → is_join call.kind ≡ true → is_newcomer call seen ≡ true → ban_on call seen ≡ Some ban
+    → turn_of TurnsOp call seen ≡ 0
+    → (reply : ProcReply) → IsKept ours (codes "keepbans") call seen reply → reply.actions ≡ ban_or_look call seen ban ∷ kick_line call ban ∷ []
+first-wants call seen ban joins new is first reply kept =
     acts-at-once which.KeepBans call seen first reply kept
     ∙ for-join call seen joins
-    ∙ ap (λ (b : Bool). if b then kept_off call (ban_on call seen) else []) new
-    ∙ ap (kept_off call) is
+    ∙ ap (λ (b : Bool). if b then kept_off call seen (ban_on call seen) else []) new
+    ∙ ap (kept_off call seen) is
+
+-- the first action, by the first member beside the caller
+wants-at : (call : Call) (seen : Seen) (ban : Ban) (member : Option Member)
+    → find (is_beside ban.mask call seen) (members_in (channel_of call) seen.sight.channels) ≡ member
+    → (ban_or_look call seen ban ∷ kick_line call ban ∷ [])
+    ≡ (or_at_once (ban_text call ban) (look_if 1 (ban_text call ban) (option_map address_of member)) ∷ kick_line call ban ∷ [])
+wants-at call seen ban member is =
+    ap (λ (found : Option Member). or_at_once (ban_text call ban) (look_if 1 (ban_text call ban) (option_map address_of found)) ∷ kick_line call ban ∷ []) is
+
+pub keeps-off : KeepsOff (codes "keepbans")
+keeps-off call seen ban joins new is alone first = λ reply kept.
+    first-wants call seen ban joins new is first reply kept
+    ∙ wants-at call seen ban None (found-none (is_beside ban.mask call seen) (members_in (channel_of call) seen.sight.channels) alone)
+
+pub keeps-off-beside : KeepsOffBeside (codes "keepbans")
+keeps-off-beside call seen ban member joins new is beside first = λ reply kept.
+    first-wants call seen ban joins new is first reply kept ∙ wants-at call seen ban (Some member) beside
 
 -- each line of a ban is one of its lines
-ban-line-of : (call : Call) (ban : Ban) → is_line_of call ban (ban_line call ban) ≡ true
-ban-line-of call ban =
-    ap (λ (b : Bool). (b || false) || is_line_in_turn (kick (channel_of call) (nick_of call) (or_else ban.comment (codes "banned"))) (ban_line call ban))
-    (is_line-put (mode (channel_of call) (codes "+b") ban.mask))
+ban-line-of : (call : Call) (seen : Seen) (ban : Ban) → is_line_of call ban (ban_or_look call seen ban) ≡ true
+ban-line-of call seen ban =
+    ap (λ (b : Bool). b || is_line_in_turn (kick (channel_of call) (nick_of call) (or_else ban.comment (codes "banned"))) (ban_or_look call seen ban))
+    (by (address_beside ban.mask call seen))
+  where
+    by : (address : Option (List ℕ)) → is_line_in_turn (ban_text call ban) (or_at_once (ban_text call ban) (look_if 1 (ban_text call ban) address)) ≡ true
+    by None = in-place (1 * LOOK_SECONDS) (ban_text call ban) None
+    by (Some address) = in-place (1 * LOOK_SECONDS) (ban_text call ban) (Some address)
 
 kick-line-of : (call : Call) (ban : Ban) → is_line_of call ban (kick_line call ban) ≡ true
 kick-line-of call ban =
@@ -100,12 +120,12 @@ kick-line-of call ban =
     (ap (λ (b : Bool). b || false) (is_line-put (kick (channel_of call) (nick_of call) (or_else ban.comment (codes "banned")))))
 
 kept-only : (may : Bool) (call : Call) (seen : Seen) (found : Option Ban) → is_join call.kind ≡ true → ban_on call seen ≡ found
-    → list_all (is_kept_off call seen) (if may then kept_off call found else []) ≡ true
+    → list_all (is_kept_off call seen) (if may then kept_off call seen found else []) ≡ true
 kept-only false call seen found joins is = refl
 kept-only true call seen None joins is = refl
 kept-only true call seen (Some ban) joins is =
-    and_from (is_kept_off call seen (ban_line call ban)) (is_kept_off call seen (kick_line call ban) && true)
-    (one (ban_line call ban) (ban-line-of call ban)) (ap (λ (b : Bool). b && true) (one (kick_line call ban) (kick-line-of call ban)))
+    and_from (is_kept_off call seen (ban_or_look call seen ban)) (is_kept_off call seen (kick_line call ban) && true)
+    (one (ban_or_look call seen ban) (ban-line-of call seen ban)) (ap (λ (b : Bool). b && true) (one (kick_line call ban) (kick-line-of call ban)))
   where
     one : (action : Action) → is_line_of call ban action ≡ true → is_kept_off call seen action ≡ true
     one action line =
@@ -184,7 +204,7 @@ removals-left call seen other above =
     (for-removal call seen other
     ∙ ap (λ (actions : List Action). if is_change_by_others (codes "-b") call seen then actions else [])
     (silent FirstOp (turn_of FirstOp call seen) call seen (set_again call (ban_back call seen)) refl above)
-    ∙ either (is_change_by_others (codes "-b") call seen) [])
+    ∙ same-either (is_change_by_others (codes "-b") call seen) [])
 
 -- ---- nothing else
 

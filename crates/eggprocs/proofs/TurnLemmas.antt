@@ -16,7 +16,7 @@ use Rattle.eggprocs.specs.declared.duties.Duty.{Duty}
 use Rattle.eggprocs.specs.declared.looks.TheConstants.{LOOK_SECONDS}
 use Rattle.eggprocs.specs.Effects.{target_in}
 use Rattle.eggprocs.specs.Laws.{is_line_in_turn}
-use Rattle.eggprocs.specs.Looks.{look_text, look_if, address_now, look_for}
+use Rattle.eggprocs.specs.Looks.{look_text, look_after, look_if, or_at_once, address_now, look_for}
 use Rattle.eggprocs.specs.Turns.{turn_of, has_look, by_turn, share_out}
 
 -- ---- shares
@@ -86,6 +86,11 @@ share-only is_right duty call seen wanted keeps all =
 
 -- ---- looks
 
+-- a look after so many seconds, if there is an address
+abbrev pub after_if : ℕ → List ℕ → Option (List ℕ) → Option Action
+after_if seconds line None = None
+after_if seconds line (Some address) = look_after seconds line address
+
 abbrev in_turn_if : List ℕ → Option Action → Bool
 in_turn_if line None = true
 in_turn_if line (Some action) = is_line_in_turn line action
@@ -103,6 +108,17 @@ look-line turn line wanted (Some address) look is same = by (bytes_eq (after_wor
         ((bytes_eq-Decides (after_word (look_text address wanted)) line).1
         ((bytes_eq-Decides (after_word (look_text address wanted)) wanted).0 reads ∙ (bytes_eq-Decides wanted line).0 same))
     by false reads here = cc
+
+-- a look in place of a line, or the line at once, is that line in turn
+pub in-place : (seconds : ℕ) (line : List ℕ) (address : Option (List ℕ)) → is_line_in_turn line (or_at_once line (after_if seconds line address)) ≡ true
+in-place seconds line None = ap (λ (b : Bool). b || false) ((bytes_eq-Decides line line).1 refl)
+in-place seconds line (Some address) = by (bytes_eq (after_word (look_text address line)) line) refl
+  where
+    by : (reads : Bool) → bytes_eq (after_word (look_text address line)) line ≡ reads
+        → is_line_in_turn line (or_at_once line
+        (if reads then Some (Utimer (record { interval = seconds; count = 1; proc = codes "later"; text = look_text address line })) else None)) ≡ true
+    by true reads = reads
+    by false reads = ap (λ (b : Bool). b || false) ((bytes_eq-Decides line line).1 refl)
 
 pub keeps-line : (line : List ℕ) (call : Call) (seen : Seen) → KeepsLooks call seen (is_line_in_turn line)
 keeps-line line call seen turn (Put wish) look is right =

@@ -1,5 +1,5 @@
 -- Laws of the procs that keep a channel by themselves, and of those that answer other programs.
-use Rattle.std.specs.Prelude.{◌≡◌, ◌⊎◌, ◌<◌, ◌*◌, ◌==◌, ℕ, not, ◌&&◌, ◌||◌, List, [], ◌∷◌, ◌++◌, slice_get, Bool, true, false, if◌then◌else◌, Option, Some, None, codes}
+use Rattle.std.specs.Prelude.{◌≡◌, ◌⊎◌, ◌<◌, ◌*◌, ◌==◌, ℕ, not, ◌&&◌, ◌||◌, List, [], ◌∷◌, ◌++◌, slice_get, find, Bool, true, false, if◌then◌else◌, Option, Some, None, codes}
 use Rattle.std.specs.List.{list_all, list_any}
 use Rattle.std.specs.Str.{bytes_eq}
 use Rattle.userfile.specs.declared.ban.Ban.{Ban}
@@ -15,6 +15,7 @@ use Rattle.procs.specs.Promises.{IsKept}
 use Rattle.procs.specs.Seen.{Seen}
 use Rattle.eggprocs.specs.declared.duties.Duty.TheVariants.{TurnsOp}
 use Rattle.eggprocs.specs.declared.looks.TheConstants.{LOOK_SECONDS}
+use Rattle.eggprocs.specs.declared.needs.TheConstants.{GIVE_SECONDS}
 use Rattle.eggprocs.specs.Args.{nick_of, channel_of, mode_change, mode_argument, or_else}
 use Rattle.eggprocs.specs.Askers.{caller_address}
 use Rattle.eggprocs.specs.Channel.{put}
@@ -23,15 +24,16 @@ use Rattle.eggprocs.specs.Cycling.{leaver_of, is_self_or}
 use Rattle.eggprocs.specs.Dynamic.{is_sticky}
 use Rattle.eggprocs.specs.Ends.{call_on}
 use Rattle.eggprocs.specs.Entries.{refuses_join, closed_channel}
-use Rattle.eggprocs.specs.Everyone.{is_own_nick, flags_of_member}
+use Rattle.eggprocs.specs.Everyone.{is_own_nick, address_of, flags_of_member}
 use Rattle.eggprocs.specs.Floods.{is_flood, flooder_of, flood_place, flood_kind, is_nowhere, is_of_joins, is_of_nicks, is_flooder, is_banned}
 use Rattle.eggprocs.specs.Keeping.{is_by_bot, is_change_by_others}
-use Rattle.eggprocs.specs.Laws.{DoesNothing, has_one_of, op_letters, is_bot_or_known, is_line, is_line_in_turn}
+use Rattle.eggprocs.specs.Laws.{DoesNothing, has_one_of, op_letters, is_bot_or_known, is_line_in_turn}
 use Rattle.eggprocs.specs.Lines.{mode, plain_mode, kick, invite}
+use Rattle.eggprocs.specs.Looks.{look_after, look_of, or_at_once}
 use Rattle.eggprocs.specs.Modes.{has_plain_reverse, reverse_of, sets_key}
 use Rattle.eggprocs.specs.Needs.{needed_on, needed_by}
 use Rattle.eggprocs.specs.Procs.{ours}
-use Rattle.eggprocs.specs.Recorded.{second_of, ban_line, is_newcomer, ban_on, kick_line, ban_back}
+use Rattle.eggprocs.specs.Recorded.{second_of, ban_text, ban_line, is_newcomer, ban_on, kick_line, is_beside, ban_back}
 use Rattle.eggprocs.specs.Rights.{has_bot, is_join, is_change, is_bot_op, is_op_of}
 use Rattle.eggprocs.specs.TurnLaws.{is_look_after}
 use Rattle.eggprocs.specs.Turns.{turn_of}
@@ -110,12 +112,26 @@ SparesUnbanned name =
     (call : Call) (seen : Seen) → is_join call.kind ≡ true → list_any (is_barring call seen) seen.sight.records.bans ≡ false
     → DoesNothing name call seen
 
--- the first bot sets the first ban of the records that keeps off somebody else who joins, and kicks that person
+-- the first bot sets the first ban of the records that keeps off somebody else who joins, and kicks that person, if this ban
+-- keeps off no other member
 abbrev pub KeepsOff : List ℕ → Type 0
 KeepsOff name =
     (call : Call) (seen : Seen) (ban : Ban) → is_join call.kind ≡ true → is_newcomer call seen ≡ true → ban_on call seen ≡ Some ban
+    → list_any (is_beside ban.mask call seen) (members_in (channel_of call) seen.sight.channels) ≡ false
     → turn_of TurnsOp call seen ≡ 0
     → (reply : ProcReply) → IsKept ours name call seen reply → reply.actions ≡ ban_line call ban ∷ kick_line call ban ∷ []
+
+-- If this ban keeps off another member, the first bot kicks that person all the same, and sets the ban only by a look after
+-- five seconds, at the first such member. It sets the ban at once if that member's address has a space, so that there is no
+-- such look.
+abbrev pub KeepsOffBeside : List ℕ → Type 0
+KeepsOffBeside name =
+    (call : Call) (seen : Seen) (ban : Ban) (member : Member)
+    → is_join call.kind ≡ true → is_newcomer call seen ≡ true → ban_on call seen ≡ Some ban
+    → find (is_beside ban.mask call seen) (members_in (channel_of call) seen.sight.channels) ≡ Some member
+    → turn_of TurnsOp call seen ≡ 0
+    → (reply : ProcReply) → IsKept ours name call seen reply
+    → reply.actions ≡ or_at_once (ban_text call ban) (look_of 1 (ban_text call ban) (address_of member)) ∷ kick_line call ban ∷ []
 
 -- the first bot sets the first sticky ban of the records again that anybody else removes
 abbrev pub SetsAgain : List ℕ → Type 0
@@ -131,16 +147,26 @@ LeavesRemovalsToTheFirst name =
 
 -- ---- op for other bots
 
--- op for this member, who has the flag b everywhere and one of o, m and n, everywhere or on the channel
+-- op, at once or by a later look, for this member, who has the flag b everywhere and one of o, m and n, everywhere or on the
+-- channel
 abbrev pub is_gift_to : List ℕ → Option Member → Seen → Action → Bool
 is_gift_to channel None seen action = false
 is_gift_to channel (Some member) seen action =
     (has_bot (flags_of_member (call_on channel) seen member) && has_one_of op_letters (flags_of_member (call_on channel) seen member))
-    && is_line (mode channel (codes "+o") member.nick) action
+    && is_line_in_turn (mode channel (codes "+o") member.nick) action
 
 -- the same for the member of the channel and the nick that a text names
 abbrev pub is_gift : Call → Seen → Action → Bool
 is_gift call seen action = is_gift_to (needed_on call) (member_in (needed_on call) (needed_by call) seen.sight.channels) seen action
+
+-- Op for a member is given by a look a second later, and by nothing else, if there is such a look: there is none for an
+-- address that has a space. So it is given once, if several texts ask for it.
+abbrev pub GivesOpLater : List ℕ → Type 0
+GivesOpLater name =
+    (call : Call) (seen : Seen) (member : Member) (look : Action)
+    → member_in (needed_on call) (needed_by call) seen.sight.channels ≡ Some member
+    → look_after GIVE_SECONDS (mode (needed_on call) (codes "+o") member.nick) (address_of member) ≡ Some look
+    → (reply : ProcReply) → IsKept ours name call seen reply → (reply.actions ≡ []) ⊎ (reply.actions ≡ look ∷ [])
 
 -- ---- requests of other programs
 

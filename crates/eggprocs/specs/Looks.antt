@@ -1,5 +1,5 @@
 -- What a bot looks for that lets another bot go first: whether its line still has something to do. If so, it sends it.
-use Rattle.std.specs.Prelude.{ℕ, not, ◌&&◌, List, [], ◌∷◌, ◌++◌, ◌*◌, Bool, false, if◌then◌else◌, codes, Option, Some, None}
+use Rattle.std.specs.Prelude.{ℕ, not, ◌&&◌, List, [], ◌∷◌, ◌++◌, ◌*◌, Bool, false, unwrap_or, if◌then◌else◌, codes, Option, Some, None}
 use Rattle.std.specs.List.{list_any}
 use Rattle.std.specs.Option.{option_map}
 use Rattle.std.specs.Str.{bytes_eq}
@@ -42,13 +42,21 @@ is_wanted address line seen =
 abbrev pub look_text : List ℕ → List ℕ → List ℕ
 look_text address line = address ++ codes " " ++ line
 
--- The look of the bot that has this many before it. There is none if `later` would read another line in the text, as
--- with an address that has a space.
-abbrev pub look_of : ℕ → List ℕ → List ℕ → Option Action
-look_of turn line address =
+-- A look after so many seconds. There is none if `later` would read another line in the text, as with an address that has
+-- a space.
+abbrev pub look_after : ℕ → List ℕ → List ℕ → Option Action
+look_after seconds line address =
     if bytes_eq (after_word (look_text address line)) line
-    then Some (Utimer (record { interval = turn * LOOK_SECONDS; count = 1; proc = codes "later"; text = look_text address line }))
+    then Some (Utimer (record { interval = seconds; count = 1; proc = codes "later"; text = look_text address line }))
     else None
+
+-- the look of the bot that has this many before it
+abbrev pub look_of : ℕ → List ℕ → List ℕ → Option Action
+look_of turn line address = look_after (turn * LOOK_SECONDS) line address
+
+-- a line at once, if there is no look in its place
+abbrev pub or_at_once : List ℕ → Option Action → Action
+or_at_once line look = unwrap_or look (put mode_queue line)
 
 -- nobody looks for a nick that is not there
 abbrev pub look_if : ℕ → List ℕ → Option (List ℕ) → Option Action

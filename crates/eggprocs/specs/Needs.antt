@@ -7,7 +7,6 @@ use Rattle.bytetext.specs.Words.{first_word, after_word}
 use Rattle.userfile.specs.declared.flags.PersonFlags.{PersonFlags}
 use Rattle.chanstate.specs.declared.member.Member.{Member}
 use Rattle.chanstate.specs.Views.{member_in, channels_with}
-use Rattle.outqueue.specs.declared.queue.Queue.TheVariants.{Mode as mode_queue}
 use Rattle.procs.specs.declared.action.Action.{Action}
 use Rattle.procs.specs.declared.action.Action.TheVariants.{SendBot, Utimer}
 use Rattle.procs.specs.declared.call.Call.{Call}
@@ -16,14 +15,14 @@ use Rattle.procs.specs.declared.call_kind.CallKind.TheVariants.{Raw, Msg, Msgm, 
 use Rattle.procs.specs.declared.call_kind.CallKind.TheVariants.{Bot, Time, Cron, Timer}
 use Rattle.procs.specs.declared.limits.TheConstants.{MAX_ACTIONS}
 use Rattle.procs.specs.Seen.{Seen}
-use Rattle.eggprocs.specs.declared.needs.TheConstants.{ASK_SECONDS}
+use Rattle.eggprocs.specs.declared.needs.TheConstants.{ASK_SECONDS, GIVE_SECONDS}
 use Rattle.eggprocs.specs.Args.{arg_at, channel_of, timer_text}
-use Rattle.eggprocs.specs.Channel.{put}
 use Rattle.eggprocs.specs.Cycling.{lacks_op}
 use Rattle.eggprocs.specs.Ends.{call_on, is_minute}
-use Rattle.eggprocs.specs.Everyone.{flags_of_member, is_own_join}
+use Rattle.eggprocs.specs.Everyone.{address_of, flags_of_member, is_own_join}
 use Rattle.eggprocs.specs.Keeping.{names_bot}
 use Rattle.eggprocs.specs.Lines.{mode}
+use Rattle.eggprocs.specs.Looks.{look_after, or_at_once}
 use Rattle.eggprocs.specs.Rights.{has_bot, has_op, is_change, is_op_of, is_timer}
 
 -- ---- a bot without op
@@ -105,13 +104,18 @@ needed_by call = first_word (after_word (arg_at call.args 2))
 abbrev pub is_known_bot : PersonFlags → Bool
 is_known_bot flags = has_bot flags && has_op flags
 
+-- Op for a member, by a look a second later. A bot asks more than once for the same op: for each of two people who get op
+-- by one MODE, or when a minute begins just as its own look is due. All texts of a second make looks of one second, and no
+-- line is queued twice; and a text of the next second makes a look that finds the op given.
+abbrev pub op_later : List ℕ → Member → Action
+op_later channel member =
+    or_at_once (mode channel (codes "+o") member.nick) (look_after GIVE_SECONDS (mode channel (codes "+o") member.nick) (address_of member))
+
 -- op for the member of the nick, if the records know it so
 abbrev pub op_for : List ℕ → Option Member → Seen → List Action
 op_for channel None seen = []
 op_for channel (Some member) seen =
-    if is_known_bot (flags_of_member (call_on channel) seen member)
-    then put mode_queue (mode channel (codes "+o") member.nick) ∷ []
-    else []
+    if is_known_bot (flags_of_member (call_on channel) seen member) then op_later channel member ∷ [] else []
 
 -- a text of another bot asks for op on a channel where this bot is an operator, and who is named is none
 abbrev pub may_give : Call → Seen → Bool

@@ -1,9 +1,9 @@
 // Laws of the procs that keep a channel by themselves, and of those that answer other bots and programs.
 ghost use Rattle.std.specs.Prelude.{codes};
 ghost use Rattle.eggprocs.specs.Laws.{DoesOnly, IsOnlyByOps, IsOnlyForOthers};
-ghost use Rattle.eggprocs.specs.ChannelLaws.{is_reverse, is_gift, LeavesNobodyBehind, IsOnlyWithoutOp, IsOnlyForOwn, SparesSticky, IsOnlyToBot, IsOnlyForTexts};
+ghost use Rattle.eggprocs.specs.ChannelLaws.{is_reverse, is_gift, GivesOpLater, LeavesNobodyBehind, IsOnlyWithoutOp, IsOnlyForOwn, SparesSticky, IsOnlyToBot, IsOnlyForTexts};
 ghost use Rattle.eggprocs.specs.ChannelLaws.{is_against_flood, LeavesOtherFloods, LooksAfterFloods, BansJoiners, InvitesWhoIsNamed, is_entry_text, IsOnlyForRefusals};
-ghost use Rattle.eggprocs.specs.ChannelLaws.{is_kept, SparesUnbanned, KeepsOff, SetsAgain, LeavesRemovalsToTheFirst};
+ghost use Rattle.eggprocs.specs.ChannelLaws.{is_kept, SparesUnbanned, KeepsOff, KeepsOffBeside, SetsAgain, LeavesRemovalsToTheFirst};
 
 /// A law; calling it does nothing. `keepmodes` does nothing but undo the change that it is called for, by what the server
 /// announces. It sets the reverse of a mode whose reverse has no argument: of a mode that never has one, and of one that
@@ -36,6 +36,9 @@ pub fn dynamic_bans_are_the_bots_own()
 ///   all, has not ended, and has the same mask.
 /// - It does nothing for what the bot itself does, and nothing on a channel on which the bot is no operator.
 /// - If the bot comes first, it bans and kicks for the first such ban, and sets the first such ban again.
+/// - If another member is there whom that ban keeps off, the ban has been asked for when that one joined. So the bot does
+///   not set it at once. It kicks the person who joins all the same, and looks five seconds later at the first such member.
+///   That look sets the ban if this member is still there, as one may be who joined before the bot knew the ban.
 /// - If another bot comes first, it does nothing when a mode removes a ban, and looks later when a person joins
 ///   ([`bots_take_turns`](crate::bots_take_turns)).
 pub fn recorded_bans_are_kept()
@@ -44,15 +47,17 @@ pub fn recorded_bans_are_kept()
     ensures others { IsOnlyForOthers (codes "keepbans") }
     ensures with_op { IsOnlyByOps (codes "keepbans") }
     ensures kept_off { KeepsOff (codes "keepbans") }
+    ensures beside { KeepsOffBeside (codes "keepbans") }
     ensures again { SetsAgain (codes "keepbans") }
     ensures removals { LeavesRemovalsToTheFirst (codes "keepbans") }
 {}
 
 /// A law; calling it does nothing. `giveop` does nothing but give op to the member whom the text names, and only if the
 /// records know that member as a bot and as an operator: the member has the flag `b` everywhere, and one of `o`, `m` and
-/// `n` everywhere or on the channel.
+/// `n` everywhere or on the channel. It gives op by a look a second later, so once if several texts ask for it.
 pub fn bots_give_op_to_known_bots()
     ensures giveop { DoesOnly is_gift (codes "giveop") }
+    ensures later { GivesOpLater (codes "giveop") }
 {}
 
 /// A law; calling it does nothing. `kickfloods` kicks who floods a channel, and nobody else:

@@ -109,7 +109,7 @@ fn are_self_or(leaver: &[u8], view: &View<'_>, members: &[Member]) -> bool
 }
 
 // Whether a member is the bot itself, or has the nick that leaves.
-fn is_self_or(leaver: &[u8], view: &View<'_>, member: &Member) -> bool
+pub(crate) fn is_self_or(leaver: &[u8], view: &View<'_>, member: &Member) -> bool
     ensures { result ≡ is_self_or leaver.now view.now member.now }
 {
     is_self(view, member)

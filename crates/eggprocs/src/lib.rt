@@ -47,6 +47,10 @@
 //! - `keepbans` is for anybody but the bot who joins under a ban of the userfile: one of the channel or of all channels,
 //!   which has not ended. It sets the first such ban, and its reason is the ban's comment, or `banned` without one. It
 //!   spares nobody for a flag ([`recorded_bans_are_kept`]).
+//! - `keepbans` sets no ban at once if a member other than the bot is there already whom the same ban keeps off: then the
+//!   bot has asked for it when that member joined. It only kicks the person who joins, and looks at the first such member
+//!   five seconds later, as `later` does below. If that member is still there by then, the bot sets the ban: somebody may
+//!   have joined before the bot knew it.
 //!
 //! A command that lacks its nick, its text or a hostmask does nothing. Modes and kicks go into the mode queue, topics,
 //! invitations and WHO into the server queue, and greetings into the help queue.
@@ -110,7 +114,7 @@
 //! | `needop` | `mode` | `-o` of the bot; `+o` of another one | `needop CHANNEL NICK` to the hub, with the bot's own nick |
 //! | `needop` | timers | the bot is on the text's CHANNEL | the same |
 //! | `needop` | `time`, `cron` | | the same for the first eight channels |
-//! | `giveop` | `bot` | the text is WORD CHANNEL NICK | `MODE CHANNEL +o NICK` |
+//! | `giveop` | `bot` | the text is WORD CHANNEL NICK | a look for `MODE CHANNEL +o NICK` after a second |
 //! | `needin` | `raw` | a server refuses the bot's JOIN, by 471, 473, 474 or 475 | `needin CHANNEL NICK` to the hub, with the bot's own nick |
 //! | `letin` | `bot` | the text is WORD CHANNEL NICK | `INVITE NICK CHANNEL` |
 //!
@@ -120,6 +124,8 @@
 //!   is no bot to ask).
 //! - `giveop` gives op only if the bot is an operator, and NICK is a member with the flag `b` everywhere and one of `o`,
 //!   `m` and `n` ([`bots_give_op_to_known_bots`]). Bind it to the word `needop` at the hub.
+//! - `giveop` gives op by a call of `later` after a second, since a leaf may ask twice: for each of two people who get op by
+//!   one MODE, or when a minute begins just as its own look is due. The second look finds that the leaf has op.
 //! - `needin` does nothing for any other line ([`bots_ask_to_be_let_in`]). At the hub it reports S7, as `needop` does.
 //! - `letin` invites only if the bot is an operator, and NICK is no member of the channel ([`bots_invite_who_is_named`]).
 //!   Nobody who is not there has a host that the bot knows, so it invites whatever nick a bot of the net names. Bind it to
@@ -221,7 +227,8 @@
 //!   does not show that it is done: the member is no operator yet for `+o`, is one for `-o`, has no voice yet for `+v`,
 //!   and has voice for `-v`. So a look does nothing after another bot has acted ([`looks_want_it_undone`]).
 //! - `keepbans` makes two looks, one for each of its lines. The look for the ban does nothing if no member of this address
-//!   is there, so a later bot sets the ban only if it also kicks that person.
+//!   is there, so a later bot sets the ban only if it also kicks that person. Beside a member whom the same ban keeps off it
+//!   makes one look, for the KICK.
 //! - Exactly one bot removes a ban by `guard` ([`one_bot_removes_a_ban`]). If the ban hits bots that are hands and
 //!   operators, it is the first of these, and otherwise the first of all. The bot that sets the ban is left out of those
 //!   that it hits.
@@ -315,7 +322,7 @@ pub use crate::laws::{
     whois_names_whom_binds_know,
 };
 pub use crate::looks::{LOOK_SECONDS, MAX_TURN};
-pub use crate::needs::ASK_SECONDS;
+pub use crate::needs::{ASK_SECONDS, GIVE_SECONDS};
 pub use crate::orders::Order;
 pub use crate::proc_name::{EVERY, PROC_COUNT, ProcName};
 pub use crate::promise::Ours;

@@ -4,7 +4,8 @@ ghost use Rattle.std.specs.List.{list_any};
 ghost use Rattle.std.specs.Str.{bytes_eq};
 ghost use Rattle.eggprocs.specs.Everyone.{address_of};
 ghost use Rattle.eggprocs.specs.declared.looks.TheConstants.{MAX_TURN};
-ghost use Rattle.eggprocs.specs.Looks.{is_wanted, look_text, look_of, look_if, address_now, look_at, look_for, line_of, may_look, asked_by_later};
+ghost use Rattle.eggprocs.specs.Looks.{is_wanted, look_text, look_after, look_of, look_if, or_at_once, address_now, look_at, look_for};
+ghost use Rattle.eggprocs.specs.Looks.{line_of, may_look, asked_by_later};
 
 use crate::args::{channel_of, timer_text};
 use crate::askers::caller_address;
@@ -15,7 +16,7 @@ use crate::rights::{is_join, is_op_of, is_timer};
 use bytetext::{NoMemory, Text, after_word, first_word};
 use chanstate::Member;
 use outqueue::Queue;
-use procs::{Action, Actions, Call, TimerWish, View};
+use procs::{Action, Actions, Call, PutWish, TimerWish, View};
 use std::alloc::Global;
 
 /// The last turn at which a bot looks whether something is still to be done.
@@ -72,7 +73,29 @@ fn look_text(alloc: Global, address: &[u8], line: &[u8]) -> Result<Text, NoMemor
     Ok(Text::new(text))
 }
 
-// The look of the bot that has this many before it, if `later` reads this line in its text.
+// A look after so many seconds, if `later` reads this line in its text.
+pub(crate) fn look_after(
+    alloc: Global,
+    seconds: u32,
+    line: &[u8],
+    address: &[u8],
+) -> Result<Option<Action>, NoMemory>
+    ensures { IfOk result (λ look. look ≡ look_after seconds line.now address.now) }
+{
+    let text = look_text(alloc, address, line)?;
+    if after_word(text.as_bytes()) != line {
+        return Ok(None);
+    }
+    let proc = Text::from_slice(alloc, b"later")?;
+    Ok(Some(Action::Utimer(TimerWish {
+        interval: seconds,
+        count: 1,
+        proc,
+        text,
+    })))
+}
+
+// The look of the bot that has this many before it.
 fn look_of(
     alloc: Global,
     turn: u32,
@@ -82,17 +105,34 @@ fn look_of(
     requires { turn ≤ MAX_TURN }
     ensures { IfOk result (λ look. look ≡ look_of turn line.now address.now) }
 {
-    let text = look_text(alloc, address, line)?;
-    if after_word(text.as_bytes()) != line {
-        return Ok(None);
+    look_after(alloc, turn * LOOK_SECONDS, line, address)
+}
+
+// The look of that bot, if there is an address.
+pub(crate) fn look_if(
+    alloc: Global,
+    turn: u32,
+    line: &[u8],
+    address: Option<Text>,
+) -> Result<Option<Action>, NoMemory>
+    requires { turn ≤ MAX_TURN }
+    ensures { IfOk result (λ look. look ≡ look_if turn line.now address) }
+{
+    match address {
+        Some(address) => look_of(alloc, turn, line, address.as_bytes()),
+        None => Ok(None),
     }
-    let proc = Text::from_slice(alloc, b"later")?;
-    Ok(Some(Action::Utimer(TimerWish {
-        interval: turn * LOOK_SECONDS,
-        count: 1,
-        proc,
-        text,
-    })))
+}
+
+// A line at once, if there is no look in its place.
+pub(crate) fn or_at_once(line: Text, look: Option<Action>) -> Action
+    ensures { result ≡ or_at_once line look }
+{
+    let queue = Queue::Mode;
+    match look {
+        Some(look) => look,
+        None => Action::Put(PutWish { queue, line }),
+    }
 }
 
 // The address that belongs to a nick: of the caller who joins, or of the member of this nick.
@@ -124,10 +164,8 @@ fn look_at(
     requires { turn ≤ MAX_TURN }
     ensures { IfOk result (λ look. look ≡ look_at turn call.now view.now line.now) }
 {
-    match address_now(alloc, call, view, target_in(line))? {
-        Some(address) => look_of(alloc, turn, line, address.as_bytes()),
-        None => Ok(None),
-    }
+    let address = address_now(alloc, call, view, target_in(line))?;
+    look_if(alloc, turn, line, address)
 }
 
 // The look for an action: only for a line to the server.

@@ -4,25 +4,27 @@ ghost use Rattle.std.specs.List.{filter_map};
 ghost use Rattle.std.specs.Option.{option_copied};
 ghost use Rattle.procs.specs.declared.limits.TheConstants.{MAX_ACTIONS};
 ghost use Rattle.eggprocs.specs.Needs.{lacks_op_on, needs_op_on, later_need, is_for_later, is_need, need_on, all_needs, needs_now, asked_by_needop};
-ghost use Rattle.eggprocs.specs.Needs.{is_bot_text, needed_on, needed_by, is_known_bot, may_give, op_for, asked_by_giveop};
+ghost use Rattle.eggprocs.specs.Needs.{is_bot_text, needed_on, needed_by, is_known_bot, may_give, op_later, op_for, asked_by_giveop};
 
 use crate::args::{arg_at, channel_of, timer_text};
-use crate::channel::one_line;
 use crate::cycling::lacks_op;
 use crate::ends::{call_on, is_minute};
-use crate::everyone::{flags_of_member, is_own_join, push_if_room};
+use crate::everyone::{address_of, flags_of_member, is_own_join, push_if_room};
 use crate::keeping::names_bot;
 use crate::lines::mode;
+use crate::looks::{look_after, or_at_once};
 use crate::rights::{has_bot, has_op, is_change, is_op_of, is_timer};
 use bytetext::{NoMemory, Text, after_word, first_word};
 use chanstate::Member;
-use outqueue::Queue;
 use procs::{Action, Actions, BotWish, Call, CallKind, TimerWish, View};
 use std::alloc::Global;
 use userfile::PersonFlags;
 
 /// How many seconds after its own join, or after somebody took its op, a bot asks for op, if it has none by then.
 pub const ASK_SECONDS: u32 = 10;
+
+/// How many seconds after a text that asks for op a bot gives it, so that it gives it once if several texts ask.
+pub const GIVE_SECONDS: u32 = 1;
 
 // What `needop` requests: a text to the hub if the bot has no op on a channel.
 pub(crate) fn asked_by_needop(
@@ -209,6 +211,15 @@ fn op_for(
     if !is_known_bot(&flags) {
         return Ok(Actions::empty(alloc));
     }
+    Actions::one(alloc, op_later(alloc, channel, member)?)
+}
+
+// Op for a member, by a look a second later.
+fn op_later(alloc: Global, channel: &[u8], member: &Member) -> Result<Action, NoMemory>
+    ensures { IfOk result (λ action. action ≡ op_later channel.now member.now) }
+{
+    let address = address_of(alloc, member)?;
     let line = mode(alloc, channel, b"+o", member.nick.as_bytes())?;
-    one_line(alloc, Queue::Mode, line)
+    let look = look_after(alloc, GIVE_SECONDS, line.as_bytes(), address.as_bytes())?;
+    Ok(or_at_once(line, look))
 }

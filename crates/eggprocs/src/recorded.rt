@@ -1,23 +1,29 @@
 // The proc that keeps the bans of the records on the channels.
-ghost use Rattle.std.specs.Prelude.{◌≡◌, IfOk, Some};
+ghost use Rattle.std.specs.Prelude.{◌≡◌, find, IfOk, Some};
+ghost use Rattle.std.specs.Option.{option_copied, option_map};
 ghost use Rattle.eggprocs.specs.Askers.{caller_address};
-ghost use Rattle.std.specs.Option.{option_copied};
-ghost use Rattle.eggprocs.specs.Recorded.{second_of, ban_line, is_newcomer, ban_on, kick_line, kept_off, ban_back, set_again};
+ghost use Rattle.eggprocs.specs.Everyone.{address_of};
+ghost use Rattle.eggprocs.specs.Recorded.{second_of, ban_text, ban_line, is_newcomer, ban_on, kick_line, is_beside, ban_or_look, kept_off};
+ghost use Rattle.eggprocs.specs.Recorded.{ban_back, set_again};
 ghost use Rattle.eggprocs.specs.Recorded.{asked_for_join, asked_for_removal, asked_by_keepbans};
 
 use crate::args::{channel_of, mode_argument, nick_of, or_else};
 use crate::askers::caller_address;
+use crate::cycling::is_self_or;
 use crate::duties::Duty;
-use crate::everyone::push_if_room;
-use crate::keeping::{is_by_bot, is_change_by_others};
+use crate::everyone::address_of;
+use crate::keeping::{is_by_bot, is_change_by_others, is_hit};
 use crate::lines::{kick, mode};
+use crate::looks::{look_if, or_at_once};
+use crate::pairs::two;
 use crate::rights::{is_bot_op, is_join};
 use crate::turns::share_out;
 use bytetext::{NoMemory, Text};
+use chanstate::Member;
 use outqueue::Queue;
 use procs::{Action, Actions, Call, PutWish, View};
 use std::alloc::Global;
-use userfile::Ban;
+use userfile::{Ban, Hostmask};
 
 // What `keepbans` requests: that a ban of the records is kept on a channel.
 pub(crate) fn asked_by_keepbans(
@@ -43,7 +49,7 @@ fn asked_for_join(alloc: Global, call: &Call, view: &View<'_>) -> Result<Actions
     }
     let who = caller_address(alloc, call)?;
     match ban_on(call, view, &who) {
-        Some(ban) => kept_off(alloc, call, ban),
+        Some(ban) => kept_off(alloc, call, view, ban),
         None => Ok(Actions::empty(alloc)),
     }
 }
@@ -106,14 +112,61 @@ fn ban_back<'a>(call: &Call, view: &'a View<'_>) -> Option<&'a Ban>
     )
 }
 
-// The ban on the channel, and a kick of the caller.
-fn kept_off(alloc: Global, call: &Call, ban: &Ban) -> Result<Actions, NoMemory>
-    ensures { IfOk result (λ actions. actions ≡ kept_off call.now (Some ban.now)) }
+// The ban on the channel, or a look whether it is wanted, and a kick of the caller.
+fn kept_off(
+    alloc: Global,
+    call: &Call,
+    view: &View<'_>,
+    ban: &Ban,
+) -> Result<Actions, NoMemory>
+    ensures { IfOk result (λ actions. actions ≡ kept_off call.now view.now (Some ban.now)) }
 {
-    let mut actions = set_again(alloc, call, ban)?;
-    let line = kick_line(alloc, call, ban)?;
-    push_if_room(&mut actions, Some(line))?;
-    Ok(actions)
+    let bans = ban_or_look(alloc, call, view, ban)?;
+    let kicks = kick_line(alloc, call, ban)?;
+    two(alloc, bans, kicks)
+}
+
+// The ban on the channel, at once or, beside another member whom it keeps off, by a look at the first such member.
+fn ban_or_look(alloc: Global, call: &Call, view: &View<'_>, ban: &Ban) -> Result<Action, NoMemory>
+    ensures { IfOk result (λ action. action ≡ ban_or_look call.now view.now ban.now) }
+{
+    let members = view.channels().members(alloc, channel_of(call))?;
+    let address = address_beside(alloc, &ban.mask, call, view, members.as_slice())?;
+    let line = ban_text(alloc, call, ban)?;
+    let look = look_if(alloc, 1, line.as_bytes(), address)?;
+    Ok(or_at_once(line, look))
+}
+
+// The address of the first of these members whom a mask matches, other than the bot and the caller.
+fn address_beside(
+    alloc: Global,
+    mask: &Hostmask,
+    call: &Call,
+    view: &View<'_>,
+    members: &[Member],
+) -> Result<Option<Text>, NoMemory>
+    ensures { IfOk result (λ address. address ≡ option_map address_of (find (is_beside mask.now call.now view.now) members.now)) }
+{
+    for member in members {
+        if is_beside(alloc, mask, call, view, member)? {
+            return Ok(Some(address_of(alloc, member)?));
+        }
+    }
+    Ok(None)
+}
+
+// Whether a mask matches a member other than the bot and the caller.
+fn is_beside(
+    alloc: Global,
+    mask: &Hostmask,
+    call: &Call,
+    view: &View<'_>,
+    member: &Member,
+) -> Result<bool, NoMemory>
+    ensures { IfOk result (λ beside. beside ≡ is_beside mask.now call.now view.now member.now) }
+{
+    let hit = is_hit(alloc, mask, view, member)?;
+    Ok(hit && !is_self_or(nick_of(call), view, member))
 }
 
 // The ban on the channel alone.
@@ -128,9 +181,16 @@ fn set_again(alloc: Global, call: &Call, ban: &Ban) -> Result<Actions, NoMemory>
 fn ban_line(alloc: Global, call: &Call, ban: &Ban) -> Result<Action, NoMemory>
     ensures { IfOk result (λ action. action ≡ ban_line call.now ban.now) }
 {
-    let line = mode(alloc, channel_of(call), b"+b", ban.mask.as_bytes())?;
+    let line = ban_text(alloc, call, ban)?;
     let queue = Queue::Mode;
     Ok(Action::Put(PutWish { queue, line }))
+}
+
+// The text of that line.
+fn ban_text(alloc: Global, call: &Call, ban: &Ban) -> Result<Text, NoMemory>
+    ensures { IfOk result (λ line. line ≡ ban_text call.now ban.now) }
+{
+    mode(alloc, channel_of(call), b"+b", ban.mask.as_bytes())
 }
 
 // The line that kicks the caller, for the ban's comment.
