@@ -67,7 +67,8 @@ def modes(side):
 
 
 def clones(side):
-    """Strangers under a recorded ban join: who gets in is kicked. How many seconds each of these takes stands in TOOK."""
+    """Strangers under a recorded ban join: who gets in is kicked. How many seconds each of these takes stands in TOOK, where most
+    get in: if the ban is there before them, what counts is mostly the time in which they try."""
     them = [Guest(side.server, f"clone{number}{side.end}") for number in range(CLONES)]
 
     def join():
@@ -83,7 +84,8 @@ def clones(side):
         took = side.tried(f"{CLONES} clones join", join, wanted, 60, by_each=True)
         got_in = len(wanted(before)) - 1
         side.say(f"{got_in} clones got in")
-        TOOK[side.server.name, side.name] = took and took / max(got_in, 1)
+        if took is None or got_in > CLONES / 2:
+            TOOK[side.server.name, side.name] = took and took / got_in
     finally:
         end_all(*them)
 
@@ -193,8 +195,9 @@ def main(words):
         for it in threads:
             it.join()
         for it in servers:
-            ours, theirs = (TOOK.get((it.name, side)) for side in ("ours", "Eggdrop"))
-            if theirs:
+            names = [(it.name, side) for side in ("ours", "Eggdrop")]
+            ours, theirs = map(TOOK.get, names)
+            if theirs and names[0] in TOOK:
                 shown = " and ".join("never" if took is None else f"{took:.2f} s" for took in (ours, theirs))
                 tally.note(f"{it.name}: the clones are out as fast as Eggdrop's", bool(ours) and ours <= theirs * SLOWER, f"{shown} for each")
         end_all(*servers)

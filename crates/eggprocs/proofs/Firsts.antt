@@ -1,5 +1,5 @@
 -- The first of some members by their nicks.
-use Rattle.std.proofs.Common.{◌≡◌, ◌∙◌, ◌<◌, ◌&&◌, ◌==◌, ◌∷◌, not, ℕ, zero, suc, List, Bool, true, false, refl, ap, sym, arith, Option, Some, None, Ordering, Less, Equal, Greater}
+use Rattle.std.proofs.Common.{◌≡◌, ◌∙◌, ◌<◌, ◌&&◌, not, ℕ, zero, suc, List, Bool, true, false, refl, ap, sym, arith, Ordering, Less, Equal, Greater}
 use Rattle.std.specs.List.{list_any, count_by}
 use Rattle.std.specs.Cmp.{tied_itself}
 use Rattle.std.specs.Cmp.Lexicographic.{slice_cmp, nat_list_cmp_total, bytes_decides}

@@ -1,5 +1,5 @@
 -- What the procs request that keep a channel, and when they request nothing.
-use Rattle.std.proofs.Common.{◌≡◌, ◌∙◌, ◌&&◌, ◌||◌, ◌==◌, ◌∷◌, not, ℕ, List, [], take, Bool, true, false, refl, ap, sym, codes, if◌then◌else◌, Option, Some, None}
+use Rattle.std.proofs.Common.{◌≡◌, ◌∙◌, ◌&&◌, ◌||◌, ◌∷◌, not, ℕ, List, [], take, Bool, true, false, refl, ap, sym, codes, if◌then◌else◌, Option, Some, None}
 use Rattle.std.proofs.lemmas.List.Elements.{All-take}
 use Rattle.std.proofs.lemmas.List.Sums.{AllPass-from_list_all, list_all-from_AllPass}
 use Rattle.std.proofs.lemmas.Slice.Eq.{bytes_eq-Decides}
@@ -16,7 +16,7 @@ use Rattle.procs.specs.Seen.{Seen}
 use Rattle.eggprocs.specs.declared.rights.TheConstants.{FRIEND}
 use Rattle.eggprocs.specs.declared.proc_name.ProcName.TheVariants as which
 use Rattle.eggprocs.specs.Everyone.{flags_of_member}
-use Rattle.eggprocs.specs.Args.{nick_of, channel_of, mode_argument}
+use Rattle.eggprocs.specs.Args.{channel_of, mode_argument}
 use Rattle.eggprocs.specs.Channel.{put}
 use Rattle.eggprocs.specs.Keeping.{is_change_here, is_by_bot, is_by_server, is_by_trusted, is_change_by_others, is_change_by_untrusted}
 use Rattle.eggprocs.specs.Keeping.{mode_back, flags_named, names_bot, names_caller, takes_op, gives_op, op_again, op_undone}

@@ -44,13 +44,13 @@ use Rattle.eggprocs.specs.Laws.{AsksAbout, IsEventBy, person_behind, user_behind
 use Rattle.eggprocs.specs.Lines.{privmsg}
 use Rattle.eggprocs.specs.Marks.{stick, unstick, left_out, told_ban, told_bans, asked_by_bans}
 use Rattle.eggprocs.specs.Outcomes.{mask_added}
-use Rattle.eggprocs.specs.People.{told, warned, asked_unless, asked_for, asked_by_command, plus_user, minus_user, plus_host, minus_host, chattr, asked_by_whois}
-use Rattle.eggprocs.specs.People.{for_masters, has_host, account_by, is_by_account, handle_seen, member_shown, means_of, strange_account, recognized_if}
-use Rattle.eggprocs.specs.People.{identified, identified_if, described_if, name_asked}
+use Rattle.eggprocs.specs.People.{told, warned, asked_unless, asked_for, asked_by_command, plus_user, minus_user, plus_host, minus_host, chattr}
+use Rattle.eggprocs.specs.People.{for_masters}
 use Rattle.eggprocs.specs.Procs.{name_of, duty_of, wanted_by, actions_by, actions_if, ours}
 use Rattle.eggprocs.specs.Rights.{has_flag, has_op, flags_by, is_bot_op, is_from_op, is_from_voice, is_join, is_pub, is_msg, global_by, is_master, standing_if, standing_of}
 use Rattle.eggprocs.specs.Whereabouts.{sought, shared, known_text, whereabouts_if}
 use Rattle.eggprocs.specs.Turns.{share_out}
+use Rattle.eggprocs.specs.Whois.{asked_by_whois, has_host, account_by, is_by_account, handle_seen, member_shown, means_of, strange_account, recognized_if, identified, identified_if, described_if, name_asked}
 use Rattle.eggprocs.proofs.Names.{which_named-name_of}
 use Rattle.eggprocs.proofs.TurnLemmas.{KeepsLooks, share-none, share-only}
 

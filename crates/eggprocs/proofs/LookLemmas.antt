@@ -35,7 +35,7 @@ use Rattle.eggprocs.specs.Procs.{duty_of, wanted_by, ours, name_of}
 use Rattle.eggprocs.specs.Rights.{is_timer, is_op_of}
 use Rattle.eggprocs.specs.TurnLaws.{is_wait, OneActs, ActsAtOnce, is_look_after, OnlyLooks, LeavesItToTheFirst}
 use Rattle.eggprocs.specs.TurnLaws.{WantsTheBanned, WantsSomebody, WantsTheSamePerson, WantsItUndone, WantsOp, is_own_line}
-use Rattle.eggprocs.specs.Turns.{takes_turns, turn_of, has_look, by_turn, share_out, is_each, is_heard_by_all, needs_op}
+use Rattle.eggprocs.specs.Turns.{takes_turns, turn_of, has_look, by_turn, is_each, is_heard_by_all, needs_op}
 use Rattle.eggprocs.proofs.RankLemmas.{ranks-differ}
 use Rattle.eggprocs.proofs.LawLemmas.{actions-kept, alone-kept, does-nothing}
 use Rattle.eggprocs.proofs.Lists.{all-of}

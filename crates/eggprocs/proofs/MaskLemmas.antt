@@ -12,7 +12,7 @@ use Rattle.userfile.specs.declared.user.User.{User}
 use Rattle.userfile.specs.Hostmasks.{is_match, literals}
 use Rattle.userfile.specs.Persons.{Claim, claim, claims_of, claims, is_most, decider}
 use Rattle.eggprocs.specs.Laws.{NamesTheDecider}
-use Rattle.eggprocs.specs.People.{is_under, has_most, deciding_mask}
+use Rattle.eggprocs.specs.Whois.{is_under, has_most, deciding_mask}
 use Rattle.eggprocs.proofs.Lists.{all-of}
 
 -- ---- numbers

@@ -1,14 +1,13 @@
 -- The ranks of hands: two that see the same differ, one is first, and strangers count for nothing.
-use Rattle.std.proofs.Common.{◌≡◌, ◌∙◌, ◌<◌, ◌&&◌, ◌||◌, ◌==◌, ◌∷◌, ◌++◌, not, ℕ, zero, suc, List, Bool, true, false, cond, refl, ap, sym, arith, if◌then◌else◌, Option, Some, None, Ordering, Less, Equal, Greater}
+use Rattle.std.proofs.Common.{◌≡◌, ◌∙◌, ◌<◌, ◌&&◌, ◌||◌, ◌==◌, ◌∷◌, ◌++◌, not, ℕ, List, Bool, true, false, cond, refl, ap, sym, arith, if◌then◌else◌, Option, Some, None, Ordering, Less, Equal, Greater}
 use Rattle.std.specs.Prelude.{find}
 use Rattle.std.specs.List.{list_any, count_by}
-use Rattle.std.specs.Cmp.{tied_itself}
 use Rattle.std.specs.Cmp.Lexicographic.{slice_cmp, nat_list_cmp_total, nat_list_eq_equiv, texts_ties, bytes_decides}
 use Rattle.std.specs.Ordering.{nat_cmp, is_lt, is_eq, ordering_reverse}
 use Rattle.std.proofs.lemmas.Bool.{and_from, and_parts, and_right}
 use Rattle.std.proofs.lemmas.List.Sorted.{sum_by-IsPermutation, IsPermutation-sym}
 use Rattle.rfccase.specs.declared.casemappings.Casemapping.{Casemapping}
-use Rattle.rfccase.specs.Casemapping.{folded_by, is_same_by, IsSameBy}
+use Rattle.rfccase.specs.Casemapping.{folded_by, IsSameBy}
 use Rattle.flagexpr.specs.Letters.{has_letter}
 use Rattle.userfile.specs.Records.{Records}
 use Rattle.userfile.specs.Persons.{flags_of}

@@ -36,11 +36,12 @@ use Rattle.eggprocs.specs.Everyone.{is_own_join, address_of, flags_of_member}
 use Rattle.eggprocs.specs.Infos.{info_by}
 use Rattle.eggprocs.specs.Keeping.{is_by_bot, is_by_server, is_by_trusted, flags_named, is_hit, is_self}
 use Rattle.eggprocs.specs.Lines.{mode, kick}
-use Rattle.eggprocs.specs.People.{told, for_masters, has_host, name_asked, member_called, account_by, is_by_account, member_shown, means_of, deciding_mask, strange_account}
+use Rattle.eggprocs.specs.People.{told, for_masters}
 use Rattle.eggprocs.specs.Procs.{ours}
 use Rattle.eggprocs.specs.Rights.{flags_by, has_flag, has_bot, global_by, is_bot_op, standing_of}
 use Rattle.eggprocs.specs.Turns.{turn_of}
 use Rattle.eggprocs.specs.Whereabouts.{shared}
+use Rattle.eggprocs.specs.Whois.{has_host, name_asked, member_called, account_by, is_by_account, member_shown, means_of, deciding_mask, strange_account}
 
 -- whether a person has one of these flags, everywhere or on the channel
 abbrev pub has_one_of : List ℕ → PersonFlags → Bool

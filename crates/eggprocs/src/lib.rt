@@ -301,6 +301,7 @@ mod rights;
 mod turn_laws;
 mod turns;
 mod whereabouts;
+mod whois;
 
 pub use crate::bans::UTIMER_MINUTES;
 pub use crate::body::EggProc;

@@ -113,12 +113,7 @@ fn ban_back<'a>(call: &Call, view: &'a View<'_>) -> Option<&'a Ban>
 }
 
 // The ban on the channel, or a look whether it is wanted, and a kick of the caller.
-fn kept_off(
-    alloc: Global,
-    call: &Call,
-    view: &View<'_>,
-    ban: &Ban,
-) -> Result<Actions, NoMemory>
+fn kept_off(alloc: Global, call: &Call, view: &View<'_>, ban: &Ban) -> Result<Actions, NoMemory>
     ensures { IfOk result (λ actions. actions ≡ kept_off call.now view.now (Some ban.now)) }
 {
     let bans = ban_or_look(alloc, call, view, ban)?;

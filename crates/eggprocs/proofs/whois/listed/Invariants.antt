@@ -1,7 +1,7 @@
 use Rattle.std.proofs.Common.{◌≡◌, take}
 use Rattle.std.specs.List.{flat_map}
-use Rattle.eggprocs.specs.People.{spaced}
-use Rattle.eggprocs.proofs.people.listed.Given as goal
+use Rattle.eggprocs.specs.Whois.{spaced}
+use Rattle.eggprocs.proofs.whois.listed.Given as goal
 
 -- the masks so far
 abbrev pub invariant-loop-mask : goal.invariant-loop-mask

@@ -4,9 +4,9 @@ use Rattle.rfccase.specs.declared.casemappings.Casemapping.{Casemapping}
 use Rattle.userfile.specs.Records.{Records}
 use Rattle.chanstate.specs.Views.{mapping_of}
 use Rattle.procs.specs.Identity.{claim_by, is_known_account}
-use Rattle.eggprocs.specs.People.{account_by}
+use Rattle.eggprocs.specs.Whois.{account_by}
 use Rattle.eggprocs.proofs.WhoisLemmas.{by-account}
-use Rattle.eggprocs.proofs.people.is_by_account.Goals as goal
+use Rattle.eggprocs.proofs.whois.is_by_account.Goals as goal
 
 pub returns : goal.returns
 returns c =
