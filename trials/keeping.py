@@ -200,6 +200,8 @@ def main(words):
             if theirs and names[0] in TOOK:
                 shown = " and ".join("never" if took is None else f"{took:.2f} s" for took in (ours, theirs))
                 tally.note(f"{it.name}: the clones are out as fast as Eggdrop's", bool(ours) and ours <= theirs * SLOWER, f"{shown} for each")
+            elif shutil.which("eggdrop"):
+                tally.say(f"{it.name}: the kicks don't compare: too few clones got in, or Eggdrop left some there")
         end_all(*servers)
     return tally.end()
 

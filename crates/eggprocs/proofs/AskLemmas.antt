@@ -1,30 +1,23 @@
 -- Each change that a proc requests: in whose name it is, and whether the caller has the right to it.
-use Rattle.std.proofs.Common.{◌≡◌, ◌∙◌, ◌||◌, ◌&&◌, ◌==◌, ◌*◌, ◌∷◌, ◌++◌, not, inl, inr, ℕ, zero, suc, List, [], length, take, Bool, true, false, refl, ap, sym, subst, codes, if◌then◌else◌, Option, Some, None}
+use Rattle.std.proofs.Common.{◌≡◌, ◌∙◌, ◌||◌, ◌&&◌, ◌==◌, ◌*◌, ◌∷◌, not, ℕ, zero, suc, List, [], length, take, Bool, true, false, refl, ap, sym, subst, codes, if◌then◌else◌, Option, Some, None}
 use Rattle.std.specs.Prelude.{nat_le}
-use Rattle.std.specs.List.{list_any, filter_map, flat_map, cons_option}
-use Rattle.std.specs.Option.{option_map, option_to_list}
+use Rattle.std.specs.List.{list_any, filter_map, cons_option}
 use Rattle.std.proofs.lemmas.Bool.{and_parts, or_parts, or_from}
-use Rattle.bytetext.specs.Words.{after_word, first_word}
+use Rattle.bytetext.specs.Words.{after_word}
 use Rattle.flagexpr.specs.Letters.{has_letter}
 use Rattle.loosemask.specs.declared.looseness.Looseness.{Looseness}
 use Rattle.loosemask.specs.Loose.{looseness_of}
 use Rattle.userfile.specs.Apply.{refusal}
-use Rattle.userfile.specs.Changes.{by_nobody}
-use Rattle.userfile.specs.Held.{has_user, user_of}
+use Rattle.userfile.specs.Held.{has_user}
 use Rattle.userfile.specs.Rights.{operates, is_op}
 use Rattle.userfile.specs.Shapes.{is_hostmask}
-use Rattle.userfile.specs.declared.ban.Ban.{Ban}
 use Rattle.userfile.specs.declared.change.Change.{Change}
 use Rattle.userfile.specs.declared.edit.Edit.{Edit}
-use Rattle.userfile.specs.declared.edit.Edit.TheVariants.{AddUser, DelBan}
 use Rattle.userfile.specs.declared.error.ChangeFault.{ChangeFault}
 use Rattle.userfile.specs.declared.flags.PersonFlags.{PersonFlags}
-use Rattle.chanstate.specs.declared.member.Member.{Member}
 use Rattle.chanstate.specs.Views.{mapping_of}
 use Rattle.userfile.specs.Persons.{user_for}
 use Rattle.eggprocs.specs.Ends.{holds_ended}
-use Rattle.outqueue.specs.declared.queue.Queue.{Queue}
-use Rattle.outqueue.specs.declared.queue.Queue.TheVariants.{Help, Mode as mode_queue, Server}
 use Rattle.procs.specs.declared.action.Action.{Action}
 use Rattle.procs.specs.declared.action.Action.TheVariants.{Ask, Timer, Utimer, KillTimer, SendBot, Put}
 use Rattle.procs.specs.declared.call.Call.{Call}
@@ -32,7 +25,6 @@ use Rattle.procs.specs.declared.limits.TheConstants.{MAX_ACTIONS}
 use Rattle.procs.specs.Seen.{Seen}
 use Rattle.eggprocs.specs.declared.bans.TheConstants.{UTIMER_MINUTES}
 use Rattle.eggprocs.specs.declared.duties.Duty.{Duty}
-use Rattle.eggprocs.specs.declared.duties.Duty.TheVariants.{Each, FirstOp}
 use Rattle.eggprocs.specs.declared.looks.TheConstants.{LOOK_SECONDS}
 use Rattle.eggprocs.specs.declared.orders.Order.{Order}
 use Rattle.eggprocs.specs.declared.orders.Order.TheVariants as order
@@ -43,7 +35,7 @@ use Rattle.eggprocs.specs.declared.proc_name.ProcName.{ProcName}
 use Rattle.eggprocs.specs.declared.proc_name.ProcName.TheVariants as which
 use Rattle.eggprocs.specs.Args.{handle_of, channel_of, said_of, told_of, or_else}
 use Rattle.eggprocs.specs.Askers.{caller_claim, in_callers_name}
-use Rattle.eggprocs.specs.Bans.{mask_of, minutes_in, ban_of, deletion, delete_first, ask_of, lift_wish, lift_of, and_then, mode_of, asked_by_ban, asked_by_unban}
+use Rattle.eggprocs.specs.Bans.{mask_of, minutes_in, ban_of, deletion, delete_first, ask_of, lift_wish, lift_of, and_then, mode_of}
 use Rattle.eggprocs.specs.Infos.{info_by, set_by, asked_by_known}
 use Rattle.eggprocs.specs.Laws.{is_ask, EachAsk, AsksOnly, IsInCallersName, IsTaken, IsAllowed, KnowsCaller}
 use Rattle.eggprocs.specs.Looks.{look_for}

@@ -1,6 +1,5 @@
 -- What the procs request that keep a channel by themselves, and when they request nothing.
 use Rattle.std.proofs.Common.{◌≡◌, ◌∙◌, ◌&&◌, ◌||◌, ◌∷◌, not, ℕ, List, [], Bool, true, false, refl, ap, codes, if◌then◌else◌, Option, Some, None, ◌⊎◌, inl, inr}
-use Rattle.std.specs.Prelude.{slice_index}
 use Rattle.std.specs.List.{list_all}
 use Rattle.std.specs.Str.{bytes_eq}
 use Rattle.userfile.specs.declared.flags.PersonFlags.{PersonFlags}
@@ -22,7 +21,7 @@ use Rattle.eggprocs.specs.Dynamic.{is_sticky, later_lift, lifted_at}
 use Rattle.eggprocs.specs.Ends.{call_on}
 use Rattle.eggprocs.specs.Everyone.{is_own_nick, address_of, flags_of_member}
 use Rattle.eggprocs.specs.Keeping.{is_change_here, is_by_bot, is_change_by_untrusted}
-use Rattle.eggprocs.specs.Laws.{IsOnlyByOps, IsOnlyForOthers, LeavesTrusted, DoesOnly, has_one_of, op_letters, is_line_in_turn}
+use Rattle.eggprocs.specs.Laws.{IsOnlyByOps, IsOnlyForOthers, LeavesTrusted, DoesOnly, is_line_in_turn}
 use Rattle.eggprocs.specs.Lines.{mode, plain_mode, part, join}
 use Rattle.eggprocs.specs.Modes.{has_plain_reverse, reverse_of, plain_reverse, sets_key, undone}
 use Rattle.eggprocs.specs.Looks.{or_at_once}

@@ -1,17 +1,13 @@
 -- What `needin` and `letin` request, and when they request nothing.
-use Rattle.std.proofs.Common.{◌≡◌, ◌∙◌, ◌⊎◌, inl, inr, ◌&&◌, ◌==◌, ◌∷◌, ◌++◌, not, ℕ, List, [], length, Bool, true, false, refl, ap, sym, codes, if◌then◌else◌, Option, Some, None}
+use Rattle.std.proofs.Common.{◌≡◌, ◌∙◌, ◌⊎◌, inl, inr, ◌&&◌, ◌==◌, ◌∷◌, ◌++◌, not, ℕ, List, [], length, Bool, true, false, refl, ap, codes, if◌then◌else◌, Option, Some, None}
 use Rattle.std.specs.Prelude.{is_some}
 use Rattle.std.specs.List.{list_all}
-use Rattle.std.specs.Str.{bytes_eq}
 use Rattle.std.proofs.lemmas.Bool.{and_parts}
 use Rattle.std.proofs.lemmas.Slice.Eq.{bytes_eq-Decides}
 use Rattle.chanstate.specs.declared.member.Member.{Member}
 use Rattle.chanstate.specs.Views.{member_in}
 use Rattle.outqueue.specs.declared.queue.Queue.TheVariants.{Server}
-use Rattle.procs.specs.declared.action.Action.{Action}
 use Rattle.procs.specs.declared.call.Call.{Call}
-use Rattle.procs.specs.declared.reply.ProcReply.{ProcReply}
-use Rattle.procs.specs.Promises.{IsKept}
 use Rattle.procs.specs.Seen.{Seen}
 use Rattle.eggprocs.specs.declared.proc_name.ProcName.TheVariants as which
 use Rattle.eggprocs.specs.ChannelLaws.{IsInvitation, InvitesWhoIsNamed, is_entry_text, IsOnlyForRefusals}
@@ -21,7 +17,7 @@ use Rattle.eggprocs.specs.Entries.{refuses_join, closed_channel, is_kept_out, ne
 use Rattle.eggprocs.specs.Laws.{DoesOnly}
 use Rattle.eggprocs.specs.Lines.{invite}
 use Rattle.eggprocs.specs.Needs.{is_bot_text, needed_on, needed_by}
-use Rattle.eggprocs.specs.Procs.{ours, wanted_by}
+use Rattle.eggprocs.specs.Procs.{wanted_by}
 use Rattle.eggprocs.specs.Rights.{is_op_of}
 use Rattle.eggprocs.proofs.KeepingLemmas.{false-and, nothing-if}
 use Rattle.eggprocs.proofs.LawLemmas.{and-false, alone-kept, does-nothing}

@@ -19,16 +19,14 @@ use Rattle.procs.specs.declared.action.Action.TheVariants.{Ask, SendBot, Utimer}
 use Rattle.procs.specs.declared.action.TimerWish.{TimerWish}
 use Rattle.procs.specs.declared.call.Call.{Call}
 use Rattle.procs.specs.declared.limits.TheConstants.{MAX_ACTIONS}
-use Rattle.procs.specs.declared.reply.ProcReply.{ProcReply}
-use Rattle.procs.specs.Promises.{IsKept}
 use Rattle.procs.specs.Seen.{Seen}
 use Rattle.eggprocs.specs.declared.duties.Duty.TheVariants.{FirstOp, TurnsOp}
 use Rattle.eggprocs.specs.declared.looks.TheConstants.{LOOK_SECONDS}
 use Rattle.eggprocs.specs.declared.needs.TheConstants.{GIVE_SECONDS}
 use Rattle.eggprocs.specs.declared.proc_name.ProcName.{ProcName}
 use Rattle.eggprocs.specs.declared.proc_name.ProcName.TheVariants as which
-use Rattle.eggprocs.specs.Args.{arg_at, nick_of, channel_of, said_of, last_of, mode_change, mode_argument, timer_text, has_word, or_else}
-use Rattle.eggprocs.specs.Basics.{is_command, place_of, asked_by_tick, asked_by_tell, asked_by_echo_at}
+use Rattle.eggprocs.specs.Args.{nick_of, channel_of, said_of, last_of, mode_change, mode_argument, timer_text, has_word, or_else}
+use Rattle.eggprocs.specs.Basics.{is_command, place_of, asked_by_tick, asked_by_echo_at}
 use Rattle.eggprocs.specs.Channel.{put, target_of, change_for, asked_for_newcomer}
 use Rattle.eggprocs.specs.Ctcp.{is_request, sender_of, text_of, untagged, answer_to, answered_to, answered}
 use Rattle.eggprocs.specs.Cycling.{leaver_of, is_made_again, is_left_alone, cycled}
@@ -46,7 +44,7 @@ use Rattle.eggprocs.specs.Looks.{look_text, look_after, look_if, or_at_once, may
 use Rattle.eggprocs.specs.Modes.{plain_reverse, sets_key, undone}
 use Rattle.eggprocs.specs.Needs.{lacks_op_on, needs_op_on, later_need, is_for_later, is_need, need_on, all_needs, needs_now, needed_on, needed_by, is_known_bot, may_give, op_later, op_for}
 use Rattle.eggprocs.specs.People.{told}
-use Rattle.eggprocs.specs.Procs.{name_of, which_named, duty_of, wanted_by, actions_by, actions_if, ours}
+use Rattle.eggprocs.specs.Procs.{which_named, duty_of, wanted_by, actions_by, actions_if}
 use Rattle.eggprocs.specs.Recorded.{is_newcomer, ban_text, ban_line, ban_on, kick_line, address_beside, kept_off, asked_for_join, ban_back, set_again, asked_for_removal}
 use Rattle.eggprocs.specs.Rights.{has_op, has_bot, flags_by, is_bot_op, is_from_op, is_from_voice, is_join, is_op_of, is_timer}
 use Rattle.eggprocs.specs.Turns.{share_out}

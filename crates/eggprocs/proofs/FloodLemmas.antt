@@ -1,5 +1,5 @@
 -- What `kickfloods` requests: whom it kicks, which address it bans, and when it requests nothing.
-use Rattle.std.proofs.Common.{◌≡◌, ◌∙◌, ◌<◌, ◌&&◌, ◌||◌, ◌*◌, ◌∷◌, ◌++◌, not, ℕ, List, [], take, slice_get, Bool, true, false, refl, ap, sym, codes, if◌then◌else◌, Option, Some, None}
+use Rattle.std.proofs.Common.{◌≡◌, ◌∙◌, ◌&&◌, ◌||◌, ◌*◌, ◌∷◌, not, ℕ, List, [], take, slice_get, Bool, true, false, refl, ap, sym, codes, if◌then◌else◌, Some}
 use Rattle.std.specs.List.{list_all, list_any, filter_map, flat_map}
 use Rattle.std.proofs.lemmas.Bool.{and_from, or_right}
 use Rattle.std.proofs.lemmas.List.Elements.{All-take}
@@ -18,7 +18,7 @@ use Rattle.eggprocs.specs.declared.proc_name.ProcName.TheVariants as which
 use Rattle.eggprocs.specs.ChannelLaws.{is_flood_kick, is_flood_ban, is_flood_line, is_against_flood, LeavesOtherFloods, LooksAfterFloods, BansJoiners}
 use Rattle.eggprocs.specs.Channel.{put}
 use Rattle.eggprocs.specs.Ends.{call_on}
-use Rattle.eggprocs.specs.Floods.{is_flood, flooder_of, flood_place, flood_kind, is_nowhere, is_of_joins, is_of_nicks, is_flooder, flood_reason, flood_mask}
+use Rattle.eggprocs.specs.Floods.{is_flood, flood_place, is_nowhere, is_of_joins, is_of_nicks, is_flooder, flood_reason, flood_mask}
 use Rattle.eggprocs.specs.Floods.{flood_kick, flood_kicks, is_spared_flooder, is_banned, flood_ban, flood_lines, flood_on, floods_all, flood_nowhere, asked_by_kickfloods}
 use Rattle.eggprocs.specs.Keeping.{is_spared}
 use Rattle.eggprocs.specs.Laws.{DoesOnly, is_bot_or_known, is_line_in_turn}

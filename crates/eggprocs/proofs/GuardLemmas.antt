@@ -1,7 +1,7 @@
 -- Which bot removes a ban by `guard`: exactly one.
-use Rattle.std.proofs.Common.{◌≡◌, ◌∙◌, ◌<◌, ◌&&◌, ◌||◌, ◌==◌, ◌∷◌, not, ℕ, List, [], Bool, true, false, cond, refl, ap, sym, subst, arith, codes, if◌then◌else◌, Option, Some, None, ◌⊎◌, inl, inr, Ordering, Less, Equal, Greater}
+use Rattle.std.proofs.Common.{◌≡◌, ◌∙◌, ◌<◌, ◌&&◌, ◌||◌, ◌∷◌, not, ℕ, List, [], Bool, true, false, cond, refl, ap, sym, arith, codes, if◌then◌else◌, Option, Some, None, ◌⊎◌, inl, inr, Ordering, Less, Equal, Greater}
 use Rattle.std.specs.Prelude.{find, unwrap_or}
-use Rattle.std.specs.List.{list_any, count_by}
+use Rattle.std.specs.List.{list_any}
 use Rattle.std.specs.Cmp.Lexicographic.{slice_cmp, nat_list_cmp_total, nat_list_eq_equiv, texts_ties, bytes_decides}
 use Rattle.std.specs.Ordering.{nat_cmp, is_lt, is_eq, ordering_reverse}
 use Rattle.std.specs.Str.{bytes_eq}
@@ -24,13 +24,12 @@ use Rattle.eggprocs.specs.declared.proc_name.ProcName.TheVariants as which
 use Rattle.eggprocs.specs.Args.{nick_of, channel_of, mode_argument}
 use Rattle.eggprocs.specs.Everyone.{address_of, flags_of_member}
 use Rattle.eggprocs.specs.Guards.{is_guarded, hits_guarded, is_hit_hand, hits_hands, may_remove, may_remove_if, may_remove_itself, is_before, has_before, is_remover, removes, ban_undone}
-use Rattle.eggprocs.specs.Hands.{is_hand, is_hand_if, is_hand_itself, comes_before, is_ahead, hands_ahead, rank}
+use Rattle.eggprocs.specs.Hands.{is_hand, is_hand_if, is_hand_itself, comes_before, is_ahead, hands_ahead}
 use Rattle.eggprocs.specs.Keeping.{is_change_here, is_by_bot, is_by_trusted, is_change_by_others, mode_back, is_hit, is_self}
-use Rattle.eggprocs.specs.Laws.{DoesNothing}
-use Rattle.eggprocs.specs.Procs.{name_of, wanted_by, ours}
+use Rattle.eggprocs.specs.Procs.{wanted_by, ours}
 use Rattle.eggprocs.specs.Rights.{is_protected}
 use Rattle.eggprocs.specs.TurnLaws.{SeeTheSame, is_hit_if, hits_itself, OneRemoves, is_first_of_these, SomeoneRemoves, RemovesBansOnItself, LeavesBansToTheHit, LeavesOthersBansToTheFirst}
-use Rattle.eggprocs.proofs.Firsts.{called-before, same-is, First, first-of}
+use Rattle.eggprocs.proofs.Firsts.{called-before, same-is, first-of}
 use Rattle.eggprocs.proofs.LawLemmas.{alone-kept, does-nothing}
 use Rattle.eggprocs.proofs.Lists.{any-more, none-counted, found-among}
 use Rattle.eggprocs.proofs.RankLemmas.{hand-by, same-back, itself-among}

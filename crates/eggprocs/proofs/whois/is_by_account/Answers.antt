@@ -4,7 +4,6 @@ use Rattle.rfccase.specs.declared.casemappings.Casemapping.{Casemapping}
 use Rattle.userfile.specs.Records.{Records}
 use Rattle.chanstate.specs.Views.{mapping_of}
 use Rattle.procs.specs.Identity.{claim_by, is_known_account}
-use Rattle.eggprocs.specs.Whois.{account_by}
 use Rattle.eggprocs.proofs.WhoisLemmas.{by-account}
 use Rattle.eggprocs.proofs.whois.is_by_account.Goals as goal
 
