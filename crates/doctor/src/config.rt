@@ -27,5 +27,10 @@ fn holds_passwords(settings: &Settings) -> bool
 fn has_password(servers: &[Server]) -> bool
     ensures { result ≡ list_any has_password servers.now }
 {
-    servers.iter().any(|server| server.pass.is_some())
+    for server in servers {
+        if server.pass.is_some() {
+            return true;
+        }
+    }
+    false
 }

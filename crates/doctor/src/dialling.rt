@@ -31,7 +31,14 @@ pub(crate) fn dial_verdict<R: AllocGlobal + Net + Clock + Files<File = File> + R
     rt: &R,
     target: Target<'_>,
 ) -> Result<Verdict, NoMemory> {
-    match connect(rt, target) {
+    match Watch::new(rt, 16) {
+        Ok(mut watch) => verdict_in(connect(rt, &mut watch, target)),
+        Err(error) => verdict_in(Err(untried(&error))),
+    }
+}
+
+fn verdict_in(found: Result<Verdict, Failure<Bad>>) -> Result<Verdict, NoMemory> {
+    match found {
         Ok(verdict) => Ok(verdict),
         Err(Failure::Refused(bad)) => Ok(Verdict::Bad(bad)),
         Err(Failure::NoMemory) => Err(NoMemory),
@@ -39,16 +46,6 @@ pub(crate) fn dial_verdict<R: AllocGlobal + Net + Clock + Files<File = File> + R
 }
 
 fn connect<R: AllocGlobal + Net + Clock + Files<File = File> + RandomSource>(
-    rt: &R,
-    target: Target<'_>,
-) -> Result<Verdict, Failure<Bad>> {
-    match Watch::new(rt, 16) {
-        Ok(mut watch) => connect_by(rt, &mut watch, target),
-        Err(error) => Err(untried(&error)),
-    }
-}
-
-fn connect_by<R: AllocGlobal + Net + Clock + Files<File = File> + RandomSource>(
     rt: &R,
     watch: &mut Watch,
     target: Target<'_>,
@@ -67,9 +64,9 @@ fn begin<R: AllocGlobal + Net + Clock + Files<File = File> + RandomSource>(
     dialling: &mut Dialling,
     target: Target<'_>,
 ) -> Result<Dialled, Failure<Bad>> {
-    let end = milliseconds(rt)?.saturating_add(LIMIT);
+    let mut now = milliseconds(rt)?;
+    let end = now.saturating_add(LIMIT);
     for _ in 0..u64::MAX {
-        let now = milliseconds(rt)?;
         match dial(dialling, rt, watch.registry(), TOKENS, target, now / 1_000) {
             Ok(Some(dialled)) => return Ok(dialled),
             Ok(None) => {}
@@ -78,7 +75,7 @@ fn begin<R: AllocGlobal + Net + Clock + Files<File = File> + RandomSource>(
         if now >= end {
             break;
         }
-        rest(watch, end - now)?;
+        now = rest(rt, watch, end - now)?;
     }
     Err(Failure::Refused(Bad::Host(DialFault::Unanswered)))
 }
@@ -132,17 +129,17 @@ fn outcome_of<R: Clock>(
     watch: &mut Watch,
     socket: &mut AnySocket,
 ) -> Result<Attempt, Failure<Bad>> {
-    let end = milliseconds(rt)?.saturating_add(LIMIT);
+    let mut now = milliseconds(rt)?;
+    let end = now.saturating_add(LIMIT);
     for _ in 0..u64::MAX {
         match attempt_of(socket) {
             Attempt::Pending => {}
             ended => return Ok(ended),
         }
-        let now = milliseconds(rt)?;
         if now >= end {
             break;
         }
-        rest(watch, end - now)?;
+        now = rest(rt, watch, end - now)?;
     }
     Ok(Attempt::Pending)
 }
@@ -159,10 +156,10 @@ fn attempt_of(socket: &mut AnySocket) -> Attempt {
     }
 }
 
-// Waits for a socket, at most so many milliseconds.
-fn rest(watch: &mut Watch, most: u64) -> Result<(), Failure<Bad>> {
+// Waits for a socket, at most so many milliseconds. Returns the time after it.
+fn rest<R: Clock>(rt: &R, watch: &mut Watch, most: u64) -> Result<u64, Failure<Bad>> {
     match watch.wait(most.min(REST)) {
-        Ok(()) => Ok(()),
+        Ok(()) => milliseconds(rt),
         Err(error) => Err(untried(&error)),
     }
 }

@@ -2,7 +2,7 @@
 use thiserror::Error;
 
 /// Why an examination ends early.
-#[derive(Clone, Copy, Debug, PartialEq, Eq, Error)]
+#[derive(Clone, Copy, Debug, Error)]
 pub enum DoctorFault {
     /// Standard output can't be written.
     #[error("standard output can't be written: give one that takes the lines")]

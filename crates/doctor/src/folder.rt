@@ -18,21 +18,43 @@ pub(crate) fn look_at_folder<R: Print + Files>(
     path: &str,
     user: Option<&User>,
 ) -> bool {
-    let folder = Subject::Folder(path.as_bytes());
     let verdict = if path.len() > MAX_PATH {
         faulty(FolderFault::LongName)
     } else {
-        match fs::symlink_metadata(rt, path) {
-            Ok(found) if found.is_symlink() => faulty(FolderFault::IsLink),
-            Ok(_) => return look_inside(rt, report, path, user),
-            Err(error) => match error.kind() {
-                ErrorKind::NotFound => verdict_of_missing(rt, above(path), user),
-                _ => faulty(fault_of(&error)),
-            },
+        match entry_of(fs::symlink_metadata(rt, path)) {
+            Entry::Link => faulty(FolderFault::IsLink),
+            Entry::Folder(_) | Entry::Other => return look_inside(rt, report, path, user),
+            Entry::Missing(_) => verdict_of_missing(rt, above(path), user),
+            Entry::Unknown(fault) => faulty(fault),
         }
     };
-    report.tell(rt, folder, verdict);
+    report.tell(rt, Subject::Folder(path.as_bytes()), verdict);
     false
+}
+
+// What a path names.
+#[derive(Clone, Copy)]
+enum Entry {
+    Folder(Seen),
+    Link,
+    // A file of another kind.
+    Other,
+    // Nothing, for this reason.
+    Missing(FolderFault),
+    // The system does not say it, for this reason.
+    Unknown(FolderFault),
+}
+
+fn entry_of(found: io::Result<Metadata>) -> Entry {
+    match found {
+        Ok(found) if found.is_symlink() => Entry::Link,
+        Ok(found) if found.is_dir() => Entry::Folder(Seen::of(&found)),
+        Ok(_) => Entry::Other,
+        Err(error) => match error.kind() {
+            ErrorKind::NotFound => Entry::Missing(fault_of(&error)),
+            _ => Entry::Unknown(fault_of(&error)),
+        },
+    }
 }
 
 // Looks at what `path` names.
@@ -42,13 +64,13 @@ fn look_inside<R: Print + Files>(
     path: &str,
     user: Option<&User>,
 ) -> bool {
-    let fault = match fs::metadata(rt, path) {
-        Ok(found) if found.is_dir() => {
-            look_at_rights(rt, report, path, Seen::of(&found), user);
+    let fault = match entry_of(fs::metadata(rt, path)) {
+        Entry::Folder(seen) => {
+            look_at_rights(rt, report, path, seen, user);
             return true;
         }
-        Ok(_) => FolderFault::NotAFolder,
-        Err(error) => fault_of(&error),
+        Entry::Link | Entry::Other => FolderFault::NotAFolder,
+        Entry::Missing(fault) | Entry::Unknown(fault) => fault,
     };
     report.tell(rt, Subject::Folder(path.as_bytes()), faulty(fault));
     false
@@ -71,29 +93,24 @@ fn look_at_rights<R: Print>(
     if owner.is_none() && mode.is_none() {
         report.tell(rt, folder, Verdict::Fine(Fine::Folder));
     }
-    if let Some(verdict) = owner {
-        report.tell(rt, folder, verdict);
-    }
-    if let Some(verdict) = mode {
-        report.tell(rt, folder, verdict);
-    }
+    report.tell_some(rt, folder, owner);
+    report.tell_some(rt, folder, mode);
 }
 
 // Whether a missing folder can be made in the folder at `path`.
 fn verdict_of_missing<R: Files>(rt: &R, path: &str, user: Option<&User>) -> Verdict {
-    match fs::metadata(rt, path) {
-        Ok(found) => verdict_above(found.is_dir(), may_make_in(&found, user)),
-        Err(error) => match error.kind() {
-            ErrorKind::NotFound => faulty(FolderFault::NoParent),
-            _ => faulty(fault_of(&error)),
-        },
+    match entry_of(fs::metadata(rt, path)) {
+        Entry::Folder(seen) => verdict_above(true, may_make_in(seen, user)),
+        Entry::Link | Entry::Other => verdict_above(false, false),
+        Entry::Missing(_) => faulty(FolderFault::NoParent),
+        Entry::Unknown(fault) => faulty(fault),
     }
 }
 
-// Whether the user may make a folder in what was found; true if nobody knows the user.
-fn may_make_in(found: &Metadata, user: Option<&User>) -> bool {
+// Whether the user may make a folder in this one; true if nobody knows the user.
+fn may_make_in(folder: Seen, user: Option<&User>) -> bool {
     match user {
-        Some(user) => user.may_make_in(Seen::of(found)),
+        Some(user) => user.may_make_in(folder),
         None => true,
     }
 }

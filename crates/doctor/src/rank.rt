@@ -38,7 +38,12 @@ pub fn status_of(ranks: &[Rank]) -> u8
 fn has_bad(ranks: &[Rank]) -> bool
     ensures { result ≡ list_any is_bad ranks.now }
 {
-    ranks.iter().any(|rank| is_bad(*rank))
+    for rank in ranks {
+        if is_bad(*rank) {
+            return true;
+        }
+    }
+    false
 }
 
 fn is_bad(rank: Rank) -> bool

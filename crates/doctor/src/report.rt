@@ -72,6 +72,18 @@ impl Report {
         }
     }
 
+    // Prints the line of a finding, if there is one.
+    pub(crate) fn tell_some<R: Print>(
+        &mut self,
+        rt: &R,
+        subject: Subject<'_>,
+        finding: Option<Verdict>,
+    ) {
+        if let Some(verdict) = finding {
+            self.tell(rt, subject, verdict);
+        }
+    }
+
     // Notes that no memory is left to look at something.
     pub(crate) fn lack_memory(&mut self)
         ensures { self.new.is_whole ≡ false }

@@ -94,36 +94,34 @@ pub(crate) enum Note {
 
 impl Display for Note {
     fn fmt<W: fmt::Write>(&self, f: &mut fmt::Formatter<W>) -> fmt::Result {
-        match *self {
-            Note::OpenConfig(mode) => put(
+        f.write_str(match *self {
+            Note::OpenFolder =>
+                "lets others read the names there: take that right away, as chmod 700 does",
+            Note::Runs =>
+                "is in use by a running bot, so its journal was not read: ask the bot, as eggnet show does",
+            Note::OpenConfig(mode) => return put(
                 f,
                 "reads well, but holds passwords, and others may read it: ",
                 &mode,
             ),
-            Note::OpenFolder => f.write_str(
-                "lets others read the names there: take that right away, as chmod 700 does",
-            ),
-            Note::Runs => f.write_str(
-                "is in use by a running bot, so its journal was not read: ask the bot, as eggnet show does",
-            ),
-            Note::OldJournal(seen) => write!(
+            Note::OldJournal(seen) => return write!(
                 f,
                 "has {seen}: the next start rewrites it, so copy the folder first if an older eggnet is to read it again"
             ),
-            Note::LargeJournal(seen) => write!(
+            Note::LargeJournal(seen) => return write!(
                 f,
                 "has {seen}: have its bot rewrite it, by eggnet tell FOLDER compact"
             ),
-            Note::Files(needed) => put(
+            Note::Files(needed) => return put(
                 f,
                 "can't be read: see that ulimit -n says at least ",
                 &needed,
             ),
-            Note::NetsSecret(leaf) => write!(
+            Note::NetsSecret(leaf) => return write!(
                 f,
                 "holds the net's secret: print the key of leaf {leaf} with eggnet key, and keep only that here"
             ),
-        }
+        })
     }
 }
 

@@ -90,14 +90,28 @@ fn blanks_len(line: &[u8]) -> usize
     ensures value { result ≡ prefix_len is_blank line.now }
     ensures within { result ≤ length line.now }
 {
-    line.iter().take_while(|byte| is_blank(**byte)).count()
+    let mut len = 0;
+    for byte in line {
+        if !is_blank(*byte) {
+            break;
+        }
+        len += 1;
+    }
+    len
 }
 
 fn word_len(line: &[u8]) -> usize
     ensures value { result ≡ word_len line.now }
     ensures within { result ≤ length line.now }
 {
-    line.iter().take_while(|byte| !is_blank(**byte)).count()
+    let mut len = 0;
+    for byte in line {
+        if is_blank(*byte) {
+            break;
+        }
+        len += 1;
+    }
+    len
 }
 
 // Returns whether `byte` stands between words.

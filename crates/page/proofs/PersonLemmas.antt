@@ -1,9 +1,10 @@
 -- The user of a person's handle is the user that the person is, and one of the user's hostmasks decides it.
-use Rattle.std.proofs.Common.{◌≡◌, ◌≢◌, ◌∙◌, ◌++◌, ◌&&◌, ◌||◌, not, ℕ, Bool, true, false, true≢false, cond, List, [], ◌∷◌, map, filter, codes, refl, sym, ap, subst, Option, None, Some, nat_eq, nat_le, arith}
+use Rattle.std.proofs.Common.{◌≡◌, ◌≢◌, ◌∙◌, ◌++◌, ◌&&◌, ◌||◌, ◌≤◌, ◌<◌, ◌+◌, not, ℕ, Bool, true, false, true≢false, cond, if◌then◌else◌, List, [], ◌∷◌, length, get_or, drop, map, filter, codes, refl, sym, ap, subst, Option, None, Some, nat_eq, nat_le, nat_lt, arith}
 use Rattle.std.specs.List.{list_all, list_any}
 use Rattle.std.specs.Cmp.Lexicographic.{pointwise}
-use Rattle.std.proofs.lemmas.Bool.{and_parts}
+use Rattle.std.proofs.lemmas.Bool.{and_from, and_parts}
 use Rattle.std.proofs.lemmas.Bool.Decides.{nat_tests}
+use Rattle.std.proofs.lemmas.List.{at_drop_more}
 use Rattle.rfccase.specs.Casemapping.{folded, is_same, low}
 use Rattle.rfccase.specs.declared.casemappings.Casemapping.{Casemapping}
 use Rattle.rfccase.proofs.SameLemmas.{is_same-refl, is_same-sym}
@@ -16,7 +17,7 @@ use Rattle.userfile.specs.Together.{AreSound, is_user, repeats_handle}
 use Rattle.userfile.specs.declared.user.User.{User}
 use Rattle.userfile.proofs.RepeatLemmas.{or_false}
 use Rattle.userfile.proofs.SoundLemmas.{first_none, if_none}
-use Rattle.page.specs.Persons.{deciding_mask, exceeds}
+use Rattle.page.specs.Persons.{better_of, deciding_mask, exceeds}
 
 -- ---- a mask that decides
 
@@ -51,6 +52,73 @@ no_claims mapping who user (m ∷ ms) none = by (is_match mapping m who) (list_a
     by true true is none later = absurd (cc (none))
     by true false is none later = absurd (true≢false (sym (none_exceeds mapping (literals m) who user ms (later none)) ∙ is))
     by false most is none later = later none
+
+-- ---- the best mask so far
+
+-- what decides, of the best mask so far and of those that are left
+abbrev pub decided : Casemapping → List ℕ → Option (List ℕ) → List (List ℕ) → Option (List ℕ)
+decided mapping who None masks = deciding_mask mapping who masks
+decided mapping who (Some best) masks =
+    if list_all (exceeds mapping (literals best) who) masks then Some best else deciding_mask mapping who masks
+
+fewer_than : (a b : ℕ) → nat_lt a b ≡ true → nat_le b a ≡ false
+fewer_than a b less = grind (arith, nat_tests)
+
+at_least : (a b : ℕ) → nat_lt a b ≡ false → nat_le b a ≡ true
+at_least a b more = grind (arith, nat_tests)
+
+no_more : (a b : ℕ) → nat_lt a b ≡ false → b ≤ a
+no_more a b more = grind (arith, nat_tests)
+
+le_more : (n low high : ℕ) → low ≤ high → nat_le n low ≡ true → nat_le n high ≡ true
+le_more n low high more e = grind (arith, nat_tests)
+
+-- what no mask exceeds, none exceeds with more literals
+exceeds_more : (mapping : Casemapping) (who : List ℕ) (low high : ℕ) → low ≤ high → (masks : List (List ℕ))
+    → list_all (exceeds mapping low who) masks ≡ true → list_all (exceeds mapping high who) masks ≡ true
+exceeds_more mapping who low high more [] e = refl
+exceeds_more mapping who low high more (m ∷ ms) e = by (is_match mapping m who) e (exceeds_more mapping who low high more ms)
+  where
+    by : (b : Bool) → ((not b || nat_le (literals m) low) && list_all (exceeds mapping low who) ms) ≡ true
+        → (list_all (exceeds mapping low who) ms ≡ true → list_all (exceeds mapping high who) ms ≡ true)
+        → ((not b || nat_le (literals m) high) && list_all (exceeds mapping high who) ms) ≡ true
+    by false e later = later e
+    by true e later = and_from _ _ (le_more (literals m) low high more (and_parts _ _ e).0) (later (and_parts _ _ e).1)
+
+-- the next mask is the best one if it matches and is better
+decided_step : (mapping : Casemapping) (who : List ℕ) (best : Option (List ℕ)) (mask : List ℕ) (masks : List (List ℕ))
+    → decided mapping who best (mask ∷ masks)
+    ≡ decided mapping who (better_of mapping who best mask) masks
+decided_step mapping who None mask masks = by (is_match mapping mask who)
+  where
+    by : (b : Bool)
+        → (if b && list_all (exceeds mapping (literals mask) who) masks then Some mask else deciding_mask mapping who masks)
+        ≡ decided mapping who (if b && true then Some mask else None) masks
+    by true = refl
+    by false = refl
+decided_step mapping who (Some best) mask masks =
+    by (is_match mapping mask who) (nat_lt (literals best) (literals mask)) (list_all (exceeds mapping (literals best) who) masks) refl refl
+  where
+    by : (b less all : Bool) → nat_lt (literals best) (literals mask) ≡ less → list_all (exceeds mapping (literals best) who) masks ≡ all
+        → (if (not b || nat_le (literals mask) (literals best)) && all then Some best
+        else if b && list_all (exceeds mapping (literals mask) who) masks then Some mask else deciding_mask mapping who masks)
+        ≡ decided mapping who (if b && less then Some mask else Some best) masks
+    by false less true is e = rw e
+    by false less false is e = rw e
+    by true true all is e = rw (fewer_than (literals best) (literals mask) is)
+    by true false true is e = rw (at_least (literals best) (literals mask) is, e)
+    by true false false is e = rw (at_least (literals best) (literals mask) is, e, none (list_all (exceeds mapping (literals mask) who) masks) refl is e)
+      where
+        none : (some : Bool) → list_all (exceeds mapping (literals mask) who) masks ≡ some
+            → nat_lt (literals best) (literals mask) ≡ false → list_all (exceeds mapping (literals best) who) masks ≡ false
+            → list_all (exceeds mapping (literals mask) who) masks ≡ false
+        none true all is e = absurd (true≢false (sym (exceeds_more mapping who (literals mask) (literals best) (no_more (literals best) (literals mask) is) masks all) ∙ e))
+        none false all is e = all
+
+pub decided_next : (mapping : Casemapping) (who : List ℕ) (best : Option (List ℕ)) (masks : List (List ℕ)) (i : ℕ) (d : List ℕ) → i < length masks
+    → decided mapping who best (drop i masks) ≡ decided mapping who (better_of mapping who best (get_or masks i d)) (drop (i + 1) masks)
+decided_next mapping who best masks i d more =
+    at_drop_more (decided mapping who best) masks i d more ∙ decided_step mapping who best (get_or masks i d) (drop (i + 1) masks)
 
 -- ---- what holds of each claim's user holds of the decider
 

@@ -1,5 +1,5 @@
 -- Who a person would be, and by which hostmask.
-use Rattle.std.specs.Prelude.{◌≡◌, ℕ, Bool, ◌&&◌, ◌||◌, not, nat_le, if◌then◌else◌, List, [], ◌∷◌, Option, None, Some}
+use Rattle.std.specs.Prelude.{◌≡◌, ℕ, Bool, ◌&&◌, ◌||◌, not, nat_le, nat_lt, true, if◌then◌else◌, List, [], ◌∷◌, Option, None, Some}
 use Rattle.std.specs.List.{list_all}
 use Rattle.rfccase.specs.declared.casemappings.Casemapping.{Casemapping}
 use Rattle.userfile.specs.Hostmasks.{is_match, literals}
@@ -17,6 +17,15 @@ deciding_mask mapping who (mask ∷ masks) =
     if is_match mapping mask who && list_all (exceeds mapping (literals mask) who) masks
     then Some mask
     else deciding_mask mapping who masks
+
+-- a mask has more literals than the best one so far, if there is one
+abbrev pub has_more : List ℕ → Option (List ℕ) → Bool
+has_more mask None = true
+has_more mask (Some best) = nat_lt (literals best) (literals mask)
+
+-- the best mask so far, or this one if it matches the person and has more literals
+abbrev pub better_of : Casemapping → List ℕ → Option (List ℕ) → List ℕ → Option (List ℕ)
+better_of mapping who best mask = if is_match mapping mask who && has_more mask best then Some mask else best
 
 -- of these users, the person is this one, by this hostmask
 pub record IsKnown (mapping : Casemapping) (users : List User) (who : List ℕ) (user : User) (mask : List ℕ) : Type 0 where

@@ -81,7 +81,7 @@ fn page_of(alloc: Global, request: &PageRequest, view: &PageView<'_>) -> Result<
     ensures bound { IfOk result (λ page. length page.body.items ≤ MAX_PAGE) }
 {
     let status = request.want.status();
-    if status != PageStatus::Fine {
+    if !matches!(status, PageStatus::Fine) {
         return refused(alloc, status);
     }
     let mut sheet = Sheet::new(alloc);

@@ -19,6 +19,8 @@ pub(crate) enum Value<'a> {
     Letters(Flags),
     // Yes in green, or no in red.
     Answer(bool),
+    // By how many versions a bot is behind: none in green, or their number in red.
+    Lag(u32),
 }
 
 impl Sheet {
@@ -45,6 +47,12 @@ impl Sheet {
             Value::Letters(flags) => self.put_letters(*flags),
             Value::Answer(true) => self.put(b"<span class=\"good\">yes</span>"),
             Value::Answer(false) => self.put(b"<span class=\"bad\">no</span>"),
+            Value::Lag(0) => self.put(b"<span class=\"good\">none</span>"),
+            Value::Lag(behind) => {
+                self.put(b"<span class=\"bad\">behind by ");
+                self.put_number(u64::from(*behind));
+                self.put(b"</span>");
+            }
         }
     }
 }

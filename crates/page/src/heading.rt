@@ -3,7 +3,7 @@ ghost use Rattle.std.specs.Prelude.{◌≡◌, All, List, ℕ, map, length};
 ghost use Rattle.std.specs.Option.{option_copied};
 ghost use Rattle.httparse.specs.Spans.{IsHeaderWithin, header_bytes};
 ghost use Rattle.std.specs.Str.{str_eq_ignore_ascii_case};
-ghost use Rattle.page.specs.Requests.{is_said, lone};
+ghost use Rattle.page.specs.Requests.{lone};
 
 use httparse::spans::HeaderSpan;
 
@@ -12,33 +12,16 @@ pub(crate) fn lone<'b>(heard: &'b [u8], fields: &[HeaderSpan], name: &[u8]) -> O
     requires within { All (IsHeaderWithin (length heard.now)) fields.now }
     ensures { option_copied result ≡ lone name.now (map (header_bytes heard.now) fields.now) }
 {
-    let mut rest = fields;
-    while let [field, others @ ..] = rest {
+    let mut found = None;
+    for field in fields {
         if is_named(heard, field, name) {
-            return if is_said(heard, others, name) {
-                None
-            } else {
-                Some(field.value.of(heard))
-            };
+            if found.is_some() {
+                return None;
+            }
+            found = Some(field.value.of(heard));
         }
-        rest = others;
     }
-    None
-}
-
-// Whether there is a field of this name.
-fn is_said(heard: &[u8], fields: &[HeaderSpan], name: &[u8]) -> bool
-    requires within { All (IsHeaderWithin (length heard.now)) fields.now }
-    ensures { result ≡ is_said name.now (map (header_bytes heard.now) fields.now) }
-{
-    let mut rest = fields;
-    while let [field, others @ ..] = rest {
-        if is_named(heard, field, name) {
-            return true;
-        }
-        rest = others;
-    }
-    false
+    found
 }
 
 // Whether a field has this name.

@@ -14,7 +14,12 @@ pub fn law_of_page_texts()
 pub(crate) fn are_bare(text: &[u8]) -> bool
     ensures { result ≡ list_all is_bare text.now }
 {
-    text.iter().all(|byte| is_bare(u32::from(*byte)))
+    for byte in text {
+        if !is_bare(u32::from(*byte)) {
+            return false;
+        }
+    }
+    true
 }
 
 // Whether a character is a space to `~` that stands for itself.

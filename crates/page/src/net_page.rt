@@ -152,31 +152,18 @@ fn put_rows(sheet: &mut Sheet, rows: &[LinkView]) {
 
 fn put_row(sheet: &mut Sheet, row: LinkView) {
     sheet.put_form(
-        b"<tr><th scope=\"row\">bot $</th><td data-label=\"Version\">$</td><td data-label=\"Lag\">",
+        b"<tr><th scope=\"row\">bot $</th><td data-label=\"Version\">$</td><td data-label=\"Lag\">$</td>\
+<td data-label=\"Waiting\">$ bytes</td><td data-label=\"Linked since\">$</td><td data-label=\"Address\">",
         &[
             Value::Number(u64::from(row.number)),
             Value::Number(u64::from(row.version)),
+            Value::Lag(row.behind),
+            Value::Number(row.unsent as u64),
+            Value::Time(row.since),
         ],
-    );
-    put_lag(sheet, row.behind);
-    sheet.put_form(
-        b"</td><td data-label=\"Waiting\">$ bytes</td><td data-label=\"Linked since\">$</td><td data-label=\"Address\">",
-        &[Value::Number(row.unsent as u64), Value::Time(row.since)],
     );
     put_address(sheet, row.address);
     sheet.put(b"</td></tr>\n");
-}
-
-// By how many versions a bot is behind.
-fn put_lag(sheet: &mut Sheet, behind: u32) {
-    if behind == 0 {
-        sheet.put(b"<span class=\"good\">none</span>");
-    } else {
-        sheet.put_form(
-            b"<span class=\"bad\">behind by $</span>",
-            &[Value::Number(u64::from(behind))],
-        );
-    }
 }
 
 fn put_address(sheet: &mut Sheet, address: Option<SocketAddr>) {

@@ -1,9 +1,8 @@
 // Who a person would be, and by which hostmask.
 ghost use Rattle.std.specs.Prelude.{◌≡◌, MatchOption, None};
-ghost use Rattle.std.specs.List.{list_all};
 ghost use Rattle.std.specs.Option.{option_copied};
 ghost use Rattle.userfile.specs.Persons.{user_for};
-ghost use Rattle.page.specs.Persons.{IsKnown, deciding_mask, exceeds};
+ghost use Rattle.page.specs.Persons.{IsKnown, better_of, deciding_mask};
 
 use rfccase::Casemapping;
 use userfile::{Hostmask, User, Userfile};
@@ -36,6 +35,7 @@ pub(crate) fn person_of<'a>(
 }
 
 // Returns the first of a user's hostmasks that matches `who`, of those with most literals.
+#[tactic(auto, using(crate::proofs::PersonLemmas::decided_next))]
 fn deciding_mask<'a>(
     mapping: Casemapping,
     masks: &'a [Hostmask],
@@ -43,19 +43,27 @@ fn deciding_mask<'a>(
 ) -> Option<&'a Hostmask>
     ensures { option_copied result ≡ deciding_mask mapping who.now masks.now }
 {
-    let mut rest = masks;
-    while let [mask, others @ ..] = rest {
-        if mask.matches(mapping, who) && are_exceeded(mapping, mask.literals(), others, who) {
-            return Some(mask);
-        }
-        rest = others;
+    let mut best = None;
+    for mask in masks {
+        best = better_of(mapping, who, best, mask);
     }
-    None
+    best
 }
 
-// Whether none of the masks that match `who` has more literals.
-fn are_exceeded(mapping: Casemapping, literals: u8, masks: &[Hostmask], who: &[u8]) -> bool
-    ensures { result ≡ list_all (exceeds mapping literals who.now) masks.now }
+// Returns the best mask so far, or `mask` if it matches `who` and has more literals.
+fn better_of<'a>(
+    mapping: Casemapping,
+    who: &[u8],
+    best: Option<&'a Hostmask>,
+    mask: &'a Hostmask,
+) -> Option<&'a Hostmask>
+    ensures { option_copied result ≡ better_of mapping who.now (option_copied best.entry) mask.now }
 {
-    masks.iter().all(|mask| !mask.matches(mapping, who) || mask.literals() <= literals)
+    if !mask.matches(mapping, who) {
+        return best;
+    }
+    match best {
+        Some(found) if found.literals() >= mask.literals() => best,
+        Some(_) | None => Some(mask),
+    }
 }

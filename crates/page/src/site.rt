@@ -1,5 +1,5 @@
 // Where a page is served, and who may read it.
-ghost use Rattle.std.specs.Prelude.{◌≡◌, ◌==◌, IfOk, None, codes};
+ghost use Rattle.std.specs.Prelude.{◌≡◌, ◌==◌, IfOk, None, codes, take, drop};
 ghost use Rattle.std.specs.List.{list_any};
 ghost use Rattle.std.specs.Option.{option_copied};
 ghost use Rattle.sha2.specs.Sha256.{sha256};
@@ -17,7 +17,6 @@ use std::alloc::Global;
 /// ```text
 /// let site = PageSite::new(alloc, b"127.0.0.1", 8300)?.with_password(password);
 /// ```
-#[derive(Drop)]
 pub struct PageSite {
     /// The Host of a request to the page's address.
     pub own: Text,
@@ -25,6 +24,17 @@ pub struct PageSite {
     pub local: Text,
     /// The SHA-256 of the password, if a reader must show one.
     pub digest: Option<[u8; 32]>,
+}
+
+// By hand, so that this is proved once, and not in each function in which one ends.
+impl Drop for PageSite {
+    fn drop(self) {
+        let PageSite {
+            own: _,
+            local: _,
+            digest: _,
+        } = self;
+    }
 }
 
 impl PageSite {
@@ -46,14 +56,11 @@ impl PageSite {
     }
 
     /// Returns the same site, whose readers must show this `password`.
-    pub fn with_password(self, password: &[u8]) -> PageSite
+    pub fn with_password(mut self, password: &[u8]) -> PageSite
         ensures { result ≡ record self { digest = Some (sha256 password.now) } }
     {
-        PageSite {
-            own: self.own,
-            local: self.local,
-            digest: Some(digest_of(password)),
-        }
+        self.digest = Some(digest_of(password));
+        self
     }
 
     // Whether a request with this Host is one to this page. A page of another host, whose name somebody has made lead to
@@ -140,12 +147,20 @@ fn digest_of(password: &[u8]) -> [u8; 32]
 fn basic_token(value: &[u8]) -> Option<&[u8]>
     ensures { option_copied result ≡ basic_token value.now }
 {
-    let (scheme, token) = value.split_at(value.len().min(6));
+    let (scheme, token) = cut_at(value, 6);
     if scheme.eq_ignore_ascii_case(b"basic ") {
         Some(token)
     } else {
         None
     }
+}
+
+// Cuts bytes after the first `most`, or at their end.
+fn cut_at(bytes: &[u8], most: usize) -> (&[u8], &[u8])
+    ensures front { result.0.now ≡ take most bytes.now }
+    ensures back { result.1.now ≡ drop most bytes.now }
+{
+    bytes.split_at(bytes.len().min(most))
 }
 
 // What stands after the first colon.
@@ -166,10 +181,14 @@ fn after_colon(pair: &[u8]) -> Option<&[u8]>
 fn host_text(alloc: Global, host: &[u8]) -> Result<Vec<u8>, NoMemory>
     ensures { IfOk result (λ text. text.items ≡ host_text host.now) }
 {
-    if has_colon(host) {
-        Ok([b"[", host, b"]"].concat(alloc)?)
+    let text = if has_colon(host) {
+        [b"[", host, b"]"].concat(alloc)
     } else {
-        Ok(Vec::from_slice(alloc, host)?)
+        Vec::from_slice(alloc, host)
+    };
+    match text {
+        Ok(text) => Ok(text),
+        Err(_) => Err(NoMemory),
     }
 }
 
@@ -188,5 +207,8 @@ fn authority(alloc: Global, host: &[u8], port: u16) -> Result<Text, NoMemory>
     }
     let mut buffer = Buffer::new();
     let digits = buffer.format(port).as_bytes();
-    Ok(Text::new([host, b":", digits].concat(alloc)?))
+    match [host, b":", digits].concat(alloc) {
+        Ok(text) => Ok(Text::new(text)),
+        Err(_) => Err(NoMemory),
+    }
 }

@@ -3,7 +3,7 @@ ghost use Rattle.std.specs.Prelude.{◌≡◌, ◌≤◌, length};
 ghost use Rattle.page.specs.Statuses.{code, status_line};
 
 /// The status of an answer (RFC 9110 section 15, RFC 6585 section 5).
-#[derive(Clone, Copy, PartialEq, Eq)]
+#[derive(Clone, Copy)]
 pub enum PageStatus {
     /// 200: what was asked for.
     Fine,

@@ -28,7 +28,7 @@ pub(crate) struct Seat {
 }
 
 // How far a reader is.
-#[derive(Clone, Copy, Debug, PartialEq, Eq)]
+#[derive(Clone, Copy)]
 enum SeatState {
     // The request is not all there.
     Asks,
@@ -87,7 +87,7 @@ impl Seat {
         }
         match self.connection.read(1) {
             Ok(came) => {
-                if self.state != SeatState::Asks {
+                if !matches!(self.state, SeatState::Asks) {
                     let _dropped = self.connection.take_heard(alloc);
                 }
                 came
@@ -101,7 +101,7 @@ impl Seat {
 
     // Takes the request, if it is all there. The connection is over if no memory is left.
     pub(crate) fn take_request(&mut self, alloc: Global, site: &PageSite) -> Option<PageRequest> {
-        if self.state != SeatState::Asks || self.connection.heard.len() == self.tried {
+        if !matches!(self.state, SeatState::Asks) || self.connection.heard.len() == self.tried {
             return None;
         }
         self.tried = self.connection.heard.len();
@@ -140,7 +140,7 @@ impl Seat {
     // Returns whether a byte was taken.
     pub(crate) fn send(&mut self, steady: u64) -> bool {
         let moved = self.connection.send();
-        if self.state == SeatState::Takes && self.connection.unsent.is_empty() {
+        if matches!(self.state, SeatState::Takes) && self.connection.unsent.is_empty() {
             self.state = SeatState::Taken(steady);
         }
         if self.is_late(steady) {

@@ -139,7 +139,12 @@ impl PageServer {
     fn taken(&self) -> Option<usize>
         ensures within { IfSome result (λ place. place < vec_len self.now.seats) }
     {
-        self.seats.iter().position(|seat| seat.is_taken())
+        for (place, seat) in self.seats.iter().enumerate() {
+            if seat.is_taken() {
+                return Some(place);
+            }
+        }
+        None
     }
 
     /// Takes the request of the first reader whose request is all there. The process answers it in this turn: call

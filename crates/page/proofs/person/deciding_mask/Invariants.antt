@@ -1,10 +1,10 @@
-use Rattle.std.proofs.Common.{◌≡◌, length}
+use Rattle.std.proofs.Common.{◌≡◌, drop}
+use Rattle.std.specs.Option.{option_copied}
 use Rattle.page.specs.Persons.{deciding_mask}
+use Rattle.page.proofs.PersonLemmas.{decided}
 use Rattle.page.proofs.person.deciding_mask.Given as goal
 
--- the masks that are left decide
-abbrev pub invariant-loop-rest : goal.invariant-loop-rest
-invariant-loop-rest l = deciding_mask l.fn.mapping l.fn.who l.fn.masks ≡ deciding_mask l.fn.mapping l.fn.who l.rest
-
-abbrev pub decreases-loop-rest : goal.decreases-loop-rest
-decreases-loop-rest l = length l.rest
+-- the best mask so far and the masks that are left decide
+abbrev pub invariant-loop-mask : goal.invariant-loop-mask
+invariant-loop-mask l =
+    deciding_mask l.fn.mapping l.fn.who l.fn.masks ≡ decided l.fn.mapping l.fn.who (option_copied l.best) (drop l.mask-index l.masks)
