@@ -1,7 +1,7 @@
 // What a case of the edge of a bot as a process asks for.
 use crate::{
-    books, configurations, handshakes, lookups, records, registrations, seconds, uplinks, whois,
-    wires,
+    books, configurations, handshakes, keepbans, lookups, records, registrations, seconds, uplinks,
+    whois, wires,
 };
 use bytetext::Text;
 use caselines::{CaseError, NO_SUCH_CASE, Sink};
@@ -21,6 +21,7 @@ pub fn answer(
         b"hosts" => lookups::hosts(alloc, words, out),
         b"hub" => handshakes::hub(alloc, words, out),
         b"judge" => handshakes::judge(alloc, words, out),
+        b"keepbans" => keepbans::kept(alloc, words, out),
         b"late" => handshakes::late(words, out),
         b"leaf" => handshakes::leaf(alloc, words, out),
         b"leafkey" => books::leaf_key(words, out),

@@ -43,6 +43,7 @@
 //! | `personby MAPPING ..`, `banby MAPPING ..`, `stickyby MAPPING ..` | as `person`, `ban` and `sticky`, by the casemapping that a server names so |
 //! | `claim MAPPING ACCOUNT WHO CHANGE..` | `HANDLE by 'TEXT'` of WHO, who is logged in as ACCOUNT; TEXT is what hostmasks are matched against |
 //! | `whois HANDLE NAME CHANGE.. lines NICK LINE..` | the lines that the proc `whois` sends to a caller of this handle |
+//! | `keepbans CHANNEL NICK USER@HOST CHANGE.. lines OWN LINE..` | what the proc `keepbans` requests as NICK joins: lines, and looks as `SECONDS ADDRESS LINE` |
 //! | `chan NICK LINE.. account WHO` | `account 'NAME'`, the account of the member with the nick WHO, or `no account` |
 //! | `chan NICK LINE.. members CHANNEL` | the members in order, each as `@%+nick!user@host`, or `nobody` |
 //! | `chan NICK LINE.. topic CHANNEL` | `topic 'TEXT'` or `not held` |
@@ -172,6 +173,7 @@ mod flags;
 mod frames;
 mod handshakes;
 mod journals;
+mod keepbans;
 mod lines;
 mod lookups;
 mod masks;
