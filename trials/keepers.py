@@ -14,11 +14,11 @@ LEAVES = 4
 SOON = 10  # seconds until the bots have answered
 QUIET = 23  # seconds in which the last of five bots would look
 OPS = ("ann", "bob", "cat")
-BACK = {"-n": "+n", "+i": "-i", "+m": "-m"}  # what undoes a stranger's change
+BACK = {"-n": "+n", "+i": "-i", "+m": "-m", "+k sesame": "-k sesame"}  # what undoes a stranger's change
 
 BINDS = ["log lines", "bind pub - ban !ban", "bind join - autoop *", "bind join - greet *", "bind join - opall *",
          *[f"bind mode - {it} *" for it in ("opall", "protectops", "bitch", "guard", "enforcebans", "dynamicbans")],
-         *[f"bind mode - keepmodes #egg {it}" for it in BACK], *[f"bind {it} - cycle *" for it in ("part", "sign", "kick")],
+         *[f"bind mode - keepmodes #egg {it.split()[0]}" for it in BACK], *[f"bind {it} - cycle *" for it in ("part", "sign", "kick")],
          "bind raw - kickfloods FLOOD"]
 OF_HUB = ["bind cron - expire * * * * *", "bind bot - giveop needop"]
 OF_LEAF = ["bind join - needop *", "bind mode - needop *", "bind cron - needop */5 * * * *"]
