@@ -6,3 +6,4 @@ pub mod Renewals
 pub mod Taking
 pub mod Watched
 pub mod Trusting
+pub mod Keeper

@@ -1,8 +1,10 @@
 // Opens the bot in its folder, or creates it there, with the binds of its configuration.
-ghost use Rattle.std.specs.Prelude.{◌≡◌, IfOk};
+ghost use Rattle.std.specs.Prelude.{◌≡◌, IfOk, OnOk};
 ghost use Rattle.botfolder.specs.Folders.{AreEmpty, AreReady};
 ghost use Rattle.watching.specs.Acts.{HasNoBot, MayBegin, NumbersAbove, station_in};
 ghost use Rattle.watching.specs.Following.{HasBegun, IsWatched, Lets, StepsQuietly};
+ghost use Rattle.botcore.specs.Steps.{asked_of};
+ghost use Rattle.botrun.specs.Keeper.{HasKeeper, keeper_asked, kept_by, with_bind};
 ghost use Rattle.botrun.specs.Watched.{station_of};
 
 use crate::binding::new_bind;
@@ -108,7 +110,9 @@ fn made<R: AllocGlobal + Files<File = File>, W: Watcher>(
 // The configuration with which the bot is opened or created. The bot itself joins no channel: which those are can change
 // while it runs, so the connection to the server joins all of them.
 fn config_of(alloc: Global, settings: &Settings, leaves_bans: bool) -> Result<Config, NoMemory>
-    ensures { IfOk result (λ config. station_in config ≡ station_of settings.now) }
+    ensures station { IfOk result (λ config. station_in config ≡ station_of settings.now) }
+    ensures bans { IfOk result (λ config. config.leaves_bans ≡ leaves_bans) }
+    ensures nick { IfOk result (λ config. config.nick ≡ settings.now.nick) }
 {
     Ok(Config {
         number: settings.station.number,
@@ -131,7 +135,8 @@ pub(crate) fn bind_all<P: Promise, B: Run, W: Watcher>(
     watcher: &mut W,
 ) -> Result<(), RunError>
     requires watched { IsWatched P.promised store.now W.may (W.past watcher.old) bot.old }
-    ensures { StepsQuietly P.promised store.now W.may (W.past watcher.old) (W.past watcher.new) bot.new }
+    ensures quiet { StepsQuietly P.promised store.now W.may (W.past watcher.old) (W.past watcher.new) bot.new }
+    ensures keeper { OnOk result (HasKeeper store.now bot.new) }
 {
     bind_listed(alloc, bot, store, settings, watcher)?;
     bind_own(alloc, bot, store, watcher)
@@ -187,7 +192,8 @@ fn bind_own<P: Promise, B: Run, W: Watcher>(
     watcher: &mut W,
 ) -> Result<(), RunError>
     requires watched { IsWatched P.promised store.now W.may (W.past watcher.old) bot.old }
-    ensures { StepsQuietly P.promised store.now W.may (W.past watcher.old) (W.past watcher.new) bot.new }
+    ensures quiet { StepsQuietly P.promised store.now W.may (W.past watcher.old) (W.past watcher.new) bot.new }
+    ensures kept { OnOk result (bot.new ≡ kept_by store.now bot.old) }
 {
     if !store.holds(BAN_KEEPER) {
         return Ok(());
@@ -206,19 +212,24 @@ fn bind_keeper<P: Promise, B: Run, W: Watcher>(
     watcher: &mut W,
 ) -> Result<(), RunError>
     requires watched { IsWatched P.promised store.now W.may (W.past watcher.old) bot.old }
-    ensures { StepsQuietly P.promised store.now W.may (W.past watcher.old) (W.past watcher.new) bot.new }
+    ensures quiet { StepsQuietly P.promised store.now W.may (W.past watcher.old) (W.past watcher.new) bot.new }
+    ensures made { OnOk result (bot.new ≡ with_bind (keeper_asked kind mask.now) bot.old) }
 {
     let asked = keeper_bind(alloc, kind, mask)?;
     let bound = watched_step(alloc, bot, store, BotEvent::Bind(asked), watcher);
     match bound.end {
+        End::Done => Ok(()),
         End::Refused(Refusal::Bind(fault)) => Err(RunError::Bind { line: 0, fault }),
+        // No bind is refused so.
+        End::Refused(Refusal::Link(_) | Refusal::Clock(_)) => Err(RunError::Config),
         End::NoMemory => Err(RunError::NoMemory),
-        End::Done | End::Refused(Refusal::Link(_) | Refusal::Clock(_)) => Ok(()),
     }
 }
 
 // The bind of the proc that keeps bans, for anybody.
-fn keeper_bind(alloc: Global, kind: BindKind, mask: &[u8]) -> Result<NewBind, NoMemory> {
+fn keeper_bind(alloc: Global, kind: BindKind, mask: &[u8]) -> Result<NewBind, NoMemory>
+    ensures { IfOk result (λ asked. asked_of asked ≡ keeper_asked kind mask.now) }
+{
     Ok(NewBind {
         kind,
         flags: Text::from_slice(alloc, b"-")?,

@@ -35,8 +35,8 @@ look_back-requires g c =
     let begun = up_begun g.P.Promise.promised c.args.store.now _ g.W.Watcher.may _ _ _ _ (at_station (λ (station : Station). Allows g.P.Promise.promised c.args.store.now station g.W.Watcher.may) _ _ c.loop-life.invariant.station c.requires.allows)
     c.loop-life.invariant.lawful c.in_ok-process.ensures.begun c.in_ok-process.ensures.told in
     record {
-      watched = c.bind_all.ensures.watched;
-      settled = (up_quiet _ _ _ _ _ _ _ _ _ _ begun c.bind_all.ensures refl).even.settled;
+      watched = c.bind_all.ensures.quiet.watched;
+      settled = (up_quiet _ _ _ _ _ _ _ _ _ _ begun c.bind_all.ensures.quiet refl).even.settled;
     }
 
 pub make_turns-requires : goal.make_turns-requires
@@ -44,7 +44,7 @@ make_turns-requires g c =
     let begun = up_begun g.P.Promise.promised c.args.store.now _ g.W.Watcher.may _ _ _ _ (at_station (λ (station : Station). Allows g.P.Promise.promised c.args.store.now station g.W.Watcher.may) _ _ c.loop-life.invariant.station c.requires.allows)
     c.loop-life.invariant.lawful c.in_ok-process.ensures.begun c.in_ok-process.ensures.told in
     record {
-      up = up_reported _ _ _ _ _ _ _ _ _ _ (up_quiet _ _ _ _ _ _ _ _ _ _ begun c.bind_all.ensures refl) c.in_ok-look_back.ensures;
+      up = up_reported _ _ _ _ _ _ _ _ _ _ (up_quiet _ _ _ _ _ _ _ _ _ _ begun c.bind_all.ensures.quiet refl) c.in_ok-look_back.ensures;
     }
 
 pub give_up-requires-clause-allowed : goal.give_up-requires-clause-allowed
