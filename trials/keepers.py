@@ -14,7 +14,7 @@ LEAVES = 4
 SOON = 10  # seconds until the bots have answered
 QUIET = 23  # seconds in which the last of five bots would look
 OPS = ("ann", "bob", "cat")
-BACK = {"-n": "+n", "+i": "-i", "+m": "-m", "+k sesame": "-k sesame"}  # what undoes a stranger's change
+BACK = {"-n": "+n", "+i": "-i", "+m": "-m", "+k sesame": "-k"}  # what undoes a stranger's change
 
 BINDS = ["log lines", "bind pub - ban !ban", "bind join - autoop *", "bind join - greet *", "bind join - opall *",
          *[f"bind mode - {it} *" for it in ("opall", "protectops", "bitch", "guard", "enforcebans", "dynamicbans")],
@@ -43,7 +43,7 @@ bind evnt - loaded known
 
 
 def acts_of(words):
-    """What the words of a MODE or KICK do: '+o ann', '-n' and 'KICK ann' are acts."""
+    """What the words of a MODE or KICK do: '+o ann', '-n' and 'KICK ann' are acts. A key isn't named: a server may hide it."""
     kind, _, letters, *arguments = [it.lstrip(":") for it in words]
     if kind == "KICK":
         return [f"KICK {letters}"]
@@ -52,7 +52,8 @@ def acts_of(words):
         if letter in "+-":
             sign = letter
         elif sign:
-            acts.append(f"{sign}{letter} {arguments.pop(0)}" if arguments and letter in "ovbk" else sign + letter)
+            argument = arguments.pop(0) if arguments and letter in "ovbk" else ""
+            acts.append(f"{sign}{letter} {argument}" if argument and letter != "k" else sign + letter)
     return acts
 
 
