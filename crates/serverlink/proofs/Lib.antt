@@ -2,3 +2,4 @@ pub mod ToldLemmas
 pub mod TagLemmas
 pub mod InquiryLemmas
 pub mod WaitingLemmas
+pub mod LoginLogLemmas

@@ -17,3 +17,4 @@ pub mod Talks
 pub mod Listing
 pub mod Told
 pub mod Logins
+pub mod LoginLogs

@@ -31,10 +31,6 @@ pub(crate) enum Entry<'a> {
     // A line of the configuration or of an operator, or an answer to a person, is queued for the server. It may hold a
     // password.
     ToldOwn,
-    // A line of a registration is queued for the server. It may show something of a password.
-    ToldRegistration,
-    // The server has accepted the login.
-    LoggedIn,
     // The system gives no random bytes for a login to this server; the second at which the next attempt is due.
     NoNonce(&'a [u8], u64),
 }
@@ -139,8 +135,6 @@ impl Display for Entry<'_> {
             Entry::ToldOwn => {
                 f.write_str("> a line of the configuration or of an operator, or an answer")
             }
-            Entry::ToldRegistration => f.write_str("> a line of the registration"),
-            Entry::LoggedIn => f.write_str("the server accepts the login"),
             Entry::NoNonce(host, due) => {
                 put(f, "not connecting to ", &Shown(host))?;
                 put(f, ": the system gives no random bytes; next try at ", &due)

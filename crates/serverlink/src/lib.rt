@@ -79,6 +79,7 @@ mod keeping;
 mod laws;
 mod line;
 mod login;
+mod login_entry;
 mod nicks;
 mod own_lines;
 mod pace;

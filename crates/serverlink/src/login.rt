@@ -1,9 +1,10 @@
 // What a connection says while it begins: it asks for the server's capabilities, and logs in to an account.
 ghost use Rattle.std.specs.Prelude.{◌≡◌, IfOk, OnOk};
 ghost use Rattle.registration.specs.Talks.{says_success};
+ghost use Rattle.serverlink.specs.LoginLogs.{HasNoted};
 ghost use Rattle.serverlink.specs.Logins.{all_told, wanted, wish_of};
 
-use crate::entry::Entry;
+use crate::login_entry::LoginEntry;
 use crate::server_wire::ServerWire;
 use crate::session::Session;
 use bytetext::{Failure, NoMemory, Text};
@@ -31,6 +32,7 @@ impl Session {
     ghost use Rattle.std.specs.Prelude.{◌≡◌, Some, IfOk, OnOk};
     ghost use Rattle.registration.specs.Registrations.{begun_by};
     ghost use Rattle.registration.specs.declared.registration.TheConstants.{FIRST_LINE};
+    ghost use Rattle.serverlink.specs.LoginLogs.{HasNoted};
     ghost use Rattle.serverlink.specs.Logins.{Leaves, derived, derives, line_heard, wish_of};
     ghost use Rattle.serverlink.specs.Talks.{told};
 
@@ -64,7 +66,8 @@ impl Session {
         line: &Line,
         shows: Shows,
     ) -> Result<(), Failure<RegistrationFault>>
-        ensures { Leaves (line_heard line.now (Some self.old)) result self.new }
+        ensures leaves { Leaves (line_heard line.now (Some self.old)) result self.new }
+        ensures logged { HasNoted shows.now log.old log.new }
     {
         let Some(login) = &mut self.login else {
             return Ok(());
@@ -76,10 +79,8 @@ impl Session {
         if is_over {
             self.login = None;
             self.questions.note_notices(notifies);
-            if is_success(line) {
-                log.note(shows.now, &Entry::LoggedIn);
-            }
         }
+        note_accepted(log, is_over && is_success(line), shows);
         Ok(())
     }
 
@@ -91,7 +92,8 @@ impl Session {
         log: &mut Log,
         shows: Shows,
     ) -> Result<(), Failure<RegistrationFault>>
-        ensures { Leaves (derived (Some self.old)) result self.new }
+        ensures leaves { Leaves (derived (Some self.old)) result self.new }
+        ensures logged { HasNoted shows.now log.old log.new }
     {
         let Some(login) = &mut self.login else {
             return Ok(());
@@ -196,7 +198,8 @@ fn tell_all(
     lines: &[Text],
     shows: Shows,
 ) -> Result<(), NoMemory>
-    ensures { OnOk result (wire.new ≡ all_told lines.now wire.old) }
+    ensures told { OnOk result (wire.new ≡ all_told lines.now wire.old) }
+    ensures logged { HasNoted shows.now log.old log.new }
 {
     for line in lines {
         wire.tell(line.as_bytes(), shows.now)?;
@@ -205,10 +208,20 @@ fn tell_all(
     Ok(())
 }
 
-// Logs that a line of a registration is queued, without its text: who knows the lines of a login can guess passwords at
-// leisure.
-fn note_line(log: &mut Log, shows: Shows) {
+// Logs that the server has accepted the login, if it has.
+fn note_accepted(log: &mut Log, accepted: bool, shows: Shows)
+    ensures { HasNoted shows.now log.old log.new }
+{
+    if accepted {
+        log.note(shows.now, &LoginEntry::Accepted);
+    }
+}
+
+// Logs that a line of a registration is queued, without its text.
+fn note_line(log: &mut Log, shows: Shows)
+    ensures { HasNoted shows.now log.old log.new }
+{
     if shows.lines {
-        log.note(shows.now, &Entry::ToldRegistration);
+        log.note(shows.now, &LoginEntry::Told);
     }
 }
