@@ -7,7 +7,8 @@
 PROGRAM is the program to try, else what EGGNET names, else ours. At ngircd and InspIRCd our bot and an Eggdrop are op, each on two
 channels of its own. Somebody with voice alone says `!voice` a hundred times on the first channel, a stranger sends the bot two
 hundred messages, and sixty strangers under one recorded ban join. Each time an op's KICK on the second channel comes within four
-seconds after the flood, and no mask is banned twice. At the small server a PING comes in the middle of such a flood: the bot
+seconds after the flood, and no mask is banned twice. Eighteen people ask for voice at once: the lines that wait go together, and
+each has it within ten seconds. At the small server a PING comes in the middle of such a flood: the bot
 answers at once. Eggdrop's times are told, and count as nothing, except that our bot kicks the strangers no slower.
 The last line is 'N well, M bad'; the status is 1 where any is bad.
 """
@@ -24,14 +25,16 @@ from bots import Bot, Guest, Inspircd, Ngircd, Tally, comes, end_all, program_of
 from eggdrops import Eggdrop
 from small_server import NAME, SmallServer
 
-VOICES, MESSAGES, CLONES = 100, 200, 60
+VOICES, MESSAGES, CLONES, CROWD = 100, 200, 60, 18
 SOON = 4  # seconds until an op's KICK
 SLOWER = 1.1  # how much longer our bot may take for a kick
 AT_ONCE = 2.5  # seconds until a PONG: the pace lets one line go in two
 ROOM = 12  # seconds in which a bot's pace has its room again
 CLONES_TAKE = 200  # seconds for all kicks
+TOGETHER = 10  # seconds for the voice of all, where one by one would take 26
 
-RECORDS = [["adduser", "ann"], ["addhost", "ann", "ann!*@*"], ["chan", "ann", "{one}", "v"], ["adduser", "bob"], ["addhost", "bob", "bob!*@*"],
+RECORDS = [["adduser", "ann"], ["addhost", "ann", "ann!*@*"], ["chan", "ann", "{one}", "v"], ["adduser", "crowd"], ["addhost", "crowd", "crowd*!*@*"], ["chan", "crowd", "{one}", "v"],
+           ["adduser", "bob"], ["addhost", "bob", "bob!*@*"],
            ["chan", "bob", "{two}", "o"], ["addban", "{one}", "clone*!*@*", "bob", "0", "a clone"]]
 BINDS = ["bind pub - voice !voice", "bind pub - kick !kick", "bind msg - seen !seen"]
 
@@ -47,7 +50,9 @@ bind msg - !seen where
 proc known {{args}} {{
   adduser ann ann!*@*
   adduser bob bob!*@*
+  adduser crowd crowd*!*@*
   chattr ann |+v {one}
+  chattr crowd |+v {one}
   chattr bob |+o {two}
   newchanban {one} clone*!*@* bob clone
 }}
@@ -130,6 +135,31 @@ def voices(tally, chief, bob, server, bot):
         ann.leave()
 
 
+def crowd(tally, chief, bob, server, bot):
+    """Has many people ask for voice at once."""
+    them = [Guest(server, f"crowd{number}") for number in range(CROWD)]
+    try:
+        for it in them:
+            it.asks(f"JOIN {bot.one}", r" 366 ")
+        since, began = len(chief.lines), time.monotonic()
+        for it in them:
+            it.say(f"PRIVMSG {bot.one} :!voice")
+
+        def given():
+            return [it for it in chief.lines[since:] if re.match(rf":{bot.nick}!\S+ MODE {bot.one} \+v+ ", it)]
+        voiced = lambda: {word for it in given() for word in it.split()[4:] if word.lstrip(":").startswith("crowd")}
+        came = comes(lambda: len(voiced()) == CROWD, 60)
+        took = time.monotonic() - began
+        told = f"{len(voiced())} within {took:.1f} s, by {len(given())} lines"
+        if bot.name == "ours":
+            tally.note(f"{server.name}: {CROWD} people who ask at once get voice within {TOGETHER} s", came and took <= TOGETHER, told)
+        else:
+            tally.say(f"{server.name}: {CROWD} people who ask at once: Eggdrop gives voice to {told}")
+    finally:
+        for it in them:
+            it.leave()
+
+
 def messages(tally, chief, bob, server, bot):
     mallory = Guest(server, "mallory")
     try:
@@ -181,7 +211,7 @@ def tried(tally, program, room, server):
                 tally.note(f"{server.name}: {bot.name} is on {channel}", bool(chief.hears(rf"^:{bot.nick}!\S+ JOIN :?{channel}$", 0, 90)))
                 chief.say(f"MODE {channel} +o {bot.nick}")
         time.sleep(ROOM)
-        for scene in (voices, messages):
+        for scene in (crowd, voices, messages):
             for bot in bots:
                 scene(tally, chief, bob, server, bot)
                 time.sleep(ROOM)

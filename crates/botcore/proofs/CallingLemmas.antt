@@ -12,7 +12,6 @@ use Rattle.sharelink.specs.declared.answer.Outgoing.{Outgoing}
 use Rattle.bytetext.specs.declared.memory.NoMemory.{NoMemory}
 use Rattle.bytetext.specs.declared.moment.TheConstants.{MOMENTS_END}
 use Rattle.bottimers.specs.declared.fault.ClockFault.TheVariants.{BadMoment}
-use Rattle.outqueue.specs.Sending.{sent, after as after_sending}
 use Rattle.botcore.specs.declared.fault.StepFault.{StepFault}
 use Rattle.botcore.specs.declared.report.End.TheVariants.{Done, NoMemory as ends_no_memory}
 use Rattle.botcore.specs.declared.report.Note.{Note}
@@ -24,6 +23,7 @@ use Rattle.procs.specs.Tellings.{Telling, called_in, calls_in}
 use Rattle.procs.specs.Dispatching.{told_of, is_logged}
 use Rattle.botcore.specs.Happenings.{seconds_of}
 use Rattle.botcore.specs.Acting.{faults_of}
+use Rattle.botcore.specs.Leaving.{leaving, most_of, staying}
 use Rattle.botcore.specs.Lines.{Finish, acting_of, acting_after, finish_reading}
 use Rattle.procs.specs.Made.{Made, AllKept, IsMade, IsFrontMade, entry_of}
 use Rattle.botcore.specs.Reports.{cut_short, told as told_as}
@@ -141,8 +141,8 @@ module _ (promised : Promised) where
   pub quiet_takes : (names : List (List ℕ)) (old new : Bot) (now : ℕ) (lines : Result (List (List ℕ)) NoMemory) (report : Report)
       → seconds_of old.config.zone old.timers (seconds_run old.clock now) ≡ []
       → IfOk lines (λ ls. report ≡ told_as None [] [] ls []) → OnErr lines (report ≡ cut_short [])
-      → IfOk lines (λ ls. ls ≡ sent old.queues now)
-      → OnOk lines (new ≡ record (run_to old now) { queues = after_sending old.queues now }) → OnErr lines (new ≡ old)
+      → IfOk lines (λ ls. ls ≡ leaving (most_of old) old.queues now)
+      → OnOk lines (new ≡ record (run_to old now) { queues = staying (most_of old) old.queues now }) → OnErr lines (new ≡ old)
       → TakesSeconds promised names old now report new
   quiet_takes names old new now (Ok ls) report none said lacks goes ok err =
       subst (λ (r : Report). TakesSeconds promised names old now r new) (sym said) (

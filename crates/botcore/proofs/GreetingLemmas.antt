@@ -1,5 +1,5 @@
 -- The greeting of a bot: no line of it is refused, and what waits of it.
-use Rattle.std.proofs.Common.{◌≡◌, ◌∙◌, ℕ, zero, suc, ◌+◌, ◌≤◌, ◌<◌, ◌==◌, nat_le, Bool, true, false, cond, if◌then◌else◌, filter, not, ◌&&◌, ◌||◌, Option, None, min}
+use Rattle.std.proofs.Common.{◌≡◌, ◌∙◌, ℕ, zero, suc, ◌+◌, ◌≤◌, ◌<◌, ◌==◌, nat_le, Bool, true, false, cond, if◌then◌else◌, filter, not, ◌&&◌, ◌||◌, Option, None, Some, min}
 use Rattle.std.proofs.Common.{List, [], ◌∷◌, ◌++◌, length, take, codes, slice_index, refl, ap, sym, arith, length-append}
 use Rattle.std.proofs.lemmas.Bool.{and_parts, or_parts, or_from, le-ltb, leb-true, lt-leb, ne_eqb}
 use Rattle.std.proofs.lemmas.List.{length-take}
@@ -14,6 +14,8 @@ use Rattle.outqueue.specs.declared.queues.Counts.{Counts}
 use Rattle.outqueue.specs.Refusals.{is_break, is_bad_line, refusal}
 use Rattle.outqueue.specs.Sending.{Sending, idle, waiting, sent, with_first, count_at}
 use Rattle.outqueue.proofs.Drains.{length-sent}
+use Rattle.outqueue.proofs.JoinedDrains.{nothing_leaves}
+use Rattle.botcore.specs.Leaving.{leaving}
 use Rattle.botcore.specs.Automatic.{greeting, or_bot, user_name, user_of, wish}
 use Rattle.botcore.specs.Configs.{IsGood, is_nick, is_nick_byte}
 use Rattle.botcore.specs.Putting.{put_faults, queued, queued_unless, with_line_fault}
@@ -130,11 +132,15 @@ empty [] e = refl
 empty (x ∷ xs) e = cc
 
 -- if no line may go, then none waits
-pub none_waits : (q : Sending) (now : ℕ) → q.timer ≡ 0 → sent q now ≡ [] → waiting q ≡ []
-none_waits q now timer none =
+none_waits_alone : (q : Sending) (now : ℕ) → q.timer ≡ 0 → sent q now ≡ [] → waiting q ≡ []
+none_waits_alone q now timer none =
     let count : length (sent q now) ≡ count_at q now = length-sent q now in
     let no : length (sent q now) ≡ 0 = ap length none in
     empty (waiting q) (omega arith)
+
+pub none_waits : (most : Option ℕ) (q : Sending) (now : ℕ) → q.timer ≡ 0 → leaving most q now ≡ [] → waiting q ≡ []
+none_waits None q now timer none = none_waits_alone q now timer none
+none_waits (Some most) q now timer none = none_waits_alone q now timer (nothing_leaves most q now none)
 
 -- then the first lines of each queue are none
 pub none_left : (q : Sending) (left : Counts) → waiting (with_first q left) ≡ []

@@ -12,6 +12,7 @@ use Rattle.outqueue.specs.Once.{once_refusal}
 use Rattle.outqueue.specs.Refusals.{refusal, put_last}
 use Rattle.outqueue.specs.Sending.{Sending, idle}
 use Rattle.outqueue.specs.Shares.{StandOnce, IsFair}
+use Rattle.outqueue.proofs.JoiningLaws.{moment_once, moment_fair}
 use Rattle.outqueue.proofs.ShareLemmas.{StandOnce-put, StandOnce-after, IsFair-put, IsFair-after}
 use Rattle.sharewire.specs.declared.packet.Packet.{Packet}
 use Rattle.procs.specs.declared.action.Action.{Action}
@@ -46,6 +47,7 @@ use Rattle.botcore.specs.Acting.{Acting, acted, acted_all, actions_of, asked_if,
 use Rattle.botcore.specs.Automatic.{cue_of, greeting, manner_by, user_name, wish}
 use Rattle.botcore.specs.Bots.{Bot, begun, with_device}
 use Rattle.botcore.specs.Happenings.{Saying, saying_of}
+use Rattle.botcore.specs.Leaving.{most_of, staying}
 use Rattle.botcore.specs.Lines.{acting_of, acting_after, own_lines, Finish, finish_text, finish_line, finish_reading}
 use Rattle.botcore.specs.Putting.{placed, put_all, queued, queued_unless, refusal_in, usual}
 use Rattle.botcore.specs.Sharing.{SharesLines}
@@ -160,6 +162,16 @@ all_acted_share : (old : Acting) (actions : List Action) → SharesActing old �
 all_acted_share old [] s = s
 all_acted_share old (a ∷ actions) s = all_acted_share (acted old a).after actions (acted_shares old s a)
 
+-- lines that leave ------------------------------------------------------------------------------------------------------
+
+staying_once : (most : Option ℕ) (queues : Sending) (now : ℕ) → StandOnce queues.mode → StandOnce (staying most queues now).mode
+staying_once None queues now once = StandOnce-after queues now once
+staying_once (Some most) queues now once = moment_once most queues now once
+
+staying_fair : (most : Option ℕ) (queues : Sending) (now : ℕ) → IsFair queues → IsFair (staying most queues now)
+staying_fair None queues now fair = IsFair-after queues now fair
+staying_fair (Some most) queues now fair = moment_fair most queues now fair
+
 -- events -----------------------------------------------------------------------------------------------------------------
 
 module _ (old : Bot) (s : SharesLines old) (calls : List MadeCall) where
@@ -183,8 +195,8 @@ module _ (old : Bot) (s : SharesLines old) (calls : List MadeCall) where
   reading_shares : (now : ℕ) → SharesLines (finish_reading old now calls).after
   reading_shares now = record {
     at_once = s.at_once;
-    once = StandOnce-after (acting_after old calls).queues now acting_shares.shared.once;
-    fair = IsFair-after (acting_after old calls).queues now acting_shares.shared.fair;
+    once = staying_once (most_of old) (acting_after old calls).queues now acting_shares.shared.once;
+    fair = staying_fair (most_of old) (acting_after old calls).queues now acting_shares.shared.fair;
   }
 
 -- nothing waits in a bot that begins

@@ -4,6 +4,7 @@ pub mod Bots
 pub mod Codes
 pub mod Configs
 pub mod Happenings
+pub mod Leaving
 pub mod Lines
 pub mod Links
 pub mod Making

@@ -3,7 +3,6 @@ use Rattle.std.specs.Prelude.{ℕ, Bool, ◌||◌, List, [], map, if◌then◌el
 use Rattle.ircline.specs.declared.message.Message.{Message}
 use Rattle.chanstate.specs.declared.state.ChanState.{ChanState}
 use Rattle.chanstate.specs.Steps.{after}
-use Rattle.outqueue.specs.Sending.{sent, after as after_sending}
 use Rattle.procs.specs.declared.action.PutWish.{PutWish}
 use Rattle.botcore.specs.declared.fault.StepFault.{StepFault}
 use Rattle.procs.specs.declared.made_call.MadeCall.{MadeCall}
@@ -11,6 +10,7 @@ use Rattle.botcore.specs.Acting.{Acting, actions_of, acted_all}
 use Rattle.botcore.specs.Automatic.{automatic_lines, is_welcome, manner_of}
 use Rattle.botcore.specs.Bots.{Bot}
 use Rattle.procs.specs.Dispatching.{has_raw_one}
+use Rattle.botcore.specs.Leaving.{most_of, leaving, staying}
 use Rattle.botcore.specs.Links.{link_records}
 use Rattle.procs.specs.Made.{entry_of}
 use Rattle.botcore.specs.Putting.{put_all, put_faults, usual}
@@ -83,7 +83,7 @@ finish_line old message calls = record {
 -- the lines that may go at a reading are sent, those of its calls included
 abbrev pub finish_reading : Bot → ℕ → List MadeCall → Finish
 finish_reading start now calls = record {
-  after = record (after_calls start calls) { queues = after_sending (acting_after start calls).queues now };
+  after = record (after_calls start calls) { queues = staying (most_of start) (acting_after start calls).queues now };
   faults = [];
-  lines = sent (acting_after start calls).queues now;
+  lines = leaving (most_of start) (acting_after start calls).queues now;
 }

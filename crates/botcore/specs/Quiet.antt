@@ -4,7 +4,6 @@ use Rattle.std.specs.List.{list_all, list_any}
 use Rattle.bottimers.specs.declared.timer.Timer.{Timer}
 use Rattle.bottimers.specs.Occurrences.{is_due}
 use Rattle.bottimers.specs.Seconds.{seconds_run}
-use Rattle.outqueue.specs.Sending.{sent}
 use Rattle.ircline.specs.declared.line.Line.TheVariants.{Message as a_message, Bad as a_bad_line}
 use Rattle.ircline.specs.declared.message.Message.{Message}
 use Rattle.chanstate.specs.Memory.{takes_memory}
@@ -14,6 +13,7 @@ use Rattle.botcore.specs.declared.event.BotEvent.{BotEvent}
 use Rattle.botcore.specs.declared.event.BotEvent.TheVariants.{Connect, Line, Ask, Pump, Receive, Clock, Bind, Unbind, Compact, Restart}
 use Rattle.botcore.specs.Automatic.{automatic_lines, watched_in}
 use Rattle.botcore.specs.Bots.{Bot}
+use Rattle.botcore.specs.Leaving.{most_of, leaving}
 use Rattle.botcore.specs.Links.{link_records}
 
 -- a message that calls no proc, makes the bot queue no line and check no ban, and brings no text to keep; what a bot
@@ -36,7 +36,7 @@ is_still_until bot now = list_all (is_still bot.timers.timers) (seconds_run bot.
 -- a reading that calls no proc, and at which no line may go
 pub record PassesQuietly (bot : Bot) (now : ℕ) : Type 0 where
   pub calls : is_still_until bot now ≡ true
-  pub lines : sent bot.queues now ≡ []
+  pub lines : leaving (most_of bot) bot.queues now ≡ []
 
 -- an event for whose calls and content the bot does not allocate, or an ask; for others the step's own rule says when
 -- it does not allocate

@@ -29,7 +29,9 @@ pub struct Config {
     pub exclusive: bool,
     /// Whether lines leave at any reading of the clock that the pace allows, and not only at one of a new second.
     /// Answers to PING then wait for no queue, other lines are queued by
-    /// [`Queues::put_once`](outqueue::Queues::put_once), and the user name is the first 10 letters and digits of the nick,
+    /// [`Queues::put_once`](outqueue::Queues::put_once) and leave by
+    /// [`Queues::drain_joined`](outqueue::Queues::drain_joined), with as many modes in one line as the server takes
+    /// (MODES of its line 005, and three before it), and the user name is the first 10 letters and digits of the nick,
     /// or `bot` if it has none.
     pub sends_at_once: bool,
     /// Whether the bot leaves recorded bans to its procs: it then queues no line by itself when somebody joins whom a ban

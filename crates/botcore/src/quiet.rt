@@ -18,7 +18,7 @@ use std::alloc::Global;
 impl<D: Disk> Bot<D> {
     ghost use Rattle.std.specs.Prelude.{◌≡◌, ◌<◌, [], false, IfOk, IsOk, OnOk, OnErr};
     ghost use Rattle.bytetext.specs.declared.moment.TheConstants.{MOMENTS_END as end_of_moments};
-    ghost use Rattle.outqueue.specs.Sending.{sent, after as after_sending};
+    ghost use Rattle.botcore.specs.Leaving.{leaving, most_of, staying};
     ghost use Rattle.botcore.specs.Quiet.{is_still_until};
     ghost use Rattle.botcore.specs.Steps.{is_past, run_to};
 
@@ -36,17 +36,30 @@ impl<D: Disk> Bot<D> {
     pub(crate) fn pass_to(&mut self, alloc: Global, now: u64) -> Result<Texts, NoMemory>
         requires moment { now < end_of_moments }
         requires above { is_past self.old.clock now ≡ false }
-        ensures lines { IfOk result (λ lines. lines ≡ sent self.old.queues now) }
-        ensures ok { OnOk result (self.new ≡ record (run_to self.old now) { queues = after_sending self.old.queues now }) }
+        ensures lines { IfOk result (λ lines. lines ≡ leaving (most_of self.old) self.old.queues now) }
+        ensures ok { OnOk result
+            (self.new ≡ record (run_to self.old now) { queues = staying (most_of self.old) self.old.queues now }) }
         ensures err { OnErr result (self.new ≡ self.old) }
-        ensures needs_none { sent self.old.queues now ≡ [] → IsOk result }
+        ensures needs_none { leaving (most_of self.old) self.old.queues now ≡ [] → IsOk result }
     {
-        match self.queues.drain(alloc, now) {
+        let most = self.most();
+        match self.queues.drain(alloc, now, most) {
             Ok(lines) => {
                 self.run_on(now);
                 Ok(lines)
             }
             Err(NoMemory) => Err(NoMemory),
+        }
+    }
+
+    // Returns how many modes of one channel go together, or none if each goes alone. Does not allocate.
+    pub(crate) fn most(&self) -> Option<usize>
+        ensures { result ≡ most_of self.now }
+    {
+        if self.config.sends_at_once {
+            Some(self.channels.current().support().mode_limit())
+        } else {
+            None
         }
     }
 

@@ -178,7 +178,8 @@ impl<D: Disk> Bot<D> {
             packets,
             faults,
         } = self.carry_out(alloc, calls, unbound)?;
-        let lines = self.queues.drain(alloc, now)?;
+        let most = self.most();
+        let lines = self.queues.drain(alloc, now, most)?;
         self.put_timers(timers);
         Ok(Told {
             packets,

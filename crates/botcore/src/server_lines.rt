@@ -1,6 +1,8 @@
 // The lines of a bot that wait for the server, and how it queues its greeting without allocating.
-ghost use Rattle.std.specs.Prelude.{◌≡◌, ◌&&◌, ◌==◌, [], min, IfOk, IsOk};
+ghost use Rattle.std.specs.Prelude.{◌≡◌, ◌<◌, ◌&&◌, ◌==◌, [], min, IfOk, IsOk, OnOk, OnErr};
+ghost use Rattle.bytetext.specs.declared.moment.TheConstants.{MOMENTS_END as end_of_moments};
 ghost use Rattle.outqueue.specs.Sending.{no_room, waiting, with_first};
+ghost use Rattle.botcore.specs.Leaving.{leaving, staying};
 
 use crate::automatic::greeting;
 use crate::config::Config;
@@ -52,7 +54,8 @@ impl Model for ServerLines {
 impl ServerLines {
     ghost use Rattle.std.specs.Prelude.{◌≡◌, ◌<◌, [], IfOk, IsOk, OnOk, OnErr};
     ghost use Rattle.bytetext.specs.declared.moment.TheConstants.{MOMENTS_END as end_of_moments};
-    ghost use Rattle.outqueue.specs.Sending.{idle, counts_of, sent, after as after_sending, with_first};
+    ghost use Rattle.outqueue.specs.Sending.{idle, counts_of, with_first};
+    ghost use Rattle.botcore.specs.Leaving.{leaving, staying};
     ghost use Rattle.botcore.specs.ServerLines.{silent};
 
     // Creates the greeting of a bot with this configuration. Nothing waits.
@@ -103,20 +106,26 @@ impl ServerLines {
         }
     }
 
-    // Removes and returns the lines that may go. Does not allocate if none goes.
-    pub(crate) fn drain(&mut self, alloc: Global, now: u64) -> Result<Texts, NoMemory>
+    // Removes and returns the lines that may go; at most `most` modes of one channel go together, or, if it is none, each
+    // goes alone. Does not allocate if none goes.
+    pub(crate) fn drain(
+        &mut self,
+        alloc: Global,
+        now: u64,
+        most: Option<usize>,
+    ) -> Result<Texts, NoMemory>
         requires { now < end_of_moments }
-        ensures lines { IfOk result (λ lines. lines ≡ sent self.old.current now) }
-        ensures ok { OnOk result (self.new ≡ record self.old { current = after_sending self.old.current now }) }
+        ensures lines { IfOk result (λ lines. lines ≡ leaving most self.old.current now) }
+        ensures ok { OnOk result (self.new ≡ record self.old { current = staying most self.old.current now }) }
         ensures err { OnErr result (self.new ≡ self.old) }
         ensures room { self.new.current.room ≡ self.old.current.room }
-        ensures needs_none { sent self.old.current now ≡ [] → IsOk result }
+        ensures needs_none { leaving most self.old.current now ≡ [] → IsOk result }
     {
         match &mut self.since {
-            Some(since) => since.drain(alloc, now),
+            Some(since) => drained(since, alloc, now, most),
             None => {
                 let mut since = first_of(alloc, &self.greeting, self.left)?;
-                let lines = since.drain(alloc, now)?;
+                let lines = drained(&mut since, alloc, now, most)?;
                 self.since = Some(since);
                 Ok(lines)
             }
@@ -141,6 +150,26 @@ impl ServerLines {
             Some(since) => since.keep(counts),
             None => self.left = fewer(counts, self.left),
         }
+    }
+}
+
+// Removes and returns the lines of `queues` that may go. Does not allocate if none goes.
+fn drained(
+    queues: &mut Queues,
+    alloc: Global,
+    now: u64,
+    most: Option<usize>,
+) -> Result<Texts, NoMemory>
+    requires { now < end_of_moments }
+    ensures lines { IfOk result (λ lines. lines ≡ leaving most queues.old now) }
+    ensures ok { OnOk result (queues.new ≡ staying most queues.old now) }
+    ensures err { OnErr result (queues.new ≡ queues.old) }
+    ensures room { queues.new.room ≡ queues.old.room }
+    ensures needs_none { leaving most queues.old now ≡ [] → IsOk result }
+{
+    match most {
+        Some(most) => queues.drain_joined(alloc, now, most),
+        None => queues.drain(alloc, now),
     }
 }
 

@@ -5,7 +5,7 @@ use Rattle.std.specs.Str.{bytes_eq}
 use Rattle.std.proofs.lemmas.Bool.{cond-true}
 use Rattle.chanstate.specs.declared.support.Support.{Support}
 use Rattle.chanstate.specs.Announced.{ranked, opened, with_prefix, typed_three, typed_two, typed_one, with_casemapping, with_channel_types, cut, key_and_value}
-use Rattle.chanstate.specs.Announced.{announced_by, with_token, announced}
+use Rattle.chanstate.specs.Announced.{limited, number_in, with_modes, announced_by, with_token, announced}
 
 -- the casemapping is the same, and whether a JOIN has been read
 abbrev pub Same : Support → Support → Type 0
@@ -44,13 +44,21 @@ casemapping-same value s read = subst (Same s) (sym (cond-true s.join_read s _ r
 channel_types-same : (value : List ℕ) (s : Support) → Same s (with_channel_types value s)
 channel_types-same value s = same_if s.join_read s s _ (refl, refl) (refl, refl)
 
+limited-same : (o : Option ℕ) (s : Support) → Same s (limited o s)
+limited-same None s = (refl, refl)
+limited-same (Some number) s = same_if (number == 0) s s _ (refl, refl) (refl, refl)
+
+modes-same : (value : List ℕ) (s : Support) → Same s (with_modes value s)
+modes-same value s = same_if (length value == 0) s _ _ (refl, refl) (limited-same (number_in value) s)
+
 key-same : (p : List ℕ × List ℕ) (s : Support) → s.join_read ≡ true → Same s (announced_by p s)
 key-same p s read =
     same_if (bytes_eq p.0 (codes "PREFIX")) s _ _ (prefix-same p.1 s)
     (same_if (bytes_eq p.0 (codes "CHANMODES")) s _ _ (one-same (cut 44 p.1) s)
     (same_if (bytes_eq p.0 (codes "CASEMAPPING")) s _ _ (casemapping-same p.1 s read)
     (same_if (bytes_eq p.0 (codes "CHANTYPES")) s _ _ (channel_types-same p.1 s)
-    (same_if (bytes_eq p.0 (codes "STATUSMSG")) s _ s (refl, refl) (refl, refl)))))
+    (same_if (bytes_eq p.0 (codes "STATUSMSG")) s _ _ (refl, refl)
+    (same_if (bytes_eq p.0 (codes "MODES")) s _ s (modes-same p.1 s) (refl, refl))))))
 
 pub announced-same : (tokens : List (List ℕ)) (s : Support) → s.join_read ≡ true → Same s (announced tokens s)
 announced-same [] s read = (refl, refl)

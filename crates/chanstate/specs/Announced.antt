@@ -1,14 +1,15 @@
 -- What a server announces of its channels (RPL_ISUPPORT, numeric 005). PREFIX has the modes that mark a member and the
 -- signs that stand for them before a nick. CHANMODES has the other modes by their type. What the server has not
 -- announced is as in RFC 2812. Sets of ASCII bytes are tables; no other byte is in a set.
-use Rattle.std.specs.Prelude.{ℕ, Bool, true, false, ◌||◌, ◌&&◌, ◌==◌, List, [], ◌∷◌, Option, None, Some, nat_lt, length, drop, take, replicate, codes}
-use Rattle.std.specs.Prelude.{not, slice_get, slice_index, slice_set, unwrap_or, if◌then◌else◌}
+use Rattle.std.specs.Prelude.{ℕ, Bool, true, false, ◌||◌, ◌&&◌, ◌==◌, List, [], ◌∷◌, Option, None, Some, nat_lt, length, drop, take, replicate, codes, min}
+use Rattle.std.specs.Prelude.{nat_le, ◌+◌, ◌*◌, ◌-◌, not, slice_get, slice_index, slice_set, unwrap_or, if◌then◌else◌, option_and_then}
 use Rattle.std.specs.List.{position_or_len}
 use Rattle.std.specs.Str.{bytes_eq}
 use Rattle.rfccase.specs.declared.casemappings.Casemapping.TheVariants.{Rfc1459}
 use Rattle.rfccase.specs.Casemapping.{mapping_named}
 use Rattle.chanstate.specs.declared.letters.Letters.{Letters}
 use Rattle.chanstate.specs.declared.support.Support.{Support}
+use Rattle.chanstate.specs.declared.support.TheConstants.{MAX_MODES}
 
 -- ---- sets of bytes
 
@@ -30,7 +31,8 @@ letters_of text = with_letters text no_letters
 
 -- ---- what is announced
 
--- before a server has announced anything: o v h mark members; b e I k always have an argument, l has one when it is set
+-- before a server has announced anything: o v h mark members; b e I k always have an argument, l has one when it is set;
+-- one MODE line may have three modes with an argument (RFC 2812 section 3.2.3)
 unfoldable pub unannounced : Support
 unannounced = record {
   ranks = letters_of (codes "ovh");
@@ -42,6 +44,7 @@ unannounced = record {
   casemapping = Rfc1459;
   join_read = false;
   joins_tell = false;
+  mode_limit = 3;
 }
 
 -- What holds after a welcome: nothing is announced, but the capabilities stay that the server acknowledged before it.
@@ -103,6 +106,29 @@ with_casemapping value s = if s.join_read then s else record s { casemapping = m
 abbrev pub with_channel_types : List ℕ → Support → Support
 with_channel_types value s = if s.join_read then s else record s { channel_types = letters_of value }
 
+-- decimal digits, and the number that they mean, at most MAX_MODES
+abbrev pub is_digit : ℕ → Bool
+is_digit b = nat_le 48 b && nat_le b 57
+
+abbrev pub digit_onto : ℕ → ℕ → Option ℕ
+digit_onto value b = if is_digit b then Some (min (value * 10 + (b - 48)) MAX_MODES) else None
+
+abbrev pub number_from : ℕ → List ℕ → Option ℕ
+number_from value [] = Some value
+number_from value (b ∷ bs) = option_and_then (λ longer. number_from longer bs) (digit_onto value b)
+
+abbrev pub number_in : List ℕ → Option ℕ
+number_in text = number_from 0 text
+
+-- MODES=number: how many modes with an argument one MODE line may have. An empty value says that there is no limit, and
+-- is kept as MAX_MODES. The number 0 announces nothing, and neither does a value with another byte than a digit.
+abbrev pub limited : Option ℕ → Support → Support
+limited None s = s
+limited (Some number) s = if number == 0 then s else record s { mode_limit = number }
+
+abbrev pub with_modes : List ℕ → Support → Support
+with_modes value s = if length value == 0 then record s { mode_limit = MAX_MODES } else limited (number_in value) s
+
 -- a JOIN has been read
 abbrev pub with_join : Support → Support
 with_join s = record s { join_read = true }
@@ -123,7 +149,8 @@ announced_by p s =
     else (if bytes_eq p.0 (codes "CHANMODES") then with_types p.1 s
     else (if bytes_eq p.0 (codes "CASEMAPPING") then with_casemapping p.1 s
     else (if bytes_eq p.0 (codes "CHANTYPES") then with_channel_types p.1 s
-    else (if bytes_eq p.0 (codes "STATUSMSG") then with_status p.1 s else s))))
+    else (if bytes_eq p.0 (codes "STATUSMSG") then with_status p.1 s
+    else (if bytes_eq p.0 (codes "MODES") then with_modes p.1 s else s)))))
 
 abbrev pub with_token : List ℕ → Support → Support
 with_token token s = announced_by (key_and_value token (cut 61 token)) s

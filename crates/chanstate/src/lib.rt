@@ -34,6 +34,10 @@
 //! whether a byte is a single mode (`is_mode`), which argument it has (`argument`), and what is left for the bytes
 //! after it (`next_sign`, `next_arguments`). At the start of the string modes are set, and all arguments are left.
 //!
+//! The server also announces how many modes with an argument one MODE line may set or clear (MODES). Until it does, the
+//! limit is three (RFC 2812 section 3.2.3). [`Support::mode_limit`] returns it: at most 20, even if the server announces
+//! more or says that it has no limit. A welcome sets it back to three.
+//!
 //! `apply` either takes in a message as a whole or leaves the state as it was. A caller that must allocate more for a
 //! message calls the two halves of `apply`. [`ChanState::ready`] allocates all that the message needs, or fails. Then
 //! [`StateUpdate::commit`] takes the message in and allocates nothing, or [`StateUpdate::cancel`] gives it up, because another

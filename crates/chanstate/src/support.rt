@@ -2,14 +2,20 @@
 ghost use Rattle.std.specs.Prelude.{◌≡◌, ◌≤◌, length, MatchOption, None, Some};
 ghost use Rattle.chanstate.specs.Announced.{front_len, cut, key_and_value, with_prefix, with_types, with_token, announced, unannounced, takes_argument};
 ghost use Rattle.chanstate.specs.Announced.{is_sign, is_in, has_status, with_casemapping, with_channel_types, with_join, with_joins_tell, welcomed};
+ghost use Rattle.chanstate.specs.Announced.{digit_onto, number_in, with_modes};
 ghost use Rattle.chanstate.specs.Items.{is_channel_on};
 
 use crate::letters::Letters;
 use bytetext::Text;
 use rfccase::{Casemapping, is_channel_name};
 
-/// What a server announces: its channel modes, as far as they are needed to read a MODE or a list of names, which names
-/// are channels, which signs may stand before them, and how it compares names. Allocates nothing.
+/// How many modes one MODE line has at most, whatever the server announces: our own choice, as the line must not get
+/// long.
+const MAX_MODES: u8 = 20;
+
+/// What a server announces: its channel modes, as far as they are needed to read a MODE or a list of names, how many of
+/// them one MODE line may have, which names are channels, which signs may stand before them, and how it compares names.
+/// Allocates nothing.
 #[derive(Clone, Copy, Debug)]
 pub struct Support {
     // The modes that mark a member, and the signs that stand for them before a nick.
@@ -28,6 +34,8 @@ pub struct Support {
     join_read: bool,
     // Whether a JOIN tells the account of the person: the server has acknowledged the capability extended-join.
     joins_tell: bool,
+    // How many modes with an argument one MODE line may have.
+    mode_limit: u8,
 }
 
 impl Support {
@@ -47,6 +55,7 @@ impl Support {
             casemapping: Casemapping::Rfc1459,
             join_read: false,
             joins_tell: false,
+            mode_limit: 3,
         }
     }
 
@@ -86,6 +95,14 @@ impl Support {
         ensures { result ≡ is_in letter self.now.ranks }
     {
         self.ranks.holds(letter)
+    }
+
+    /// Returns how many modes with an argument one MODE line may have: as the server has announced (MODES), at most 20;
+    /// three before that (RFC 2812 section 3.2.3).
+    pub fn mode_limit(&self) -> usize
+        ensures value { result ≡ self.now.mode_limit }
+    {
+        usize::from(self.mode_limit)
     }
 
     /// Returns how the server compares names: as it has announced before the first JOIN, else by RFC 1459.
@@ -139,6 +156,8 @@ impl Support {
             self.set_channel_types(value);
         } else if key == b"STATUSMSG".as_slice() {
             self.status = Letters::of(value);
+        } else if key == b"MODES".as_slice() {
+            self.set_mode_limit(value);
         }
     }
 
@@ -212,6 +231,48 @@ impl Support {
         self.always = always;
         self.when_set = Letters::of(when_set);
     }
+
+    // Takes in the number of modes with an argument that one MODE line may have, or an empty value if there is no limit.
+    fn set_mode_limit(&mut self, value: &[u8])
+        ensures { self.new ≡ with_modes value.now self.old }
+    {
+        if value.is_empty() {
+            self.mode_limit = MAX_MODES;
+            return;
+        }
+        let Some(number) = number_in(value) else {
+            return;
+        };
+        if number != 0 {
+            self.mode_limit = number;
+        }
+    }
+}
+
+// Returns the number that `text` spells in digits, but at most `MAX_MODES`.
+fn number_in(text: &[u8]) -> Option<u8>
+    ensures { result ≡ number_in text.now }
+{
+    let mut value = 0;
+    for byte in text {
+        value = digit_onto(value, *byte)?;
+    }
+    Some(value)
+}
+
+// Returns the number that one more digit makes of `value`, but at most `MAX_MODES`.
+fn digit_onto(value: u8, byte: u8) -> Option<u8>
+    ensures { result ≡ digit_onto value byte }
+{
+    if byte < b'0' || byte > b'9' {
+        return None;
+    }
+    Some(
+        value
+            .saturating_mul(10)
+            .saturating_add(byte - b'0')
+            .min(MAX_MODES),
+    )
 }
 
 // Returns the key of a token and its value, which is empty if it has none.

@@ -141,8 +141,11 @@ fewer_gone n q timer target =
     let help = count_by-drop (is_for target) (n - (length q.prompt + (length q.mode + length q.server))) q.help in
     omega arith
 
+pub IsFair-gone : (n : ℕ) (q : Sending) (timer : ℕ) → IsFair q → IsFair (gone n q timer)
+IsFair-gone n q timer fair = fair_fewer q (gone n q timer) (fewer_gone n q timer) fair
+
 fair_gone : (b : Bool) (q : Sending) (timer other : ℕ) → IsFair q → IsFair (cond b (gone 1 q timer) (record q { timer = other }))
-fair_gone true q timer other fair = fair_fewer q (gone 1 q timer) (fewer_gone 1 q timer) fair
+fair_gone true q timer other fair = IsFair-gone 1 q timer fair
 fair_gone false q timer other fair = fair
 
 pub IsFair-after_line : (q : Sending) (now : ℕ) → IsFair q → IsFair (after_line q now)
@@ -151,7 +154,7 @@ IsFair-after_line q now fair = fair_gone (is_some (next_line q now)) q _ _ fair
 
 pub IsFair-after : (q : Sending) (now : ℕ) → IsFair q → IsFair (after q now)
 unfolding after
-IsFair-after q now fair = fair_fewer q (after q now) (fewer_gone (count_at q now) q (max q.timer now + COST * count_at q now)) fair
+IsFair-after q now fair = IsFair-gone (count_at q now) q (max q.timer now + COST * count_at q now) fair
 
 pub IsFair-with_first : (q : Sending) (counts : Counts) → IsFair q → IsFair (with_first q counts)
 IsFair-with_first q counts fair target =

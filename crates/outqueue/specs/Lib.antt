@@ -4,3 +4,4 @@ pub mod Sending
 pub mod Shares
 pub mod Refusals
 pub mod Once
+pub mod Joining

@@ -24,9 +24,12 @@
 #![tactic(auto)]
 
 mod fault;
+mod joining;
+mod joining_laws;
 mod lane;
 mod limits;
 mod line;
+mod mode_line;
 mod pacing;
 mod queue;
 mod queues;
@@ -34,7 +37,8 @@ mod shares;
 mod target;
 
 pub use crate::fault::{PutError, QueueFault};
-pub use crate::limits::{AHEAD, COST, MAX_AT_ONCE, MAX_BYTES, MAX_LINES, SHARE};
+pub use crate::joining_laws::laws_of_joining;
+pub use crate::limits::{AHEAD, COST, MAX_AT_ONCE, MAX_BYTES, MAX_JOINED, MAX_LINES, SHARE};
 pub use crate::pacing::over_moments;
 pub use crate::queue::{Queue, QueueSet};
 pub use crate::queues::{Counts, Queues};

@@ -18,3 +18,7 @@ pub const MAX_AT_ONCE: usize = 5;
 /// How many lines of the server queue and the help queue wait for one target at most, where shares are fair (our own
 /// choice): the server reads them within forty seconds.
 pub const SHARE: usize = 20;
+
+/// How many bytes a MODE has at most that is made of several (our own choice; Eggdrop's `mode-buf-length`): a server tells
+/// a channel of no more in one line.
+pub const MAX_JOINED: usize = 200;

@@ -6,6 +6,7 @@ ghost use Rattle.outqueue.specs.Sending.{room_in, with_room};
 ghost use Rattle.outqueue.specs.Refusals.{refusal, prompt_refusal, refusal_after, Puts, PutsPrompt, PutsReserved};
 ghost use Rattle.outqueue.specs.Shares.{waiting_for};
 ghost use Rattle.outqueue.specs.Once.{PutsOnce, stands, is_share_full};
+ghost use Rattle.outqueue.specs.Joining.{sent_joined, after_joined, next_group, after_group, first_group, without_group, line_of};
 
 use crate::fault::{PutError, QueueFault};
 use crate::lane::Lane;
@@ -373,6 +374,76 @@ impl Queues {
             lines.push_reserved(line);
         }
         Ok(Texts::new(lines))
+    }
+
+    /// Removes and returns all lines that may go at `now`, as [`drain`](Queues::drain) does, but modes of one channel go
+    /// together. They are five lines at most, and each counts as one for the send timer.
+    ///
+    /// A line of the mode queue that sets or clears `b`, `o` or `v` with its argument, and does nothing else, is a mode of
+    /// its channel. It takes along the next modes of that channel, at most `most` in all. The line that they make,
+    /// `MODE #egg +o-b ada *!*@host`, has at most [`MAX_JOINED`](crate::MAX_JOINED) bytes. Lines of other channels keep
+    /// their places. A line of the same channel that is no such mode, or has no room, ends them: no two lines of one
+    /// channel change their order.
+    ///
+    /// # Errors
+    /// Returns `NoMemory` if it can't allocate; the queues are then unchanged. It allocates nothing if no line goes.
+    pub fn drain_joined(&mut self, alloc: Global, now: u64, most: usize) -> Result<Texts, NoMemory>
+        requires { now < MOMENTS_END }
+        ensures lines { IfOk result (λ lines. lines ≡ sent_joined most self.old now) }
+        ensures after { OnOk result (self.new ≡ after_joined most self.old now) }
+        ensures err { OnErr result (self.new ≡ self.old) }
+        ensures room { self.new.room ≡ self.old.room }
+        ensures few { IfOk result (λ lines. length lines ≤ MAX_AT_ONCE) }
+        ensures nothing_goes { sent_joined most self.old now ≡ [] → IsOk result }
+    {
+        if self.due(now) == 0 {
+            self.timer = self.timer.max(now);
+            return Ok(Texts::empty(alloc));
+        }
+        let mut lines = Vec::with_capacity(alloc, MAX_AT_ONCE)?;
+        let mut rest = self.copy(alloc)?;
+        for _turn in 0..MAX_AT_ONCE {
+            if let Some(line) = rest.take_joined(alloc, now, most)? {
+                lines.push_reserved(line);
+            }
+        }
+        *self = rest;
+        Ok(Texts::new(lines))
+    }
+
+    // Removes the lines that go next at `now`, and returns the line that they make. Out of memory, some of them may be lost.
+    #[tactic(auto, unfolding(crate::specs::Joining::next_group, crate::specs::Joining::after_group))]
+    fn take_joined(
+        &mut self,
+        alloc: Global,
+        now: u64,
+        most: usize,
+    ) -> Result<Option<Text>, NoMemory>
+        requires { now < MOMENTS_END }
+        ensures line { IfOk result (λ line. line ≡ line_of (next_group most self.old now)) }
+        ensures after { OnOk result (self.new ≡ after_group most self.old now) }
+    {
+        self.timer = self.timer.max(now);
+        if self.timer >= now + AHEAD {
+            return Ok(None);
+        }
+        let Some(line) = self.first_joined(alloc, most)? else {
+            return Ok(None);
+        };
+        self.timer += COST;
+        Ok(Some(line))
+    }
+
+    // Removes the lines that go next, and returns the line that they make. Out of memory, some of them may be lost.
+    fn first_joined(&mut self, alloc: Global, most: usize) -> Result<Option<Text>, NoMemory>
+        ensures line { IfOk result
+            (λ line. line ≡ line_of (first_group most self.old.prompt self.old.mode (self.old.server ++ self.old.help))) }
+        ensures rest { OnOk result (self.new ≡ without_group most self.old self.old.timer self.old.prompt self.old.mode) }
+    {
+        if self.prompt.len() > 0 || self.mode.len() == 0 {
+            return Ok(self.first());
+        }
+        self.mode.pop_joined(alloc, most)
     }
 
     // Returns how many lines go at `now`.

@@ -92,8 +92,8 @@
 //!
 //! The steps of `queues` are `put QUEUE COUNT LINE`, which puts a line COUNT times and answers `ok` or the code of the
 //! first refusal; `reserved QUEUE LINE`, which puts it into room that was reserved before, and answers the same;
-//! `take NOW` and `drain NOW`, which answer the lines that are sent or `none`; and `len QUEUE` and `clear QUEUE`, which
-//! answer a number. QUEUE is `mode`, `server` or `help`, and for the last two steps also `all`. Each step is one word,
+//! `take NOW`, `drain NOW` and `joined MOST NOW`, where at most MOST modes of one channel go together, which answer the
+//! lines that are sent or `none`; and `len QUEUE` and `clear QUEUE`, which answer a number. QUEUE is `mode`, `server` or `help`, and for the last two steps also `all`. Each step is one word,
 //! and ` ; ` stands between the answers.
 //!
 //! `journal` makes a journal of layout 1 with the base `base` on two empty disks in memory. Its steps are

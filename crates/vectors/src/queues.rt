@@ -1,7 +1,7 @@
 // Lines that wait to be sent.
 ghost use Rattle.std.specs.Prelude.{◌<◌, IfOk};
 
-use bytetext::{Text, TryCopy};
+use bytetext::{Text, Texts, TryCopy};
 use caselines::{BAD_NUMBER, BAD_WORDS, CaseError, Sink, cut, number};
 use outqueue::{PutError, Queue, QueueFault, QueueSet, Queues};
 use std::alloc::Global;
@@ -9,9 +9,10 @@ use std::alloc::Global;
 /// Answers `queues STEP..` on `out`: what each step answers, with ` ; ` between. A step is one word.
 /// `put QUEUE COUNT LINE` puts a line COUNT times and answers `ok` or the code of the first refusal, `once QUEUE COUNT
 /// LINE` does so where lines stand once and shares are fair, and
-/// `reserved QUEUE LINE` puts it into room that was reserved before. `take NOW` and `drain NOW` answer the lines that
-/// are sent or `none`. `len QUEUE` and `clear QUEUE` answer a number. QUEUE is `mode`, `server` or `help`, and for the
-/// last two also `all`. The queues are copied before each step.
+/// `reserved QUEUE LINE` puts it into room that was reserved before. `take NOW`, `drain NOW` and `joined MOST NOW`, where
+/// at most MOST modes of one channel go together, answer the lines that are sent or `none`. `len QUEUE` and `clear QUEUE`
+/// answer a number. QUEUE is `mode`, `server` or `help`, and for the last two also `all`. The queues are copied before
+/// each step.
 pub fn queues(alloc: Global, words: &[Text], out: &mut Sink) -> Result<(), CaseError> {
     let mut queues = Queues::new(alloc);
     for (i, step) in words.iter().enumerate() {
@@ -27,6 +28,7 @@ pub fn queues(alloc: Global, words: &[Text], out: &mut Sink) -> Result<(), CaseE
 enum Step {
     Clear,
     Drain,
+    Joined,
     Len,
     Once,
     Put,
@@ -43,9 +45,10 @@ enum Way {
     Once,
 }
 
-const STEPS: [(&[u8], Step); 7] = [
+const STEPS: [(&[u8], Step); 8] = [
     (b"clear", Step::Clear),
     (b"drain", Step::Drain),
+    (b"joined", Step::Joined),
     (b"len", Step::Len),
     (b"once", Step::Once),
     (b"put", Step::Put),
@@ -69,7 +72,8 @@ fn make(alloc: Global, queues: &mut Queues, step: &[u8], out: &mut Sink) -> Resu
         Step::Clear => out.number(queues.clear(which(rest)?) as u64),
         Step::Len => out.number(queues.len(which(rest)?) as u64),
         Step::Take => take(queues, moment(rest)?, out),
-        Step::Drain => return drain(alloc, queues, moment(rest)?, out),
+        Step::Drain => put_lines(&queues.drain(alloc, moment(rest)?)?, out),
+        Step::Joined => return joined(alloc, queues, rest, out),
         Step::Put => return put(alloc, queues, Way::Each, rest, out),
         Step::Once => return put(alloc, queues, Way::Once, rest, out),
         Step::Reserved => return reserved(alloc, queues, rest, out),
@@ -103,16 +107,25 @@ fn take(queues: &mut Queues, now: u64, out: &mut Sink)
     }
 }
 
-fn drain(alloc: Global, queues: &mut Queues, now: u64, out: &mut Sink) -> Result<(), CaseError>
-    requires { now < 32503680000 }
-{
-    let lines = queues.drain(alloc, now)?;
+// MOST NOW
+fn joined(
+    alloc: Global,
+    queues: &mut Queues,
+    rest: &[u8],
+    out: &mut Sink,
+) -> Result<(), CaseError> {
+    let (most, now) = cut(rest, b' ');
+    let lines = queues.drain_joined(alloc, moment(now)?, usize::from(number::<u16>(most)?))?;
+    put_lines(&lines, out);
+    Ok(())
+}
+
+fn put_lines(lines: &Texts, out: &mut Sink) {
     for (i, line) in lines.as_slice().iter().enumerate() {
         out.between(b", ", i);
         out.put(line.as_bytes());
     }
     out.put_if(lines.is_empty(), b"none");
-    Ok(())
 }
 
 // QUEUE COUNT LINE

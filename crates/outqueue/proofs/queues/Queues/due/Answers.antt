@@ -1,4 +1,4 @@
-use Rattle.std.proofs.Common.{◌≡◌, ◌+◌, ◌-◌, ◌*◌, ◌/◌, ◌<◌, length, ap, arith}
+use Rattle.std.proofs.Common.{◌≡◌, length, ap, arith}
 use Rattle.outqueue.specs.Sending.{Sending, sent, count_at}
 use Rattle.outqueue.proofs.Drains.{length-sent}
 use Rattle.outqueue.proofs.queues.Queues.due.Goals as goal
