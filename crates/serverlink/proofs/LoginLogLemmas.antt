@@ -1,5 +1,5 @@
 -- What a login notes in parts, it notes in all.
-use Rattle.std.proofs.Common.{◌≡◌, ◌⊎◌, ℕ, Some}
+use Rattle.std.proofs.Common.{ℕ, Some}
 use Rattle.net.specs.Logs.{Logged, Notes}
 use Rattle.serverlink.specs.LoginLogs.{HasNoted, so_far, more, text_of}
 use Rattle.serverlink.specs.declared.login_entry.LoginEntry.{LoginEntry}

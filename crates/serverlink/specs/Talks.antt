@@ -1,16 +1,29 @@
 -- What each call does to a connection to a server.
-use Rattle.std.specs.Prelude.{◌≡◌, ◌&&◌, not, if◌then◌else◌, ℕ, Bool, true, false, List, Option, None, Some, option_map}
+use Rattle.std.specs.Prelude.{◌≡◌, ◌&&◌, ◌∷◌, [], not, if◌then◌else◌, ℕ, Bool, true, false, List, Option, None, Some, codes, option_map}
 use Rattle.net.specs.Connections.{Talk, Reads, ReadsFewer, SendsOn, named, with_bytes}
 use Rattle.serverlink.specs.Lines.{is_line}
 use Rattle.serverlink.specs.Told.{ended}
 use Rattle.serverlink.specs.Vigils.{care_of, heard as heard_at, is_kept}
 use Rattle.serverlink.specs.declared.server_wire.TheConstants.{MOST}
+use Rattle.serverlink.specs.declared.vigil.Care.{Care}
+use Rattle.serverlink.specs.declared.vigil.Care.TheVariants.{Wait, Ask, LetGo}
 use Rattle.serverlink.specs.declared.irc_connection.TheConstants.{PIECES}
 use Rattle.serverlink.specs.declared.session.Session.{Session}
 
 -- a line is queued with CR and LF; bytes that are not a line are ignored
 abbrev pub told : List ℕ → Talk → Talk
 told line talk = if is_line line then with_bytes MOST (ended line) talk else talk
+
+-- lines are queued, one after another
+abbrev pub told_all : List (List ℕ) → Talk → Talk
+told_all [] talk = talk
+told_all (line ∷ lines) talk = told_all lines (told line talk)
+
+-- the line that pings a silent server
+abbrev pub ping_of : Care → List (List ℕ)
+ping_of Wait = []
+ping_of Ask = codes "PING eggnet" ∷ []
+ping_of (LetGo loss) = []
 
 -- ---- when there may be no connection
 
@@ -26,6 +39,10 @@ woken true talk = option_map named talk
 abbrev pub held : Option Session → Option Session
 held None = None
 held (Some session) = if session.wire.over then None else Some session
+
+-- some lines are queued, and nothing else happens
+abbrev pub TellsMore : Option Talk → Option Talk → Type 0
+TellsMore old new = (lines : List (List ℕ)) × (new ≡ option_map (told_all lines) old)
 
 -- reads of a connection, at least one if the first asks its stream; without one, nothing happens
 abbrev pub MayReadAll : Option Talk → Option Talk → Type 0
@@ -60,3 +77,8 @@ MaySend (Some old) more (Some new) = SendsOn old more new
 abbrev pub stays : ℕ → Option Session → Bool
 stays steady None = false
 stays steady (Some session) = is_kept (care_of session.vigil steady session.is_welcomed)
+
+-- the PING that is due then
+abbrev pub pings : ℕ → Option Session → List (List ℕ)
+pings steady None = []
+pings steady (Some session) = ping_of (care_of session.vigil steady session.is_welcomed)

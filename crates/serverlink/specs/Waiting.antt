@@ -1,12 +1,14 @@
 -- What a connection keeps for the nick that the bot wants, and the lines of the process's own that wait for it.
-use Rattle.std.specs.Prelude.{◌≡◌, ℕ, List, drop, Option, None, Some, option_map}
+use Rattle.std.specs.Prelude.{◌≡◌, ◌++◌, ℕ, List, [], drop, take, Option, None, Some, option_map}
 use Rattle.rfccase.specs.declared.casemappings.Casemapping.{Casemapping}
 use Rattle.ircline.specs.declared.line.Line.{Line}
 use Rattle.ircline.specs.declared.line.Line.TheVariants.{Message as a_message, Bad as a_bad_line}
 use Rattle.ircline.specs.declared.message.Message.{Message}
+use Rattle.net.specs.Connections.{Talk}
 use Rattle.serverlink.specs.Casings.{heard, mapping_in}
 use Rattle.serverlink.specs.Cues.{cue_of}
 use Rattle.serverlink.specs.Regains.{Regaining}
+use Rattle.serverlink.specs.Talks.{told_all}
 use Rattle.serverlink.specs.Wanting.{nick_asked, nick_noted}
 use Rattle.serverlink.specs.declared.session.Session.{Session}
 
@@ -21,9 +23,22 @@ wants_of session = record { mapping = session.casing.mapping; regain = session.r
 abbrev pub wants_in : Option Session → Option Wants
 wants_in session = option_map wants_of session
 
--- of these lines the last wait: those before them were sent
+-- of these lines the last wait
 abbrev pub AreLast : List (List ℕ) → List (List ℕ) → Type 0
 AreLast lines rest = (sent : ℕ) × (rest ≡ drop sent lines)
+
+-- Of these lines the last wait, and those before them are queued for the server in their order: after the lines
+-- `before`, and before the lines `after`. No other line is queued.
+pub record TellsFirst (before lines after rest : List (List ℕ)) (old new : Talk) : Type 0 where
+  pub sent : ℕ
+  pub waits : rest ≡ drop sent lines
+  pub told : new ≡ told_all (before ++ (take sent lines ++ after)) old
+
+-- the same; all lines wait without a connection, and none waits once it is lost
+abbrev pub TellsWaiting : List (List ℕ) → List (List ℕ) → List (List ℕ) → List (List ℕ) → Option Talk → Option Talk → Type 0
+TellsWaiting before lines after rest None new = rest ≡ lines
+TellsWaiting before lines after rest (Some old) None = rest ≡ []
+TellsWaiting before lines after rest (Some old) (Some new) = TellsFirst before lines after rest old new
 
 -- a connection that stays has asked for the nick if that was due
 abbrev pub HasAsked : List ℕ → ℕ → Option Session → Option Session → Type 0

@@ -12,11 +12,11 @@ use settings::Settings;
 use std::alloc::Global;
 
 impl IrcConnection {
-    ghost use Rattle.std.specs.Prelude.{◌≡◌, ◌≢◌, ◌<◌, ◌++◌, None, OnOk, OnErr, drop, is_some, option_map};
+    ghost use Rattle.std.specs.Prelude.{◌≡◌, ◌≢◌, ◌<◌, ◌++◌, ℕ, true, List, [], None, OnOk, OnErr, drop, take, is_some, option_map};
     ghost use Rattle.bytetext.specs.declared.moment.TheConstants.{MOMENTS_END};
     ghost use Rattle.serverlink.specs.Asking.{due_in, question_taken, question_told};
-    ghost use Rattle.serverlink.specs.Talks.{stays, talk_in};
-    ghost use Rattle.serverlink.specs.Waiting.{AreLast, HasAsked, wants_in};
+    ghost use Rattle.serverlink.specs.Talks.{TellsMore, pings, stays, talk_in, told, told_all};
+    ghost use Rattle.serverlink.specs.Waiting.{AreLast, HasAsked, TellsWaiting, wants_in};
     ghost use Rattle.serverlink.specs.Wanting.{asks_in, nick_asked, questions, watches_in};
 
     /// Does what is due at second `now` even if the server says nothing. Pings a silent server, or disconnects it.
@@ -26,7 +26,8 @@ impl IrcConnection {
     /// and the rest by `now`.
     ///
     /// # Errors
-    /// `NoMemory` if an allocation fails: never without a connection. Lines that were queued before it stay queued.
+    /// `NoMemory` if an allocation fails: never without a connection. Lines that were queued before it stay queued. The line
+    /// whose turn it was may be lost.
     pub fn keep<R: AllocGlobal>(
         &mut self,
         rt: &R,
@@ -37,9 +38,15 @@ impl IrcConnection {
         requires moment { now < MOMENTS_END }
         ensures memory { OnErr result (self.old.session ≢ None) }
         ensures stays { is_some self.new.session ≡ stays self.old.steady self.old.session }
-        // A question about the nick that is due is queued after the lines that wait. Of all these the first are sent.
+        // A question about the nick that is due waits after the lines that waited before. Afterwards the last of all these
+        // wait.
         ensures own { OnOk result
             (AreLast (self.old.own ++ questions self.old.session settings.now.nick now) self.new.own) }
+        // Those before them are queued for the server in their order, after a PING that is due. Other lines may follow.
+        ensures told { OnOk result ((after : List (List ℕ))
+            × TellsWaiting (pings self.old.steady self.old.session)
+            (self.old.own ++ questions self.old.session settings.now.nick now) after self.new.own
+            (talk_in self.old.session) (talk_in self.new.session)) }
         ensures asked { OnOk result (HasAsked settings.now.nick now self.old.session self.new.session) }
     {
         let care = match &mut self.session {
@@ -69,6 +76,9 @@ impl IrcConnection {
         ensures same { is_some self.new.session ≡ is_some self.old.session }
         ensures own { OnOk result
             (AreLast (self.old.own ++ questions self.old.session settings.now.nick now) self.new.own) }
+        ensures told { OnOk result ((after : List (List ℕ))
+            × TellsWaiting [] (self.old.own ++ questions self.old.session settings.now.nick now) after self.new.own
+            (talk_in self.old.session) (talk_in self.new.session)) }
         ensures wants { OnOk result
             (wants_in self.new.session ≡ wants_in (nick_asked settings.now.nick now self.old.session)) }
     {
@@ -140,6 +150,7 @@ impl IrcConnection {
         settings: &Settings,
         now: u64,
     ) -> Result<(), NoMemory>
+        ensures told { OnOk result (TellsMore (talk_in self.old.session) (talk_in self.new.session)) }
         ensures same { is_some self.new.session ≡ is_some self.old.session }
         ensures wants { wants_in self.new.session ≡ wants_in self.old.session }
         ensures own { self.new.own ≡ self.old.own }
@@ -160,6 +171,7 @@ impl IrcConnection {
         settings: &Settings,
         now: u64,
     ) -> Result<bool, NoMemory>
+        ensures told { OnOk result (TellsMore (talk_in self.old.session) (talk_in self.new.session)) }
         ensures same { is_some self.new.session ≡ is_some self.old.session }
         ensures wants { wants_in self.new.session ≡ wants_in self.old.session }
         ensures own { self.new.own ≡ self.old.own }
@@ -185,6 +197,7 @@ impl IrcConnection {
         settings: &Settings,
         now: u64,
     ) -> Result<(), NoMemory>
+        ensures told { OnOk result (TellsMore (talk_in self.old.session) (talk_in self.new.session)) }
         ensures same { is_some self.new.session ≡ is_some self.old.session }
         ensures wants { wants_in self.new.session ≡ wants_in self.old.session }
         ensures own { self.new.own ≡ self.old.own }
@@ -247,6 +260,8 @@ impl IrcConnection {
         settings: &Settings,
         now: u64,
     ) -> Result<(), NoMemory>
+        ensures told { OnOk result
+            (TellsWaiting [] self.old.own [] self.new.own (talk_in self.old.session) (talk_in self.new.session)) }
         ensures same { is_some self.new.session ≡ is_some self.old.session }
         ensures wants { wants_in self.new.session ≡ wants_in self.old.session }
         ensures own { AreLast self.old.own self.new.own }
@@ -262,6 +277,8 @@ impl IrcConnection {
 
     // Queues the oldest line of the process's own.
     fn tell_next(&mut self, log: &mut Log, settings: &Settings, now: u64) -> Result<(), NoMemory>
+        ensures told { OnOk result
+            (talk_in self.new.session ≡ option_map (told_all (take 1 self.old.own)) (talk_in self.old.session)) }
         ensures same { is_some self.new.session ≡ is_some self.old.session }
         ensures wants { wants_in self.new.session ≡ wants_in self.old.session }
         ensures own { self.new.own ≡ drop 1 self.old.own }
@@ -280,6 +297,7 @@ impl IrcConnection {
         line: &[u8],
         now: u64,
     ) -> Result<(), NoMemory>
+        ensures told { OnOk result (talk_in self.new.session ≡ option_map (told line.now) (talk_in self.old.session)) }
         ensures same { is_some self.new.session ≡ is_some self.old.session }
         ensures wants { wants_in self.new.session ≡ wants_in self.old.session }
         ensures own { self.new.own ≡ self.old.own }
@@ -295,7 +313,9 @@ impl IrcConnection {
     }
 
     // Whether the process may send a line of its own at second `now`.
-    fn may_tell(&self, now: u64) -> bool {
+    fn may_tell(&self, now: u64) -> bool
+        ensures { result ≡ true → is_some self.now.session ≡ true }
+    {
         match &self.session {
             Some(session) => session.may_tell(now),
             None => false,

@@ -173,7 +173,7 @@ impl Seat {
 
     /// Notes that somebody invited the bot to the channel at second `now`: if the bot is not on it, the process asks five
     /// seconds later, unless it was due sooner. Returns whether it asks sooner than before. However often the bot is invited,
-    /// the process asks at most once in five seconds.
+    /// an invitation brings no JOIN nearer than five seconds from `now`.
     pub fn invite(&mut self, now: u64) -> bool
         ensures sooner { result ≡ is_sooner self.old now }
         ensures invited { self.new ≡ invited self.old now }

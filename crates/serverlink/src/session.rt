@@ -124,6 +124,7 @@ impl Session {
     pub(crate) fn care(&mut self, steady: u64) -> Care
         ensures care { result ≡ care_of self.old.vigil steady self.old.is_welcomed }
         ensures wants { wants_of self.new ≡ wants_of self.old }
+        ensures wire { self.new.wire ≡ self.old.wire }
     {
         let care = self.vigil.care(steady, self.is_welcomed);
         if care == Care::Ask {
