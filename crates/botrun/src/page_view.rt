@@ -1,7 +1,9 @@
 // The page that shows the bot. It sees the process, and changes nothing of it.
 use crate::process::Process;
 use administrators::Seconds;
+use botcore::Bot;
 use bytetext::NoMemory;
+use disks::FileDisk;
 use net::{Log, Watch, Way};
 use page::{
     ChannelView, LinkView, LinksView, LogView, MAX_ROWS, OwnView, PageAnswer, PageRequest,
@@ -12,7 +14,6 @@ use peers::Links;
 use serverlink::IrcConnection;
 use settings::Settings;
 use std::alloc::Global;
-use std::net::SocketAddr;
 
 // Serves the readers of the page, if there is one: hears them, answers at most one request, and sends. A reader for whom
 // memory runs out is disconnected. Returns whether there may be more to do at once.
@@ -30,57 +31,69 @@ pub(crate) fn serve(
     };
     let mut is_busy = server.read(alloc, watch, seconds.steady);
     if let Some(ask) = server.take_request(alloc) {
-        let answer = answer_of(alloc, &ask.request, log, process, settings, seconds.wall);
+        let shown = Shown {
+            own: OwnView {
+                number: settings.station.number,
+                leaves: settings.station.leaves,
+                version: process.bot.version(),
+                asks: process.others.asks.len(),
+                lines: process.uplink.own.len(),
+                admins: process.admins.len(),
+            },
+            uplink: &process.uplink,
+            bot: &process.bot,
+            links: &process.others.mail.links,
+            log,
+            settings,
+        };
+        let answer = answer_of(alloc, &ask.request, &shown, seconds.wall);
         server.answer(ask.number, answer.ok());
         is_busy = true;
     }
     server.send(seconds.steady) || is_busy
 }
 
+// The parts of a process that the page shows. Its functions borrow these, and not the process, as that is proved sooner.
+#[derive(Drop)]
+struct Shown<'a> {
+    own: OwnView,
+    uplink: &'a IrcConnection,
+    bot: &'a Bot<FileDisk>,
+    links: &'a Links,
+    log: &'a Log,
+    settings: &'a Settings,
+}
+
 // Answers a request at second `now`.
-fn answer_of<'a>(
+fn answer_of(
     alloc: Global,
     request: &PageRequest,
-    log: &'a Log,
-    process: &'a Process,
-    settings: &'a Settings,
+    shown: &Shown<'_>,
     now: u64,
 ) -> Result<PageAnswer, NoMemory> {
-    let (uplink, links) = (&process.uplink, &process.others.mail.links);
-    let channels = channels_of(alloc, process)?;
-    let linked = linked_of(alloc, links, process.bot.version(), &request.want)?;
-    let server = server_of(uplink, process.bot.own_nick(), settings);
+    let (uplink, bot, settings) = (shown.uplink, shown.bot, shown.settings);
+    let channels = channels_of(alloc, uplink, bot)?;
+    let linked = linked_of(alloc, shown.links, bot.version(), &request.want)?;
+    let server = server_of(uplink, bot.own_nick(), settings);
     let links = LinksView {
-        place: place_of(links),
+        place: place_of(shown.links),
         linked: linked.count,
         behind: linked.behind,
         unsent: linked.unsent,
         rows: linked.rows.as_slice(),
         next: linked.next,
     };
-    let log = log_view(log);
     let view = PageView {
         now,
-        own: own_of(process, settings),
+        own: shown.own,
         server,
         channels: channels.as_slice(),
         links,
-        userfile: process.bot.userfile(),
-        mapping: process.bot.casemapping(),
-        log,
+        userfile: bot.userfile(),
+        mapping: bot.casemapping(),
+        log: log_view(shown.log),
     };
     answer_to(alloc, request, &view)
-}
-
-fn own_of(process: &Process, settings: &Settings) -> OwnView {
-    OwnView {
-        number: settings.station.number,
-        leaves: settings.station.leaves,
-        version: process.bot.version(),
-        asks: process.others.asks.len(),
-        lines: process.uplink.own.len(),
-        admins: process.admins.len(),
-    }
 }
 
 fn server_of<'a>(
@@ -102,15 +115,19 @@ fn server_of<'a>(
     })
 }
 
-fn channels_of(alloc: Global, process: &Process) -> Result<Vec<ChannelView<'_>>, NoMemory> {
-    let seats = &process.uplink.channels;
+fn channels_of<'a>(
+    alloc: Global,
+    uplink: &'a IrcConnection,
+    bot: &Bot<FileDisk>,
+) -> Result<Vec<ChannelView<'a>>, NoMemory> {
+    let seats = &uplink.channels;
     let mut channels = Vec::with_capacity(alloc, seats.len())?;
     for place in 0..seats.len() {
         if let Some(seat) = seats.get(place) {
             channels.push(ChannelView {
                 name: seat.channel(),
                 is_on: seat.is_on(),
-                is_op: process.bot.is_op_on(seat.channel()),
+                is_op: bot.is_op_on(seat.channel()),
             })?;
         }
     }
@@ -205,20 +222,16 @@ fn row_of(links: &Links, place: usize, version: u32) -> Option<LinkView> {
     } else {
         version.saturating_sub(facts.version)
     };
+    let address = match facts.way {
+        Way::Tcp(address) => Some(address),
+        Way::Tunnel => None,
+    };
     Some(LinkView {
         number: place.min(65_535) as u16,
         version: facts.version,
         behind,
         unsent: facts.unsent,
         since: facts.since,
-        address: address_of(facts.way),
+        address,
     })
-}
-
-// The address of a link, unless it goes through a tunnel.
-fn address_of(way: Way) -> Option<SocketAddr> {
-    match way {
-        Way::Tcp(address) => Some(address),
-        Way::Tunnel => None,
-    }
 }

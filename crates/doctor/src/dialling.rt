@@ -5,7 +5,7 @@ use net::{AnySocket, DialFault, DialTokens, Dialled, Dialling, Watch, Way};
 use std::fs::File;
 use std::io;
 use std::io::ErrorKind;
-use std::net::Net;
+use std::net::{Net, SocketAddr};
 use std::random::RandomSource;
 use std::rt::Files;
 use std::time::Clock;
@@ -31,13 +31,10 @@ pub(crate) fn dial_verdict<R: AllocGlobal + Net + Clock + Files<File = File> + R
     rt: &R,
     target: Target<'_>,
 ) -> Result<Verdict, NoMemory> {
-    match Watch::new(rt, 16) {
-        Ok(mut watch) => verdict_in(connect(rt, &mut watch, target)),
-        Err(error) => verdict_in(Err(untried(&error))),
-    }
-}
-
-fn verdict_in(found: Result<Verdict, Failure<Bad>>) -> Result<Verdict, NoMemory> {
+    let found = match Watch::new(rt, 16) {
+        Ok(mut watch) => connect(rt, &mut watch, target),
+        Err(error) => Err(untried(&error)),
+    };
     match found {
         Ok(verdict) => Ok(verdict),
         Err(Failure::Refused(bad)) => Ok(Verdict::Bad(bad)),
@@ -52,7 +49,11 @@ fn connect<R: AllocGlobal + Net + Clock + Files<File = File> + RandomSource>(
 ) -> Result<Verdict, Failure<Bad>> {
     let mut dialling = Dialling::new(0, LONGEST_WAIT, 1);
     match begin(rt, watch, &mut dialling, target) {
-        Ok(Dialled { mut socket, way }) => verdict_of(rt, watch, &mut socket, way),
+        Ok(Dialled { mut socket, way }) => match way {
+            Way::Tcp(address) => verdict_of(rt, watch, &mut socket, address),
+            // Whether somebody answers at its other end stands in the log of the tunnel.
+            Way::Tunnel => Ok(Verdict::Fine(Fine::Tunnel)),
+        },
         Err(fault) => Err(fault),
     }
 }
@@ -82,36 +83,15 @@ fn begin<R: AllocGlobal + Net + Clock + Files<File = File> + RandomSource>(
 
 // Why no connection can even begin.
 fn unbegun(fault: Failure<DialFault>) -> Failure<Bad> {
-    match fault {
-        Failure::Refused(fault) => Failure::Refused(bad_of(fault)),
-        Failure::NoMemory => Failure::NoMemory,
-    }
-}
-
-fn bad_of(fault: DialFault) -> Bad {
-    match fault {
+    let Failure::Refused(fault) = fault else {
+        return Failure::NoMemory;
+    };
+    Failure::Refused(match fault {
         DialFault::Unreached => Bad::NoWay,
         DialFault::NoTunnel => Bad::NoTunnel,
         DialFault::TunnelBusy => Bad::TunnelBusy,
         DialFault::Unreadable | DialFault::Unknown | DialFault::Unanswered => Bad::Host(fault),
-    }
-}
-
-// What it means that a connection begins this way: whether somebody answers at the host, or nothing more for a tunnel.
-fn verdict_of<R: Clock>(
-    rt: &R,
-    watch: &mut Watch,
-    socket: &mut AnySocket,
-    way: Way,
-) -> Result<Verdict, Failure<Bad>> {
-    let Way::Tcp(address) = way else {
-        return Ok(Verdict::Fine(Fine::Tunnel));
-    };
-    match outcome_of(rt, watch, socket)? {
-        Attempt::Made => Ok(Verdict::Fine(Fine::Answers(address))),
-        Attempt::Failed => Err(Failure::Refused(Bad::Refuses(address))),
-        Attempt::Pending => Err(Failure::Refused(Bad::Silent(address))),
-    }
+    })
 }
 
 // What has become of a connection.
@@ -123,25 +103,27 @@ enum Attempt {
     Failed,
 }
 
-// Waits until the connection is made or has failed, at most `LIMIT`, and returns what has become of it.
-fn outcome_of<R: Clock>(
+// Waits until the connection to `address` is made or has failed, at most `LIMIT`, and returns whether somebody answers.
+fn verdict_of<R: Clock>(
     rt: &R,
     watch: &mut Watch,
     socket: &mut AnySocket,
-) -> Result<Attempt, Failure<Bad>> {
+    address: SocketAddr,
+) -> Result<Verdict, Failure<Bad>> {
     let mut now = milliseconds(rt)?;
     let end = now.saturating_add(LIMIT);
     for _ in 0..u64::MAX {
         match attempt_of(socket) {
             Attempt::Pending => {}
-            ended => return Ok(ended),
+            Attempt::Made => return Ok(Verdict::Fine(Fine::Answers(address))),
+            Attempt::Failed => return Err(Failure::Refused(Bad::Refuses(address))),
         }
         if now >= end {
             break;
         }
         now = rest(rt, watch, end - now)?;
     }
-    Ok(Attempt::Pending)
+    Err(Failure::Refused(Bad::Silent(address)))
 }
 
 fn attempt_of(socket: &mut AnySocket) -> Attempt {

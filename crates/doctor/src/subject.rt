@@ -19,37 +19,24 @@ pub(crate) enum Subject<'a> {
 
 impl Display for Subject<'_> {
     fn fmt<W: fmt::Write>(&self, f: &mut fmt::Formatter<W>) -> fmt::Result {
-        f.write_str(self.word())?;
         match *self {
-            Subject::Files => Ok(()),
-            Subject::Config(name)
-            | Subject::Folder(name)
-            | Subject::Secret(name)
-            | Subject::Password(name) => Shown(name).fmt(f),
-            Subject::Server(address) | Subject::Hub(address) | Subject::Listen(address) => {
-                put_address(f, address)
-            }
+            Subject::Files => f.write_str("the limit of open files"),
+            Subject::Config(name) => put(f, "configuration ", &Shown(name)),
+            Subject::Folder(name) => put(f, "folder ", &Shown(name)),
+            Subject::Secret(name) => put(f, "secret ", &Shown(name)),
+            Subject::Password(name) => put(f, "password ", &Shown(name)),
+            Subject::Server(address) => put_address(f, "server ", address),
+            Subject::Hub(address) => put_address(f, "hub ", address),
+            Subject::Listen(address) => put_address(f, "listen ", address),
         }
     }
 }
 
-impl Subject<'_> {
-    // What was looked at, before its name.
-    fn word(&self) -> &'static str {
-        match *self {
-            Subject::Config(_) => "configuration ",
-            Subject::Folder(_) => "folder ",
-            Subject::Files => "the limit of open files",
-            Subject::Secret(_) => "secret ",
-            Subject::Password(_) => "password ",
-            Subject::Server(_) => "server ",
-            Subject::Hub(_) => "hub ",
-            Subject::Listen(_) => "listen ",
-        }
-    }
-}
-
-fn put_address<W: fmt::Write>(f: &mut fmt::Formatter<W>, address: &Address) -> fmt::Result {
-    Shown(address.host.as_bytes()).fmt(f)?;
+fn put_address<W: fmt::Write>(
+    f: &mut fmt::Formatter<W>,
+    word: &str,
+    address: &Address,
+) -> fmt::Result {
+    put(f, word, &Shown(address.host.as_bytes()))?;
     put(f, if address.tls { " +" } else { " " }, &address.port)
 }

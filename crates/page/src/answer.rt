@@ -17,7 +17,7 @@ use crate::refusals::refusal_text;
 use crate::request::{PageRequest, PageWant};
 use crate::sheet::{MAX_PAGE, Sheet};
 use crate::status::PageStatus;
-use crate::style::put_style;
+use crate::style::STYLE;
 use crate::view::PageView;
 use bytetext::{Failure, NoMemory};
 use std::alloc::Global;
@@ -55,13 +55,15 @@ pub fn answer_to(
     ensures bound { IfOk result (λ answer. length answer.head.items + length answer.body.items ≤ MAX_ANSWER) }
     ensures bodiless { request.now.is_head ≡ true → IfOk result (λ answer. answer.body.items ≡ []) }
 {
-    let Page { status, kind, body } = page_of(alloc, request, view)?;
+    let Page {
+        status,
+        kind,
+        mut body,
+    } = page_of(alloc, request, view)?;
     let head = head_of(alloc, status, kind, body.len(), view.now)?;
-    let body = if request.is_head {
-        Vec::new(alloc)
-    } else {
-        body
-    };
+    if request.is_head {
+        body.clear();
+    }
     Ok(PageAnswer { status, head, body })
 }
 
@@ -109,7 +111,7 @@ fn put_page(sheet: &mut Sheet, want: &PageWant, view: &PageView<'_>) -> Kind {
             Kind::Metrics
         }
         PageWant::Style => {
-            put_style(sheet);
+            sheet.put(STYLE);
             Kind::Style
         }
         PageWant::Refused(status) => {

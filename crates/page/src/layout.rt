@@ -44,14 +44,14 @@ fn put_head(sheet: &mut Sheet, own: OwnView, place: PlaceView, here: PagePath) {
 
 // Appends which bot this is.
 fn put_bot(sheet: &mut Sheet, own: OwnView, place: PlaceView) {
-    let number = u64::from(own.number);
+    sheet.put_form(b"bot $", &[Value::Number(u64::from(own.number))]);
     match place {
-        PlaceView::Alone => sheet.put_form(b"bot $", &[Value::Number(number)]),
+        PlaceView::Alone => {}
         PlaceView::Hub => sheet.put_form(
-            b"bot $, the hub of $ leaves",
-            &[Value::Number(number), Value::Number(u64::from(own.leaves))],
+            b", the hub of $ leaves",
+            &[Value::Number(u64::from(own.leaves))],
         ),
-        PlaceView::Leaf => sheet.put_form(b"bot $, a leaf", &[Value::Number(number)]),
+        PlaceView::Leaf => sheet.put(b", a leaf"),
     }
 }
 

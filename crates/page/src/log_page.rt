@@ -5,7 +5,7 @@ use crate::forms::Value;
 use crate::layout::{put_end, put_top};
 use crate::request::PagePath;
 use crate::sheet::Sheet;
-use crate::view::{LogView, PageView};
+use crate::view::PageView;
 
 // The most lines that the page shows.
 const LINES: usize = 500;
@@ -19,19 +19,14 @@ pub(crate) fn put_log_page(sheet: &mut Sheet, view: &PageView<'_>) {
     sheet.put(
         b"<p>The last lines come first. Reload the page for newer ones.</p>\n<ol class=\"log\">\n",
     );
-    put_log(sheet, view.log);
-    sheet.put(b"</ol>\n");
-    put_end(sheet, view.now);
-}
-
-// Appends the last lines of the log, as many as there is room for.
-fn put_log(sheet: &mut Sheet, log: LogView<'_>) {
     let room = Room {
         lines: LINES,
         bytes: BYTES,
     };
-    let room = put_lines(sheet, log.latest, room);
-    let _left = put_lines(sheet, log.earlier, room);
+    let room = put_lines(sheet, view.log.latest, room);
+    let _left = put_lines(sheet, view.log.earlier, room);
+    sheet.put(b"</ol>\n");
+    put_end(sheet, view.now);
 }
 
 // How much of the log may still be shown.

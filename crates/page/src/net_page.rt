@@ -3,9 +3,7 @@ use crate::forms::Value;
 use crate::layout::{put_end, put_top, put_turns};
 use crate::request::PagePath;
 use crate::sheet::Sheet;
-use crate::view::{
-    ChannelView, LinkView, LinksView, OwnView, PageView, PlaceView, ServerView, SessionView,
-};
+use crate::view::{ChannelView, LinkView, LinksView, OwnView, PageView, PlaceView, ServerView};
 use std::net::SocketAddr;
 use userfile::Userfile;
 
@@ -47,7 +45,25 @@ const OWN: &[u8] = b"<section>\n<h2>This bot</h2>\n<dl>\n\
 fn put_server(sheet: &mut Sheet, server: ServerView<'_>) {
     match server {
         ServerView::Gone { due } => sheet.put_form(GONE, &[Value::Time(due)]),
-        ServerView::Here(session) => put_session(sheet, session),
+        ServerView::Here(session) => {
+            let (class, state) = if session.is_welcomed {
+                (b"good".as_slice(), b"welcomed".as_slice())
+            } else {
+                (b"bad".as_slice(), b"not welcomed yet".as_slice())
+            };
+            sheet.put_form(
+                SESSION,
+                &[
+                    Value::Text(class),
+                    Value::Text(state),
+                    Value::Text(session.host),
+                    Value::Number(u64::from(session.port)),
+                    Value::Text(session.nick),
+                    Value::Time(session.since),
+                    Value::Number(session.unsent as u64),
+                ],
+            );
+        }
     }
 }
 
@@ -55,26 +71,6 @@ const GONE: &[u8] = b"<section>\n<h2>Its server</h2>\n<dl>\n\
 <div><dt>State</dt><dd><strong class=\"bad\">not connected</strong></dd></div>\n\
 <div><dt>Next attempt</dt><dd>$</dd></div>\n\
 </dl>\n</section>\n";
-
-fn put_session(sheet: &mut Sheet, session: SessionView<'_>) {
-    let (class, state) = if session.is_welcomed {
-        (b"good".as_slice(), b"welcomed".as_slice())
-    } else {
-        (b"bad".as_slice(), b"not welcomed yet".as_slice())
-    };
-    sheet.put_form(
-        SESSION,
-        &[
-            Value::Text(class),
-            Value::Text(state),
-            Value::Text(session.host),
-            Value::Number(u64::from(session.port)),
-            Value::Text(session.nick),
-            Value::Time(session.since),
-            Value::Number(session.unsent as u64),
-        ],
-    );
-}
 
 const SESSION: &[u8] = b"<section>\n<h2>Its server</h2>\n<dl>\n\
 <div><dt>State</dt><dd><strong class=\"$\">$</strong></dd></div>\n\
@@ -95,20 +91,16 @@ fn put_channels(sheet: &mut Sheet, channels: &[ChannelView<'_>]) {
 <table>\n<thead><tr><th scope=\"col\">Channel</th><th scope=\"col\">On it</th><th scope=\"col\">Op</th></tr></thead>\n<tbody>\n",
     );
     for channel in channels {
-        put_channel(sheet, *channel);
+        sheet.put_form(
+            b"<tr><th scope=\"row\">$</th><td data-label=\"On it\">$</td><td data-label=\"Op\">$</td></tr>\n",
+            &[
+                Value::Text(channel.name),
+                Value::Answer(channel.is_on),
+                Value::Answer(channel.is_op),
+            ],
+        );
     }
     sheet.put(b"</tbody>\n</table>\n</section>\n");
-}
-
-fn put_channel(sheet: &mut Sheet, channel: ChannelView<'_>) {
-    sheet.put_form(
-        b"<tr><th scope=\"row\">$</th><td data-label=\"On it\">$</td><td data-label=\"Op\">$</td></tr>\n",
-        &[
-            Value::Text(channel.name),
-            Value::Answer(channel.is_on),
-            Value::Answer(channel.is_op),
-        ],
-    );
 }
 
 // The other bots.

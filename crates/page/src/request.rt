@@ -84,7 +84,7 @@ impl PageWant {
 }
 
 // A page, without what is to be shown of it.
-#[derive(Clone, Copy, PartialEq, Eq)]
+#[derive(Clone, Copy, PartialEq)]
 pub(crate) enum PagePath {
     Net,
     Records,

@@ -1,13 +1,7 @@
 // The style sheet: one column on a narrow screen, in light and in dark.
-use crate::sheet::Sheet;
-
-// Appends the style sheet.
-pub(crate) fn put_style(sheet: &mut Sheet) {
-    sheet.put(STYLE);
-}
 
 // Below 40 rem each row of a table is a block, in which each cell has its heading before it.
-const STYLE: &[u8] = b"\
+pub(crate) const STYLE: &[u8] = b"\
 :root{color-scheme:light dark;--ink:#1a1c1e;--paper:#fff;--line:#c4c7cc;--soft:#f1f3f5;--link:#0b57d0;--good:#0a6b2d;--bad:#a3160b}\n\
 @media(prefers-color-scheme:dark){:root{--ink:#e6e7e9;--paper:#15171a;--line:#43474d;--soft:#22252a;--link:#8ab4f8;--good:#7ddc9a;--bad:#ff9d8f}}\n\
 *{box-sizing:border-box}\n\

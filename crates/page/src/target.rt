@@ -27,17 +27,12 @@ pub(crate) fn want_of(alloc: Global, target: &[u8]) -> Result<PageWant, NoMemory
 fn want_in(alloc: Global, uri: &Uri) -> Result<PageWant, NoMemory>
     ensures { IfOk result (λ want. IsWantAt (uri_path uri.now) want) }
 {
-    match PagePath::of(uri.path()) {
-        Some(path) => want_at(alloc, path, query_text(uri)),
-        None => Ok(PageWant::Refused(PageStatus::NoPage)),
-    }
-}
-
-// The query of a target: nothing if it has none.
-fn query_text(uri: &Uri) -> &[u8] {
+    let Some(path) = PagePath::of(uri.path()) else {
+        return Ok(PageWant::Refused(PageStatus::NoPage));
+    };
     match uri.query() {
-        Some(query) => query.as_bytes(),
-        None => b"",
+        Some(query) => want_at(alloc, path, query.as_bytes()),
+        None => want_at(alloc, path, b""),
     }
 }
 
@@ -106,23 +101,15 @@ impl PageQuery {
     // Takes a name and its value.
     fn take(&mut self, alloc: Global, name: &str, value: &str) {
         match name {
-            "from" => self.take_from(value),
-            "who" if !value.is_empty() => self.take_who(alloc, value),
+            "from" => match value.parse::<u64>() {
+                Ok(number) => self.from = number,
+                Err(_) => self.fail(Failure::Refused(NoNumber)),
+            },
+            "who" if !value.is_empty() => match Text::from_slice(alloc, value.as_bytes()) {
+                Ok(who) => self.who = Some(who),
+                Err(_) => self.fail(Failure::NoMemory),
+            },
             _ => {}
-        }
-    }
-
-    fn take_from(&mut self, value: &str) {
-        match value.parse::<u64>() {
-            Ok(number) => self.from = number,
-            Err(_) => self.fail(Failure::Refused(NoNumber)),
-        }
-    }
-
-    fn take_who(&mut self, alloc: Global, value: &str) {
-        match Text::from_slice(alloc, value.as_bytes()) {
-            Ok(who) => self.who = Some(who),
-            Err(_) => self.fail(Failure::NoMemory),
         }
     }
 

@@ -120,8 +120,12 @@ impl Seat {
         }
     }
 
-    // Queues the answer. The connection is over if no memory is left.
-    pub(crate) fn answer(&mut self, answer: &PageAnswer) {
+    // Queues the answer. The connection is over if there is none, or if no memory is left.
+    pub(crate) fn answer(&mut self, answer: &Option<PageAnswer>) {
+        let Some(answer) = answer else {
+            self.connection.is_over = true;
+            return;
+        };
         self.state = SeatState::Takes;
         let told = self
             .connection
@@ -129,11 +133,6 @@ impl Seat {
         if told.is_err() {
             self.connection.is_over = true;
         }
-    }
-
-    // Ends the connection.
-    pub(crate) fn end(&mut self) {
-        self.connection.is_over = true;
     }
 
     // Offers the unsent bytes, once, at second `steady` of the monotonic clock, and ends the connection if it is late.

@@ -164,10 +164,7 @@ impl PageServer {
     pub fn answer(&mut self, number: u64, answer: Option<PageAnswer>) {
         for seat in self.seats.iter_mut() {
             if seat.number == number {
-                match &answer {
-                    Some(answer) => seat.answer(answer),
-                    None => seat.end(),
-                }
+                seat.answer(&answer);
             }
         }
     }
