@@ -1,5 +1,5 @@
 -- The bytes of a stream that pass.
-use Rattle.std.specs.Prelude.{ℕ, Bool, true, ◌+◌, ◌&&◌, nat_lt, List, [], ◌∷◌, ◌++◌, length, if◌then◌else◌}
+use Rattle.std.specs.Prelude.{ℕ, Bool, true, ◌+◌, ◌-◌, ◌&&◌, nat_lt, List, [], ◌∷◌, ◌++◌, length, take, if◌then◌else◌}
 use Rattle.ircline.specs.Classes.{is_end}
 use Rattle.floods.specs.declared.floods.Verdict.{Verdict}
 use Rattle.floods.specs.declared.floods.Verdict.TheVariants.{Passes, Dropped, Ignores, PassesAndIgnores}
@@ -16,6 +16,10 @@ pub record Sieving : Type 0 where
 -- more than 511 of its bytes are kept.
 abbrev pub longer : List ℕ → ℕ → List ℕ
 longer line b = if nat_lt (length line) MAX_LINE then line ++ b ∷ [] else line
+
+-- bytes that end no line go on with the line that has begun
+abbrev pub held : Sieving → List ℕ → Sieving
+held sieve run = record { watch = sieve.watch; line = sieve.line ++ take (MAX_LINE - length sieve.line) run }
 
 -- ---- what one byte does
 

@@ -1,8 +1,8 @@
 // A stream without the lines of who is ignored.
-ghost use Rattle.std.specs.Prelude.{◌≡◌, ◌+◌, ◌++◌, ◌<◌, ◌≤◌, ◌^◌, [], length, IfOk, OnOk, OnErr};
+ghost use Rattle.std.specs.Prelude.{◌≡◌, true, ◌+◌, ◌++◌, ◌<◌, ◌≤◌, ◌^◌, [], length, IfOk, OnOk, OnErr};
 ghost use Rattle.std.specs.Vec.{vec_capacity};
 ghost use Rattle.bytetext.specs.declared.moment.TheConstants.{MOMENTS_END};
-ghost use Rattle.floods.specs.Sifting.{after_bytes, at_byte, begin_of, begins, begun, drop_of, dropped, drops, given, passed, sifted};
+ghost use Rattle.floods.specs.Sifting.{after_bytes, at_byte, begin_of, begins, begun, drop_of, dropped, drops, given, held, passed, sifted};
 ghost use Rattle.ircline.specs.Classes.{is_end};
 ghost use Rattle.floods.specs.Watching.{is_ignored, last_of, without};
 
@@ -11,6 +11,7 @@ use crate::ignores::Ignore;
 use crate::limits::Limits;
 use crate::trusts::Trusts;
 use bytetext::{MOMENTS_END, NoMemory};
+use ircline::first_end;
 use std::alloc::Global;
 use std::marker::Model;
 
@@ -95,9 +96,13 @@ impl Sieve {
             dropped: 0,
             begun: 0,
         };
-        for byte in bytes {
-            self.take(*byte, now, trusts, &mut sifted);
+        let mut rest = bytes;
+        while let Some(place) = first_end(rest) {
+            self.hold(&rest[..place]);
+            self.take_end(rest[place], now, trusts, &mut sifted);
+            rest = &rest[place + 1..];
         }
+        self.hold(rest);
         Ok(sifted)
     }
 
@@ -147,37 +152,37 @@ impl Sieve {
 }
 
 impl Sieve {
-    // Takes one byte of the stream, and appends what passes to `sifted`, which has room for it.
-    fn take<T: Trusts>(&mut self, byte: u8, now: u64, trusts: &T, sifted: &mut Sifted)
+    // Takes bytes of a line, none of which ends it. No more of it is kept than shows that it is too long.
+    fn hold(&mut self, run: &[u8])
+        ensures { self.new ≡ held self.old run.now }
+    {
+        let most = MAX_LINE - self.line.len();
+        let kept = if run.len() <= most { run } else { &run[..most] };
+        let _fits = self.line.extend_from_slice(kept);
+    }
+
+    // Takes the CR or LF that ends a line, and appends the line to `sifted`, which has room for it, if it passes.
+    fn take_end<T: Trusts>(&mut self, end: u8, now: u64, trusts: &T, sifted: &mut Sifted)
         requires moment { now < MOMENTS_END }
+        requires end { is_end end ≡ true }
         requires room { length sifted.old.bytes.items + length self.old.line < vec_capacity sifted.old.bytes }
         requires few { sifted.old.dropped + 1 < 2 ^ 64 }
         requires fewer { sifted.old.begun + 1 < 2 ^ 64 }
-        ensures after { self.new ≡ at_byte (T.trusted trusts.now) now self.old byte }
-        ensures bytes { sifted.new.bytes.items ≡ sifted.old.bytes.items ++ given (T.trusted trusts.now) now self.old byte }
-        ensures dropped { sifted.new.dropped ≡ sifted.old.dropped + drop_of (T.trusted trusts.now) now self.old byte }
-        ensures begun { sifted.new.begun ≡ sifted.old.begun + begin_of (T.trusted trusts.now) now self.old byte }
-        ensures room { length sifted.new.bytes.items + length self.new.line ≤ length sifted.old.bytes.items + length self.old.line + 1 }
+        ensures after { self.new ≡ at_byte (T.trusted trusts.now) now self.old end }
+        ensures bytes { sifted.new.bytes.items ≡ sifted.old.bytes.items ++ given (T.trusted trusts.now) now self.old end }
+        ensures dropped { sifted.new.dropped ≡ sifted.old.dropped + drop_of (T.trusted trusts.now) now self.old end }
+        ensures begun { sifted.new.begun ≡ sifted.old.begun + begin_of (T.trusted trusts.now) now self.old end }
+        ensures line { length self.new.line ≡ 0 }
+        ensures room { length sifted.new.bytes.items ≤ length sifted.old.bytes.items + length self.old.line + 1 }
         ensures capacity { vec_capacity sifted.old.bytes ≤ vec_capacity sifted.new.bytes }
         ensures few { sifted.new.dropped ≤ sifted.old.dropped + 1 }
         ensures fewer { sifted.new.begun ≤ sifted.old.begun + 1 }
     {
-        if is_end(byte) {
-            let verdict = self.floods.judge(self.line.as_slice(), now, trusts);
-            self.line.push_reserved(byte);
-            sifted.put(self.line.as_slice(), verdict);
-            self.line.clear();
-        } else if self.line.len() < MAX_LINE {
-            self.line.push_reserved(byte);
-        }
+        let verdict = self.floods.judge(self.line.as_slice(), now, trusts);
+        self.line.push_reserved(end);
+        sifted.put(self.line.as_slice(), verdict);
+        self.line.clear();
     }
-}
-
-// Whether the byte ends a line.
-fn is_end(byte: u8) -> bool
-    ensures { result ≡ is_end byte }
-{
-    byte == b'\r' || byte == b'\n'
 }
 
 impl Sifted {

@@ -45,6 +45,6 @@ pub use crate::person::Person;
 pub use crate::pieces::read_pieces;
 pub use crate::prefix::source;
 pub use crate::printer::print;
-pub use crate::read::read_line;
+pub use crate::read::{first_end, read_line};
 pub use crate::reader::LineReader;
 pub use crate::sources::Source;

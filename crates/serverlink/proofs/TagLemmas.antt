@@ -1,11 +1,16 @@
 -- Tags that are dropped from a stream, byte by byte, are those of its lines.
-use Rattle.std.proofs.Common.{◌≡◌, ℕ, ◌==◌, ◌||◌, not, Bool, true, false, List, [], ◌∷◌, ◌++◌, refl, sym, ap, ◌∙◌, if◌then◌else◌}
+use Rattle.std.proofs.Common.{◌≡◌, ℕ, zero, suc, ◌+◌, ◌<◌, ◌==◌, ◌||◌, not, Bool, true, false, List, [], ◌∷◌, ◌++◌, length, get_or, take, drop, refl, sym, ap, ◌∙◌, arith, if◌then◌else◌}
+use Rattle.std.specs.Prelude.{None, Some}
+use Rattle.std.proofs.lemmas.Bool.{false≢true, false_from_ne_true, not-true, or_from}
+use Rattle.std.proofs.lemmas.List.{take-append-drop, take_all}
+use Rattle.std.proofs.Math.Seq.{drop-cons}
+use Rattle.bstr.specs.Find.{IsFirstByte}
 use Rattle.std.specs.List.{list_any}
 use Rattle.ircline.specs.Classes.{is_end}
 use Rattle.ircline.specs.Reading.{flush, tail_of}
 use Rattle.serverlink.specs.declared.tags.TagStage.{TagStage}
 use Rattle.serverlink.specs.declared.tags.TagStage.TheVariants.{Front, Tags, Gap, Rest}
-use Rattle.serverlink.specs.Tags.{is_rest, next, passes, stage_after, untagged, with_byte, within, without_tags}
+use Rattle.serverlink.specs.Tags.{is_plain, is_rest, next, passes, stage_after, untagged, with_byte, within, without_tags}
 
 -- ---- pieces
 
@@ -105,3 +110,90 @@ untagged_line (b ∷ line) last more none is =
 
 pub without_tags_plain : (b : ℕ) (line : List ℕ) → b == 64 ≡ false → without_tags (b ∷ line) ≡ b ∷ line
 without_tags_plain b line is = ap (λ (is_at : Bool). if is_at then flush (tail_of line) else b ∷ line) is
+
+-- ---- bytes without tags, line by line
+
+run_none : (text : List ℕ) (i : ℕ) → ((k : ℕ) → k < i → is_end (get_or text k 0) ≡ true → ⊥) → list_any is_end (take i text) ≡ false
+run_none text zero none = refl
+run_none [] (suc i) none = refl
+run_none (b ∷ text) (suc i) none =
+    or_from (is_end b) (list_any is_end (take i text)) (false_from_ne_true (is_end b) (λ is. none 0 (omega arith) is))
+    (run_none text i (λ k less is. none (suc k) (omega (arith, less)) is))
+
+rest_run : (line : List ℕ) → list_any is_end line ≡ false → (untagged Rest line ≡ line) × (stage_after Rest line ≡ Rest)
+rest_run [] none = (refl, refl)
+rest_run (b ∷ line) none =
+    let more = rest_run line (others_of b line none) in (
+      at_other Rest b line (first_of b line none) ∙ ap (λ (r : List ℕ). b ∷ r) more.0,
+      ap (λ (ends : Bool). stage_after (if ends then Front else Rest) line) (first_of b line none) ∙ more.1,
+    )
+
+front_run : (b : ℕ) (line : List ℕ) → list_any is_end (b ∷ line) ≡ false → b == 64 ≡ false
+    → (untagged Front (b ∷ line) ≡ b ∷ line) × (stage_after Front (b ∷ line) ≡ Rest)
+front_run b line none other =
+    let more = rest_run line (others_of b line none) in
+    let within_is : within Front b ≡ Rest = ap (λ (is_at : Bool). if is_at then Tags else Rest) other in (
+      at_other Front b line (first_of b line none)
+          ∙ ap (λ (stage : TagStage). with_byte (is_rest stage) b (untagged stage line)) within_is
+          ∙ ap (λ (r : List ℕ). b ∷ r) more.0,
+      ap (λ (ends : Bool). stage_after (if ends then Front else within Front b) line) (first_of b line none)
+          ∙ ap (λ (stage : TagStage). stage_after stage line) within_is
+          ∙ more.1,
+    )
+
+-- bytes that end no line, at the end of a piece
+pub plain_run : (stage : TagStage) (text : List ℕ) → IsFirstByte is_end text None → is_plain stage text ≡ true → 0 < length text
+    → (untagged stage text ≡ text) × (stage_after stage text ≡ Rest)
+plain_run Front [] first plain some = absurd (omega (arith, some))
+plain_run Front (b ∷ line) first plain some =
+    front_run b line
+    (ap (list_any is_end) (sym (take_all (length (b ∷ line)) (b ∷ line) (omega arith)))
+    ∙ run_none (b ∷ line) (length (b ∷ line)) (λ k less is. first k (omega arith) less is))
+    (not-true (b == 64) plain)
+plain_run Tags text first plain some = absurd (false≢true plain)
+plain_run Gap text first plain some = absurd (false≢true plain)
+plain_run Rest text first plain some =
+    rest_run text
+    (ap (list_any is_end) (sym (take_all (length text) text (omega arith)))
+    ∙ run_none text (length text) (λ k less is. first k (omega arith) less is))
+
+plain_front : (line : List ℕ) (last : ℕ) (more : List ℕ) → list_any is_end line ≡ false → is_end last ≡ true
+    → is_plain Front (line ++ last ∷ more) ≡ true → untagged Front (line ++ last ∷ more) ≡ line ++ last ∷ untagged Front more
+plain_front [] last more none is plain = at_end Front last more is
+plain_front (b ∷ line) last more none is plain =
+    untagged_line (b ∷ line) last more none is
+    ∙ ap (λ (l : List ℕ). l ++ last ∷ untagged Front more) (without_tags_plain b line (not-true (b == 64) plain))
+
+plain_line : (stage : TagStage) (line : List ℕ) (last : ℕ) (more : List ℕ) → list_any is_end line ≡ false → is_end last ≡ true
+    → is_plain stage (line ++ last ∷ more) ≡ true → untagged stage (line ++ last ∷ more) ≡ line ++ last ∷ untagged Front more
+plain_line Front line last more none is plain = plain_front line last more none is plain
+plain_line Tags line last more none is plain = absurd (false≢true plain)
+plain_line Gap line last more none is plain = absurd (false≢true plain)
+plain_line Rest line last more none is plain = rest_line line last more none is
+
+after_line : (stage : TagStage) (line : List ℕ) (last : ℕ) (more : List ℕ) → is_end last ≡ true
+    → stage_after stage (line ++ last ∷ more) ≡ stage_after Front more
+after_line stage line last more is =
+    stage_after-append stage line (last ∷ more)
+    ∙ ap (λ (ends : Bool). stage_after (if ends then Front else within (stage_after stage line) last) more) is
+
+-- a line at the front of a text, with its end
+pub plain_step : (stage : TagStage) (text : List ℕ) (i : ℕ) (next : List ℕ) → IsFirstByte is_end text (Some i) → next ≡ drop (i + 1) text
+    → (stage_after Front next ≡ stage_after stage text)
+    × (is_plain stage text ≡ true → untagged Front next ≡ next → untagged stage text ≡ text)
+plain_step stage text i next first next_is =
+    let line = take i text in
+    let last = get_or text i 0 in
+    let after : suc i ≡ i + 1 = omega arith in
+    let whole : line ++ last ∷ next ≡ text =
+    ap (λ (t : List ℕ). line ++ last ∷ t) (next_is ∙ ap (λ (k : ℕ). drop k text) (sym after))
+    ∙ ap (λ (t : List ℕ). line ++ t) (sym (drop-cons text i 0 first.0.high))
+    ∙ take-append-drop i text in
+    let none = run_none text i (λ k less is. first.0.before k (omega arith) less is) in (
+      sym (after_line stage line last next first.1) ∙ ap (stage_after stage) whole,
+      λ plain same.
+          ap (untagged stage) (sym whole)
+          ∙ plain_line stage line last next none first.1 (ap (is_plain stage) whole ∙ plain)
+          ∙ ap (λ (t : List ℕ). line ++ last ∷ t) same
+          ∙ whole,
+    )

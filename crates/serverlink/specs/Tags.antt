@@ -1,6 +1,6 @@
 -- The tags that stand before a line (IRCv3 message tags): ['@' <tags> <SPACE>] [':' <source> <SPACE>] <command> ..
 -- The bytes: 32 is a space, 64 '@'.
-use Rattle.std.specs.Prelude.{ℕ, ◌==◌, ◌||◌, Bool, true, false, List, [], ◌∷◌, if◌then◌else◌}
+use Rattle.std.specs.Prelude.{ℕ, ◌==◌, ◌||◌, not, Bool, true, false, List, [], ◌∷◌, if◌then◌else◌}
 use Rattle.ircline.specs.Classes.{is_end}
 use Rattle.ircline.specs.Reading.{flush, tail_of}
 use Rattle.serverlink.specs.declared.tags.TagStage.{TagStage}
@@ -26,6 +26,14 @@ is_rest Front = false
 is_rest Tags = false
 is_rest Gap = false
 is_rest Rest = true
+
+-- whether the bytes that come next, up to the end of their line, are no tags'
+abbrev pub is_plain : TagStage → List ℕ → Bool
+is_plain Front [] = true
+is_plain Front (b ∷ bs) = not (b == 64)
+is_plain Tags bytes = false
+is_plain Gap bytes = false
+is_plain Rest bytes = true
 
 -- after a byte that ends a line, the next line begins
 abbrev pub next : TagStage → ℕ → TagStage

@@ -1,7 +1,9 @@
 // The tags of a server's lines.
-ghost use Rattle.std.specs.Prelude.{◌≡◌, ◌≤◌, length, take};
+ghost use Rattle.std.specs.Prelude.{◌≡◌, ◌≤◌, length, take, IfSome};
 ghost use Rattle.ircline.specs.Classes.{is_end};
-ghost use Rattle.serverlink.specs.Tags.{is_rest, next, passes, stage_after, untagged, within};
+ghost use Rattle.serverlink.specs.Tags.{is_plain, is_rest, next, passes, stage_after, untagged, within};
+
+use ircline::first_end;
 
 /// Where in a line the bytes of a server ended. By it the tags that stand before a line (IRCv3 message tags) are dropped in
 /// whatever pieces the line comes: `@`, all bytes up to the first space, and the spaces after. They are dropped whatever
@@ -27,8 +29,46 @@ impl TagStage {
         ensures bytes { bytes.new.items ≡ untagged self.old bytes.old.items }
         ensures stage { self.new ≡ stage_after self.old bytes.old.items }
     {
+        if let Some(stage) = self.after_plain(bytes.as_slice()) {
+            *self = stage;
+            return;
+        }
         let kept = self.move_to_front(bytes.as_mut_slice());
         bytes.truncate(kept);
+    }
+
+    // Where `bytes` end if none of them is a tag's, looked at line by line; `None` if a line of them may have tags.
+    fn after_plain(&self, bytes: &[u8]) -> Option<TagStage>
+        ensures bytes { IfSome result (λ _. untagged self.now bytes.now ≡ bytes.now) }
+        ensures stage { IfSome result (λ stage. stage ≡ stage_after self.now bytes.now) }
+    {
+        let mut stage = *self;
+        let mut rest = bytes;
+        while let Some(place) = first_end(rest) {
+            if !stage.is_plain(rest) {
+                return None;
+            }
+            stage = TagStage::Front;
+            rest = &rest[place + 1..];
+        }
+        if rest.is_empty() {
+            Some(stage)
+        } else if stage.is_plain(rest) {
+            Some(TagStage::Rest)
+        } else {
+            None
+        }
+    }
+
+    // Whether the bytes that come next, up to the end of their line, are no tags'.
+    fn is_plain(&self, bytes: &[u8]) -> bool
+        ensures { result ≡ is_plain self.now bytes.now }
+    {
+        match self {
+            TagStage::Front => !matches!(bytes, [b'@', ..]),
+            TagStage::Tags | TagStage::Gap => false,
+            TagStage::Rest => true,
+        }
     }
 
     // Moves the bytes that pass to the front, in order. Returns how many they are.
