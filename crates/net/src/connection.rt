@@ -10,7 +10,8 @@ use streams::{Given, Stream, Taken};
 // The most bytes that one call of `ask` hears.
 const PIECE: usize = 4_096;
 
-// The most while little is held. Most lines come alone, and the allocator serves so few bytes faster than a whole piece.
+// The most that is held before whole pieces are asked for. Most lines come alone, and the allocator serves so few bytes
+// faster than a whole piece.
 const FIRST_PIECE: usize = 512;
 
 /// The most bytes that a connection holds.
@@ -180,7 +181,7 @@ impl<S: Stream + Drop> Connection<S> {
         ensures room { vec_len self.now.heard + result ≤ self.now.bounds.heard }
     {
         let most = if self.heard.len() < FIRST_PIECE {
-            FIRST_PIECE
+            FIRST_PIECE - self.heard.len()
         } else {
             PIECE
         };
