@@ -372,9 +372,10 @@ class Bot:
         return Path(self.log).read_text(encoding="utf-8", errors="replace") if os.path.exists(self.log) else ""
 
     def spent(self):
-        """Its processor time so far, in milliseconds."""
-        words = Path(f"/proc/{self.process.pid}/stat").read_text(encoding="utf-8").rpartition(")")[2].split()
-        return (int(words[11]) + int(words[12])) * 1000 // os.sysconf("SC_CLK_TCK")
+        """The processor time of its threads so far, in milliseconds, as the scheduler counts it. (/proc/PID/stat counts
+        hundredths of a second.)"""
+        threads = Path(f"/proc/{self.process.pid}/task").iterdir()
+        return sum(int((it / "schedstat").read_text(encoding="utf-8").split()[0]) for it in threads) / 1e6
 
     def memory(self):
         """Its resident memory in kilobytes."""

@@ -88,7 +88,7 @@ def main():
                 time.sleep(1)
                 spent = bot.spent()
                 time.sleep(3)
-                tally.note("then the bot rests", bot.spent() - spent < 50, f"{bot.spent() - spent} ms in 3 s")
+                tally.note("then the bot rests", bot.spent() - spent < 50, f"{bot.spent() - spent:.0f} ms in 3 s")
         finally:
             for it in quiet:
                 if it:

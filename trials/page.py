@@ -240,7 +240,7 @@ def looks_at_strangers(tally, bot, port):
     for _ in range(100):
         socket.create_connection(("127.0.0.1", port), 15).close()
     status = asked(port)[0]
-    tally.note("100 connects that close at once", status == 200, f"{bot.spent() - spent} ms of processor time")
+    tally.note("100 connects that close at once", status == 200, f"{bot.spent() - spent:.0f} ms of processor time")
 
 
 def trickle(port, seconds):
@@ -272,7 +272,7 @@ def looks_at_load(tally, bot, visitor, port, seconds):
         readers.wait()
         slow.join()
     tally.note(f"{RATE} pages a second for {seconds} s: each is answered", out[:1] == out[1:2],
-               f"{out[0]} of {out[1]} in {out[3]} s, the slowest in {out[2]} ms, {bot.spent() - spent} ms of processor time")
+               f"{out[0]} of {out[1]} in {out[3]} s, the slowest in {out[2]} ms, {bot.spent() - spent:.0f} ms of processor time")
     for name, before, after in zip(("on IRC", "at the control socket"), calm, loaded):
         (median, most), (median_after, most_after) = shape(before), shape(after)
         tally.note(f"the median of answers {name} is at most {MOST} ms later", median_after - median <= MOST,
