@@ -3,3 +3,4 @@ pub mod TagLemmas
 pub mod InquiryLemmas
 pub mod WaitingLemmas
 pub mod LoginLogLemmas
+pub mod SpeechLemmas

@@ -1,4 +1,7 @@
 // What a server says, for the registration and the channels.
+ghost use Rattle.std.specs.Prelude.{◌≡◌};
+ghost use Rattle.serverlink.specs.Cues.{is_said};
+
 use crate::casing::name_in;
 use crate::cue::{Cue, cue_of, param};
 use crate::entry::{Entry, Fact};
@@ -87,6 +90,10 @@ impl IrcConnection {
         ensures wants { OnOk result
             (HasHeardMessage message.now own.now settings.now.nick now self.old.session self.new.session) }
     {
+        // Most lines are what somebody says, which means nothing to the connection.
+        if is_said(message) {
+            return Ok(Cue::Nothing);
+        }
         let mapping = self.casemapping();
         self.hear_for_login(alloc, log, settings, line, now)?;
         let cue = cue_of(mapping, message, own);
@@ -367,6 +374,13 @@ impl Session {
             }
         }
     }
+}
+
+// Whether somebody says the message.
+fn is_said(message: &Message) -> bool
+    ensures { result ≡ is_said message.now }
+{
+    message.command.as_bytes() == b"PRIVMSG".as_slice()
 }
 
 // Queues copies of these lines.

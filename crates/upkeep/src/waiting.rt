@@ -22,8 +22,9 @@ pub fn wait<R: Clock>(
 {
     let most = if rests { rest_of_second(rt)? } else { 0 };
     watch.wait(most)?;
-    let wall = timeline.read_clocks(rt)?;
+    let since_1970 = rt.since_1970()?.as_secs();
     let steady = rt.monotonic()?.as_secs();
+    let wall = timeline.read(since_1970, steady);
     Ok(Seconds { wall, steady })
 }
 
