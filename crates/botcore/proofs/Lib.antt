@@ -16,4 +16,5 @@ pub mod RunningLemmas
 pub mod SilentLemmas
 pub mod StickyLemmas
 pub mod StillLemmas
+pub mod UnheardLemmas
 pub mod SharingLemmas

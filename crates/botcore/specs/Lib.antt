@@ -19,3 +19,4 @@ pub mod ServerLines
 pub mod Sharing
 pub mod Shown
 pub mod Steps
+pub mod Said

@@ -69,7 +69,7 @@ pub(crate) fn on_join(
 }
 
 // Whether a nick is the bot's own.
-fn is_own(state: &ChanState, nick: &[u8]) -> bool
+pub(crate) fn is_own(state: &ChanState, nick: &[u8]) -> bool
     ensures { result ≡ is_same_by (mapping_of state.now) nick.now state.now.nick }
 {
     same_by(state.casemapping(), nick, state.own_nick())

@@ -49,6 +49,7 @@ mod server_lines;
 mod sharing;
 mod step;
 mod sticky;
+mod unheard;
 mod user;
 mod watched_command;
 mod wish;

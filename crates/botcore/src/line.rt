@@ -11,6 +11,7 @@ use crate::event::BotEvent;
 use crate::manner::Manner;
 use crate::putting::put_all;
 use crate::report::{End, Faults, Note, Report};
+use crate::unheard::is_said;
 use bytetext::{NoMemory, Seq, Text, TryCopy};
 use chanstate::{ChanState, events};
 use disks::Disk;
@@ -73,8 +74,8 @@ impl<D: Disk> Bot<D> {
         }
     }
 
-    // Calls the procs of a message. Out of memory, only the first of them were called. If no bind waits for messages,
-    // the events of the message are not built.
+    // Calls the procs of a message. Out of memory, only the first of them were called. If no bind waits for messages, or
+    // a quick look shows that the message calls none, the events of the message are not built.
     fn call_for_message<P: Promise, B: Run>(
         &self,
         alloc: Global,
@@ -88,6 +89,11 @@ impl<D: Disk> Bot<D> {
     {
         if !self.binds.hears_messages() {
             return Ok(Dispatch::new(alloc));
+        }
+        match self.calls_none(alloc, message) {
+            Ok(true) => return Ok(Dispatch::new(alloc)),
+            Ok(false) => {}
+            Err(NoMemory) => return Err(Dispatch::new(alloc)),
         }
         match heard_of(alloc, message, self.channels.current()) {
             Ok(occasions) => self.call_procs(alloc, store, self.clock.last(), occasions.as_slice()),
@@ -195,6 +201,10 @@ impl<D: Disk> Bot<D> {
         ensures needs_none { takes_memory message.now self.old.channels ≡ false
             → self.old.channels ≢ connected self.old.config.nick → IsOk result }
     {
+        // Most messages are what somebody says, which changes no channel.
+        if is_said(message) {
+            return Ok(());
+        }
         match self.channels.apply(alloc, message) {
             Ok(()) => {
                 self.welcomed = self.welcomed || is_welcome(message);

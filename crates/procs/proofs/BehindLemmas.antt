@@ -8,9 +8,9 @@ use Rattle.std.proofs.Common.{◌⊎◌, Less, Equal, Greater}
 use Rattle.std.specs.Ordering.{MatchOrdering, ordering_index}
 use Rattle.std.specs.Cmp.{ranks}
 use borrow.Author.Tests.{tests}
-use Rattle.std.proofs.lemmas.Bool.{eqb-true, eq-eqb, ne_eqb, cases_lt, and_parts}
+use Rattle.std.proofs.lemmas.Bool.{eqb-true, eq-eqb, ne_eqb, cases_lt, and_parts, or_parts}
 use Rattle.std.proofs.lemmas.List.Folds.{list_any_none}
-use Rattle.std.specs.List.{cons_option}
+use Rattle.std.specs.List.{cons_option, list_any}
 use Rattle.std.specs.List.Sorted.{IsNonDecreasingBy, IsPartitionPoint}
 use Rattle.wildmask.specs.Signatures.{Pairs, text_signature, is_within}
 use Rattle.procs.specs.declared.bind.Bind.{Bind}
@@ -79,6 +79,16 @@ behind-next event binds entries rest e o first is_o =
 -- what is known of some entries is known of the first and of the rest
 pub known-next : (binds : List Bind) (entries rest : List IndexEntry) (e : IndexEntry) → entries ≡ e ∷ rest → AreKnown binds entries → AreKnown binds (e ∷ rest)
 known-next binds entries rest e first known = subst (AreKnown binds) first known
+
+-- if the subject lacks what each of some entries needs, none of their binds is called
+pub none-needed : (event : Occurrence) (binds : List Bind) (entries : List IndexEntry) → AreKnown binds entries
+    → list_any (λ e. is_within e.needs (text_signature event.subject)) entries ≡ false → called event (behind binds entries) ≡ []
+none-needed event binds [] known none = refl
+none-needed event binds (e ∷ entries) known none =
+    let pairs = text_signature event.subject in
+    let parts = or_parts (is_within e.needs pairs) (list_any (λ (x : IndexEntry). is_within x.needs pairs) entries) none in
+    behind-next event binds (e ∷ entries) entries e None refl (not_needed event e.needs pairs (bind_of e.number binds) known.0 refl parts.0)
+    ∙ none-needed event binds entries known.1 parts.1
 
 -- ---- numbers that rise
 

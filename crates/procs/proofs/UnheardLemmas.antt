@@ -1,11 +1,12 @@
--- The events of a message call nothing where no bind waits for messages.
-use Rattle.std.proofs.Common.{◌≡◌, ◌∙◌, ◌<◌, ◌||◌, ◌&&◌, Bool, true, false, if◌then◌else◌, List, [], ◌∷◌, ◌++◌, map, refl, ap, sym, subst, arith, ne_eqb, lit<}
+-- The events of a message come to nothing where they call no bind, as where no bind waits for messages.
+use Rattle.std.proofs.Common.{◌≡◌, ℕ, ◌∙◌, ◌<◌, ◌||◌, ◌&&◌, Bool, true, false, if◌then◌else◌, List, [], ◌∷◌, ◌++◌, map, refl, ap, sym, subst, arith, ne_eqb, lit<}
 use Rattle.chanstate.specs.declared.event.IrcEvent.{IrcEvent}
 use Rattle.chanstate.specs.declared.event.EventKind.{EventKind}
 use Rattle.chanstate.specs.declared.event.EventKind.TheVariants.{Raw as raw_event, Msg as msg_event, Msgm as msgm_event, Notc as notc_event}
 use Rattle.chanstate.specs.declared.event.EventKind.TheVariants.{Pub as pub_event, Pubm as pubm_event, Join as join_event, Part as part_event}
 use Rattle.chanstate.specs.declared.event.EventKind.TheVariants.{Sign as sign_event, Kick as kick_event, Nick as nick_event}
 use Rattle.chanstate.specs.declared.event.EventKind.TheVariants.{Mode as mode_event, Topc as topc_event, Account as account_event}
+use Rattle.chanstate.specs.EventShape.{with_account}
 use Rattle.procs.specs.Promises.{Promised}
 use Rattle.procs.specs.Seen.{Seen}
 use Rattle.procs.specs.declared.bind.Bind.{Bind}
@@ -23,6 +24,7 @@ use Rattle.procs.specs.Dispatching.{Setting, occurrence_of, told_heard, is_word,
 use Rattle.procs.specs.Heard.{kind_of, person_of, call_by}
 use Rattle.procs.specs.Made.{Made, IsMade}
 use Rattle.procs.specs.Occasions.{kind_for}
+use Rattle.procs.specs.Unheard.{CallNone, CallsNone}
 
 -- the kinds of events of messages come before the others
 message_place : (event : EventKind) → place_of (kind_of event) < 14
@@ -79,31 +81,46 @@ called-silent event kind is (b ∷ binds) none =
     ap (λ t. if t then b ∷ called event binds else called event binds) uncalled
     ∙ called-silent event kind is binds (neither_right (is_of_messages b.kind) (hear_messages binds) none)
 
-module _ (setting : Setting) (none : hear_messages setting.binds ≡ false) where
-  heard-silent : (event : IrcEvent) → told_heard setting event ≡ []
-  heard-silent event =
-      let person = person_of setting.mapping setting.users event in
-      ap (λ (bs : List Bind). told_all setting.code_of setting.names (call_by person.handle event) bs)
-      (called-silent (occurrence_of event person) event.kind refl setting.binds none)
+-- so no event of a message calls one of them
+silent-none : (binds : List Bind) → hear_messages binds ≡ false → (events : List IrcEvent) → CallNone binds events
+silent-none binds none [] = tt
+silent-none binds none (e ∷ es) = (λ person. called-silent (occurrence_of e person) e.kind refl binds none, silent-none binds none es)
 
-  told-silent : (taken : Bool) (event : IrcEvent) → told setting taken (Heard event) ≡ []
-  told-silent taken event = by (setting.exclusive && (taken && is_word (kind_for (Heard event))))
+-- the account of the person behind events doesn't matter
+pub none-account : (binds : List Bind) (account : List ℕ) (events : List IrcEvent) → CallNone binds events
+    → CallNone binds (map (with_account account) events)
+none-account binds account [] none = tt
+none-account binds account (e ∷ es) none = (none.0, none-account binds account es none.1)
+
+module _ (setting : Setting) where
+  heard-none : (event : IrcEvent) → CallsNone setting.binds event → told_heard setting event ≡ []
+  heard-none event none =
+      let person = person_of setting.mapping setting.users event in
+      ap (λ (bs : List Bind). told_all setting.code_of setting.names (call_by person.handle event) bs) (none person)
+
+  told-none : (taken : Bool) (event : IrcEvent) → CallsNone setting.binds event → told setting taken (Heard event) ≡ []
+  told-none taken event none = by (setting.exclusive && (taken && is_word (kind_for (Heard event))))
     where
       by : (t : Bool) → (if t then [] else told_heard setting event) ≡ []
       by true = refl
-      by false = heard-silent event
+      by false = heard-none event none
 
-  from-silent : (next : Next) (events : List IrcEvent) → told_from setting next (map (λ e. Heard e) events) ≡ []
-  from-silent next [] = refl
-  from-silent Stop (e ∷ es) = refl
-  from-silent (Go taken) (e ∷ es) =
+  from-none : (next : Next) (events : List IrcEvent) → CallNone setting.binds events → told_from setting next (map (λ e. Heard e) events) ≡ []
+  from-none next [] none = refl
+  from-none Stop (e ∷ es) none = refl
+  from-none (Go taken) (e ∷ es) none =
       let after = next_after (kind_for (Heard e)) (told setting taken (Heard e)) in
-      ap (λ (ts : List Telling). ts ++ told_from setting after (map (λ e. Heard e) es)) (told-silent taken e) ∙ from-silent after es
+      ap (λ (ts : List Telling). ts ++ told_from setting after (map (λ e. Heard e) es)) (told-none taken e none.0) ∙ from-none after es none.1
 
   -- so nothing is all that they come to
-  pub made-silent : (promised : Promised) (seen : Seen) (events : List IrcEvent) (made : Made) → made ≡ record { calls = []; unbound = [] }
-      → IsMade promised seen made (told_of setting (map (λ e. Heard e) events))
-  made-silent promised seen events made is =
+  pub made-none : (promised : Promised) (seen : Seen) (events : List IrcEvent) (made : Made) → CallNone setting.binds events
+      → made ≡ record { calls = []; unbound = [] } → IsMade promised seen made (told_of setting (map (λ e. Heard e) events))
+  made-none promised seen events made none is =
       let nothing : Made = record { calls = []; unbound = [] } in
       subst (λ (m : Made). IsMade promised seen m (told_of setting (map (λ e. Heard e) events))) (sym is)
-      (subst (IsMade promised seen nothing) (sym (from-silent (Go false) events)) (record { calls = refl; unbound = refl; kept = tt }))
+      (subst (IsMade promised seen nothing) (sym (from-none (Go false) events none)) (record { calls = refl; unbound = refl; kept = tt }))
+
+  -- the same where no bind waits for messages
+  pub made-silent : hear_messages setting.binds ≡ false → (promised : Promised) (seen : Seen) (events : List IrcEvent) (made : Made)
+      → made ≡ record { calls = []; unbound = [] } → IsMade promised seen made (told_of setting (map (λ e. Heard e) events))
+  made-silent none promised seen events made is = made-none promised seen events made (silent-none setting.binds none events) is

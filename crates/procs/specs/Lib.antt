@@ -21,3 +21,4 @@ pub mod Identity
 pub mod Heard
 pub mod Made
 pub mod Occasions
+pub mod Unheard

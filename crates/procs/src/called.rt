@@ -1,7 +1,8 @@
 // The binds that an event calls, one after another.
 ghost use Rattle.std.specs.Prelude.{◌≡◌, [], ◌∷◌, slice_get};
+ghost use Rattle.std.specs.List.{list_any};
 ghost use Rattle.std.specs.Option.{option_copied};
-ghost use Rattle.wildmask.specs.Signatures.{text_signature};
+ghost use Rattle.wildmask.specs.Signatures.{text_signature, is_within};
 ghost use Rattle.procs.specs.Calls.{called, seen};
 ghost use Rattle.procs.specs.Behind.{HaveRisen, Tells, behind, bind_of};
 
@@ -105,6 +106,17 @@ fn if_called<'a>(
     } else {
         None
     }
+}
+
+// Whether `subject` has each pair of bytes that the bind behind one of the entries needs.
+pub(crate) fn has_needed(entries: &[IndexEntry], subject: &[u8]) -> bool
+    ensures { result ≡ list_any (λ e. is_within e.needs (text_signature subject.now)) entries.now }
+{
+    if entries.is_empty() {
+        return false;
+    }
+    let pairs = Signature::of(subject);
+    entries.iter().any(|entry| entry.needs.is_within(pairs))
 }
 
 // Returns the bind with this number.

@@ -3,7 +3,7 @@
 use crate::bind::{Bind, Binds};
 use crate::bind_fault::{BindError, BindFault};
 use crate::bind_kind::BindKind;
-use crate::called::{Called, held_of};
+use crate::called::{Called, has_needed, held_of};
 use crate::event::BindEvent;
 use crate::hearing::hear_messages;
 use crate::held::{Held, binds_of};
@@ -53,14 +53,14 @@ impl Model for BindTable {
 }
 
 impl BindTable {
-    ghost use Rattle.std.specs.Prelude.{◌≡◌, ◌↔◌, true, ◌+◌, None, false, true, find, map, ◌<◌, IfOk, IfErr, OnOk, OnErr, length};
+    ghost use Rattle.std.specs.Prelude.{◌≡◌, ◌↔◌, true, ◌+◌, None, false, true, find, map, ◌<◌, IfOk, IfErr, IsTrue, OnOk, OnErr, length, []};
     ghost use Rattle.std.specs.List.{list_any};
     ghost use Rattle.flagexpr.specs.Expression.{expression_of};
     ghost use Rattle.flagexpr.specs.Faults.{expression_fault};
     ghost use Rattle.procs.specs.Tables.{Asked, no_binds, is_full, later_refusal, bound, number_of, Binds, Unbinds};
     ghost use Rattle.procs.specs.Sound.{IsSound};
     ghost use Rattle.procs.specs.Wishes.{IsWish, asked_of};
-    ghost use Rattle.procs.specs.Calls.{Calls, called, is_called, numbers_of, seen};
+    ghost use Rattle.procs.specs.Calls.{Calls, Occurrence, called, is_called, numbers_of, seen};
     ghost use Rattle.procs.specs.Behind.{bind_of};
     ghost use Rattle.procs.specs.Hearing.{hear_messages};
     ghost use Rattle.std.specs.Option.{option_copied};
@@ -166,6 +166,19 @@ impl BindTable {
         let index = &self.indexes[place_of(event.kind)];
         let entries = index.candidates(event.kind, event.subject);
         Called::of(&self.held, entries, event)
+    }
+
+    /// Returns whether a quick look at the keywords of `kind`, and at the pairs of bytes that its masks need, shows that
+    /// no event of `kind` with this `subject` calls a bind, whoever it is by. `false` says nothing: [`called`] then
+    /// decides. Does not allocate.
+    ///
+    /// [`called`]: BindTable::called
+    pub fn takes_none(&self, kind: BindKind, subject: &[u8]) -> bool
+        ensures { IsTrue result → (event : Occurrence) → event.kind ≡ kind → event.subject ≡ subject.now
+            → called event self.now.binds ≡ [] }
+    {
+        let index = &self.indexes[place_of(kind)];
+        !has_needed(index.candidates(kind, subject), subject)
     }
 
     /// Returns whether a bind waits for messages of the server. The other kinds wait for texts of bots and for

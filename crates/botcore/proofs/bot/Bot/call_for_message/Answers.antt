@@ -7,7 +7,7 @@ use Rattle.procs.specs.Promises.{Promised}
 use Rattle.procs.specs.Seen.{Seen}
 use Rattle.procs.specs.Tellings.{Telling}
 use Rattle.procs.specs.declared.trigger.Trigger.TheVariants.{Heard as heard_event}
-use Rattle.procs.proofs.UnheardLemmas.{made-silent}
+use Rattle.procs.proofs.UnheardLemmas.{made-none, made-silent}
 use Rattle.botcore.specs.Bots.{Bot, bot_seen, bot_setting}
 use Rattle.botcore.proofs.bot.Bot.call_for_message.Goals as goal
 
@@ -29,3 +29,16 @@ returns-in-Err-clause-dispatched g c =
     front-empty g.P.Promise.promised (bot_seen c.args.self.now) c.new-in-Err.result
     (told_of (bot_setting g.P.Promise.promised c.args.store.now c.args.self.now)
     (map (λ e. heard_event e) (events_of c.args.message.now c.args.self.now.channels))) c.new-in-Err.ensures
+
+pub returns-in-Err-heard_of-clause-dispatched : goal.returns-in-Err-heard_of-clause-dispatched
+returns-in-Err-heard_of-clause-dispatched g c =
+    front-empty g.P.Promise.promised (bot_seen c.args.self.now) c.new-in-Err-heard_of.result
+    (told_of (bot_setting g.P.Promise.promised c.args.store.now c.args.self.now)
+    (map (λ e. heard_event e) (events_of c.args.message.now c.args.self.now.channels))) c.new-in-Err-heard_of.ensures
+
+-- where a quick look shows that the message calls no bind, no call is all that its events come to
+pub returns-in-Ok-true-clause-dispatched : goal.returns-in-Ok-true-clause-dispatched
+returns-in-Ok-true-clause-dispatched g c =
+    made-none (bot_setting g.P.Promise.promised c.args.store.now c.args.self.now) g.P.Promise.promised (bot_seen c.args.self.now)
+    (events_of c.args.message.now c.args.self.now.channels) c.new-in-Ok-true.result (c.in-Ok-true.ensures c.in-Ok-true.field-0-test)
+    c.new-in-Ok-true.ensures
