@@ -62,7 +62,8 @@
 //! [`BindTable`] holds up to [`MAX_BINDS`] binds. [`bind`](BindTable::bind) and [`unbind`](BindTable::unbind) change
 //! it, [`called`](BindTable::called) iterates over the binds that a [`BindEvent`] calls without allocating,
 //! [`find`](BindTable::find) returns their numbers, [`get`](BindTable::get) the bind with a number, and
-//! [`list`](BindTable::list) all of them.
+//! [`list`](BindTable::list) all of them. [`takes_none`](BindTable::takes_none) is a quick look that may show that no bind
+//! takes a text, before the events of a message are built.
 //!
 //! ```text
 //! let mut table = BindTable::new(alloc);
