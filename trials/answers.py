@@ -5,8 +5,8 @@
 
 PROGRAM is the program to try, else what EGGNET names, else ours. At `eggnet serve`, and at ngircd and InspIRCd where they are
 installed, somebody says `!echo` to the bot: fifteen times while its pace leaves room, and then thirty times at once. The answers
-of half the fifteen come within 20 ms, and of nine in ten within 100; of the thirty the first come at once, and all of them come at
-the pace of one in two seconds, while the bot stays at the server.
+of half the fifteen come within 20 ms, and of nine in ten within 100; of the thirty the first come at once, and the twenty that may
+wait for one channel come at the pace of one in two seconds, while the bot stays at the server. The others are refused.
 The last line is 'N well, M bad'; the status is 1 where any is bad.
 """
 import re
@@ -23,7 +23,8 @@ PAUSE = 9  # seconds in which the room comes back
 MEDIAN, NEARLY_ALL = 20, 100  # milliseconds: of half the answers, and of nine in ten
 FLOOD = 30
 AT_ONCE = 4  # answers of the thirty that come in the first second, at the least
-SLOWEST = 75  # seconds for all thirty
+WAITING = 20  # answers that may wait for one channel
+SLOWEST = 75  # seconds until they have come
 
 
 def waited(guest, word):
@@ -61,10 +62,11 @@ def floods(tally, guest, bot, name):
         return [line for line in guest.lines[since:] if re.search(rf"^:{bot.nick}!\S+ PRIVMSG #egg :?flood\d+$", line)]
     time.sleep(max(0, began + 1 - time.monotonic()))
     first = len(heard())
-    all_came = comes(lambda: len(heard()) == FLOOD, SLOWEST)
+    all_came = comes(lambda: len(heard()) >= AT_ONCE + WAITING, SLOWEST)
     took = time.monotonic() - began
     tally.note(f"{name}: of {FLOOD} lines at once the first answers come in the first second", first >= AT_ONCE, str(first))
-    tally.note(f"{name}: and all come, no faster than the pace", bool(all_came) and took >= 2 * (FLOOD - 6), f"{len(heard())} in {took:.1f} s")
+    slow = bool(all_came) and took >= 2 * (AT_ONCE + WAITING - 6)
+    tally.note(f"{name}: and those that may wait, no faster than the pace", slow, f"{len(heard())} in {took:.1f} s")
     gone = [line for line in guest.lines[since:] if line.startswith(f":{bot.nick}!") and " QUIT" in line]
     tally.note(f"{name}: the bot is still there", not gone and bot.process.poll() is None, str(gone))
 
