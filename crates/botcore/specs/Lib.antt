@@ -19,4 +19,3 @@ pub mod ServerLines
 pub mod Sharing
 pub mod Shown
 pub mod Steps
-pub mod Said

@@ -11,7 +11,6 @@ use crate::event::BotEvent;
 use crate::manner::Manner;
 use crate::putting::put_all;
 use crate::report::{End, Faults, Note, Report};
-use crate::unheard::is_said;
 use bytetext::{NoMemory, Seq, Text, TryCopy};
 use chanstate::{ChanState, events};
 use disks::Disk;
@@ -202,7 +201,7 @@ impl<D: Disk> Bot<D> {
             → self.old.channels ≢ connected self.old.config.nick → IsOk result }
     {
         // Most messages are what somebody says, which changes no channel.
-        if is_said(message) {
+        if message.is_said() {
             return Ok(());
         }
         match self.channels.apply(alloc, message) {

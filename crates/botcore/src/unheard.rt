@@ -3,12 +3,11 @@
 // Most lines are what people say on channels, and most of these call no bind. A quick look at the binds often shows it
 // before the events of the message are built.
 ghost use Rattle.std.specs.Prelude.{◌≡◌, ◌∷◌, ◌++◌, IfOk};
-ghost use Rattle.chanstate.specs.Speech.{is_hidden};
-ghost use Rattle.botcore.specs.Said.{is_said};
 
 use crate::bot::Bot;
 use crate::joining::is_own;
 use bytetext::{NoMemory, first_word};
+use chanstate::is_for_programs;
 use disks::Disk;
 use ircline::Message;
 use procs::BindKind;
@@ -26,7 +25,7 @@ impl<D: Disk> Bot<D> {
         ensures { IfOk result (λ none. IsTrue none → CallNone self.now.binds.binds (events_of message.now self.now.channels)) }
     {
         let command = message.command.as_bytes();
-        if !is_said(message) || !self.binds.takes_none(BindKind::Raw, command) {
+        if !message.is_said() || !self.binds.takes_none(BindKind::Raw, command) {
             return Ok(false);
         }
         match message.params.as_slice() {
@@ -66,20 +65,6 @@ impl<D: Disk> Bot<D> {
         let subject = on_channel(alloc, channel, text)?;
         Ok(self.binds.takes_none(BindKind::Pubm, subject.as_slice()))
     }
-}
-
-// Whether a message is what somebody says.
-pub(crate) fn is_said(message: &Message) -> bool
-    ensures { result ≡ is_said message.now }
-{
-    message.command.as_bytes() == b"PRIVMSG".as_slice()
-}
-
-// Whether a text is only for programs: it begins with byte 1.
-fn is_for_programs(text: &[u8]) -> bool
-    ensures { result ≡ is_hidden text.now }
-{
-    !text.is_empty() && text[0] == 1
 }
 
 // Returns `channel`, a space and `text`, as the masks of pubm binds see them.

@@ -7,6 +7,7 @@ pub mod ItemLaws
 pub mod WindowLaws
 pub mod RequestLaws
 pub mod BaseLaws
+pub mod PassingLaws
 pub mod LengthLaws
 pub mod MeaningLaws
 pub mod JournalLaws

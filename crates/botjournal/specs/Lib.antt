@@ -4,6 +4,7 @@ pub mod Sums
 pub mod Entries
 pub mod Bases
 pub mod Empty
+pub mod Passing
 pub mod CutShort
 pub mod Contents
 pub mod Journal

@@ -1,17 +1,19 @@
 // Bases as bytes.
 ghost use Rattle.std.specs.Prelude.{◌≡◌, ◌<◌, ◌++◌, IfOk, IfErr, IfSome, OnOk};
+ghost use Rattle.std.specs.Option.{is_some};
 ghost use Rattle.botjournal.specs.declared.base.Base.{Base};
 ghost use Rattle.botjournal.specs.Empty.{item_count, FindsSome};
 ghost use Rattle.botjournal.specs.Bases.{base_bytes, base_in, IsGoodBase, HasShapes, IsBaseOf};
 ghost use Rattle.botjournal.specs.Bases.{base_bytes_by, IsGoodBaseBy, IsBaseBy, FindsBase, is_of_its_bot};
 ghost use Rattle.botjournal.specs.Bases.{parts_at, base_at};
+ghost use Rattle.botjournal.specs.Passing.{FindsAround};
 ghost use Rattle.botjournal.specs.declared.layouts.Layout.TheVariants.{Fourth};
 
 use crate::base::Base;
 use crate::layouts::Layout;
-use crate::lists::{put_records, put_replies, records, replies};
+use crate::lists::{pass_records, put_records, put_replies, records, replies};
 use crate::requests::{out, put_requests};
-use bytetext::{Failure, NoMemory};
+use bytetext::{Failure, NoMemory, Seq};
 use std::alloc::Global;
 use usercodec::{CodecError, CodecFault, Reader, put_u16, put_u32};
 
@@ -115,6 +117,53 @@ fn parts(alloc: Global, layout: Layout, reader: &mut Reader<'_>) -> Result<Base,
         bot,
         version,
         records,
+        replies,
+        last_request,
+        out,
+    })
+}
+
+/// Returns whether all of `bytes` are the spelling of a base in `layout`. Builds its replies and requests, but no
+/// record, except in layout 1.
+///
+/// # Errors
+/// `NoMemory` if it cannot allocate room for what it builds.
+pub(crate) fn is_base_by(alloc: Global, layout: Layout, bytes: &[u8]) -> Result<bool, NoMemory>
+    ensures { IfOk result (λ is. is ≡ is_some (base_in layout bytes.now)) }
+{
+    let mut reader = Reader::new(bytes);
+    match base_around(alloc, layout, &mut reader) {
+        Ok(_) => Ok(reader.is_empty()),
+        Err(Failure::Refused(_)) => Ok(false),
+        Err(Failure::NoMemory) => Err(NoMemory),
+    }
+}
+
+// Reads a base, and passes over its records: the result has none.
+#[tactic(auto, unfolding(crate::specs::Bases::base_at))]
+fn base_around(alloc: Global, layout: Layout, reader: &mut Reader<'_>) -> Result<Base, CodecError>
+    ensures { FindsAround result (base_at layout reader.old) reader.new }
+{
+    let base = parts_around(alloc, layout, reader)?;
+    if !is_of_its_bot(&base) {
+        return Err(Failure::Refused(CodecFault::NotCanonical));
+    }
+    Ok(base)
+}
+
+#[tactic(auto, unfolding(crate::specs::Bases::parts_at))]
+fn parts_around(alloc: Global, layout: Layout, reader: &mut Reader<'_>) -> Result<Base, CodecError>
+    ensures { FindsAround result (parts_at layout reader.old) reader.new }
+{
+    let bot = reader.u16()?;
+    let version = reader.u32()?;
+    pass_records(alloc, layout, reader)?;
+    let replies = replies(alloc, layout, reader)?;
+    let (last_request, out) = out(alloc, layout, reader)?;
+    Ok(Base {
+        bot,
+        version,
+        records: Seq::empty(alloc),
         replies,
         last_request,
         out,

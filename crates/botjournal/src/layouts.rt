@@ -2,6 +2,7 @@
 ghost use Rattle.std.specs.Prelude.{◌≡◌, ◌<◌, length};
 ghost use Rattle.usercodec.specs.Answers.{Makes};
 ghost use Rattle.botjournal.specs.Empty.{FindsSome};
+ghost use Rattle.botjournal.specs.Passing.{PassesSome};
 ghost use Rattle.botjournal.specs.Layouts.{layout_of, change_by, so_many_records_by};
 
 use crate::LAYOUT;
@@ -63,5 +64,25 @@ pub(crate) fn so_many_records(
         Layout::Second => reader.records(alloc, count),
         Layout::Third => reader.records(alloc, count),
         Layout::Fourth => reader.records(alloc, count),
+    }
+}
+
+// Passes over `count` records. Only those of layout 1 are built on the way.
+pub(crate) fn pass_so_many_records(
+    alloc: Global,
+    layout: Layout,
+    reader: &mut Reader<'_>,
+    count: usize,
+) -> Result<(), CodecError>
+    ensures { PassesSome result (so_many_records_by layout count reader.old) reader.new }
+{
+    match layout {
+        Layout::First => match reader.records_old(alloc, count) {
+            Ok(_) => Ok(()),
+            Err(error) => Err(error),
+        },
+        Layout::Second => reader.pass_records(count),
+        Layout::Third => reader.pass_records(count),
+        Layout::Fourth => reader.pass_records(count),
     }
 }

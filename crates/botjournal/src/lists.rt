@@ -7,11 +7,12 @@ ghost use Rattle.usercodec.specs.Records.{record_bytes, HasShape, items_at};
 ghost use Rattle.botjournal.specs.Bases.{listed, answer_bytes, reply_bytes};
 ghost use Rattle.botjournal.specs.Bases.{are_rising, is_next_reply, may_follow, are_kept, are_kept_by};
 ghost use Rattle.botjournal.specs.Empty.{FindsSome};
+ghost use Rattle.botjournal.specs.Passing.{PassesSome};
 ghost use Rattle.botjournal.specs.declared.TheConstants.{WINDOW};
 ghost use Rattle.botjournal.specs.Bases.{answer_at, answer_from, reply_at, records_at, replies_at, replies_listed_at};
 
 use crate::WINDOW;
-use crate::layouts::{Layout, so_many_records};
+use crate::layouts::{Layout, pass_so_many_records, so_many_records};
 use crate::reply::{Reply, Verdict};
 use bytetext::{Failure, NoMemory, Seq};
 use std::alloc::Global;
@@ -77,6 +78,19 @@ pub(crate) fn records(
     let count = reader.u16()?;
     let records = so_many_records(alloc, layout, reader, count as usize)?;
     Ok(Seq::new(records))
+}
+
+// Passes over the records that follow their count.
+#[tactic(auto, unfolding(crate::specs::Bases::records_at))]
+pub(crate) fn pass_records(
+    alloc: Global,
+    layout: Layout,
+    reader: &mut Reader<'_>,
+) -> Result<(), CodecError>
+    ensures { PassesSome result (records_at layout reader.old) reader.new }
+{
+    let count = reader.u16()?;
+    pass_so_many_records(alloc, layout, reader, count as usize)
 }
 
 #[tactic(auto, unfolding(crate::specs::Bases::replies_at))]

@@ -12,7 +12,7 @@ ghost use Rattle.botjournal.specs.Journal.{Creates, Opens, Restarts, IsNotRefuse
 
 use crate::LAYOUT;
 use crate::base::Base;
-use crate::bases::read_base_by;
+use crate::bases::{is_base_by, read_base_by};
 use crate::entries::read_entry_by;
 use crate::entry::Entry;
 use crate::journal::BotJournal;
@@ -207,9 +207,8 @@ fn is_spelled(alloc: Global, older: &Option<Older>) -> Result<bool, NoMemory>
         Some(_) => {}
         None => return Ok(false),
     }
-    match read_base_by(alloc, layout, body_in(layout, older.base.as_bytes()))? {
-        Some(_) => {}
-        None => return Ok(false),
+    if !is_base_by(alloc, layout, body_in(layout, older.base.as_bytes()))? {
+        return Ok(false);
     }
     let read = read_entries(alloc, layout, entries)?;
     Ok(read.is_some())

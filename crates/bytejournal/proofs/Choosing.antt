@@ -1,17 +1,18 @@
 -- What a journal is opened as.
-use Rattle.std.proofs.Common.{◌≡◌, IsTrue, ◌↔◌, ◌<◌, ◌≤◌, ℕ, Bool, true, false, Option, None, Some, Ok, List, [], ◌∷◌, ◌++◌, length, get_or, take, drop, refl, sym, ◌∙◌, ap, subst, arith, take-append-drop, length-drop, ltb}
+use Rattle.std.proofs.Common.{◌≡◌, ◌≢◌, IsTrue, ◌↔◌, ◌<◌, ◌≤◌, ℕ, Bool, true, false, Option, None, Some, Ok, List, [], ◌∷◌, ◌++◌, length, get_or, take, drop, refl, sym, ◌∙◌, ap, subst, arith, take-append-drop, length-drop, ltb}
 use Rattle.std.proofs.lemmas.List.{append-nil, get_or-drop}
 use Rattle.std.proofs.lemmas.Bool.Decides.{nat_tests}
-use Rattle.std.specs.Prelude.{option_map}
+use Rattle.std.specs.Prelude.{option_map, slice_index}
 use Rattle.std.specs.Option.{is_some}
 use Rattle.disks.specs.State.{State, IsSettled}
 use Rattle.bytejournal.specs.declared.reading.Found.{Found}
+use Rattle.bytejournal.specs.declared.journal.Journal.{Journal}
 use Rattle.bytejournal.specs.declared.opening.Opened.{Opened}
-use Rattle.bytejournal.specs.Meaning.{Contents, Held, held, chosen, IsWhole}
+use Rattle.bytejournal.specs.Meaning.{Contents, Held, held, chosen, IsFront, IsWhole}
 use Rattle.bytejournal.specs.Meaning.Held.{Shut, Broken, Open}
 use Rattle.bytejournal.specs.Reading.{IsFound, EndsAt}
 use Rattle.bytejournal.specs.Journal.{IdleIs, IsAtRest}
-use Rattle.bytejournal.specs.Opening.{Chooses, opened_as, older_of, held_older}
+use Rattle.bytejournal.specs.Opening.{Chooses, IsOpenedAs, opened_as, older_of, held_older}
 use Rattle.bytejournal.proofs.Fronts.{front_closed, front_alone, shut_gate, whole_shut}
 use Rattle.bytejournal.proofs.Images.{at_gate}
 use Rattle.bytejournal.proofs.Pairs.{chosen_comm}
@@ -111,35 +112,52 @@ module _ {D : Type 0} (state : D → State) where
     found_whole : IsWhole (state active).seen → IsWhole (state idle).seen → whole ≡ true
     found_whole active_whole idle_whole = test.1 (found_inside (state active).seen found is active_whole, beside.inside idle_whole)
 
+  -- a journal at rest is so on disks in the same state
+  same_rest : (journal : Journal D) (active idle : D) → state active ≡ state journal.active → state idle ≡ state journal.idle
+      → IsAtRest state journal → IsAtRest state (record journal { active = active; idle = idle })
+  same_rest journal active idle one two is = record {
+    contents = is.contents;
+    front = subst (λ (s : State). IsFront (take journal.gate s.seen) is.contents) (sym one) is.front;
+    inside = subst (λ (s : State). journal.gate < length s.seen) (sym one) is.inside;
+    closed = subst (λ (s : State). slice_index s.seen journal.gate ≢ 1) (sym one) is.closed;
+    layout = is.layout;
+    generation = is.generation;
+    idle = subst (λ (s : State). IdleIs journal.idle_open is.contents.generation s.seen) (sym two) is.idle;
+    idle_whole = subst (λ (s : State). IsWhole s.seen) (sym two) is.idle_whole;
+    active_settled = subst IsSettled (sym one) is.active_settled;
+    idle_settled = subst IsSettled (sym two) is.idle_settled;
+  }
+
   pub opens_first : (first second : D) (whole : Bool) (found : Found) (older : Option Found) (gate : ℕ) (result : Opened D)
-      → result ≡ opened_as first second false whole found older → IsFound (state first).seen found
+      → IsOpenedAs state first second false whole found older result → IsFound (state first).seen found
       → held (state second).seen ≡ held_older (option_map older_of older)
       → chosen (Open (found_contents found)) (held (state second).seen) ≡ Some (found_contents found)
       → IsIdle (is_some older) found.generation (state second).seen gate
       → (IsTrue whole ↔ ((found.gate < length (state first).seen) × (gate < length (state second).seen))) → Chooses state first second (Ok result)
   opens_first first second whole found older gate result is reads other counts beside test =
-      subst (λ r. Chooses state first second (Ok r)) (sym is) (
-        refl,
-        refl,
+      subst (λ r. Chooses state first second (Ok r)) (sym is.opened_is) (
+        is.active_is,
+        is.idle_is,
         λ settled settled'. record {
           found = ap (λ (h : Held). chosen h (held (state second).seen)) (found_held (state first).seen found reads) ∙ counts;
           active = found_held (state first).seen found reads;
           idle = other;
           going = refl;
           whole = found_whole first second false whole found older gate reads beside test;
-          at_rest = found_at_rest first second false whole found older gate reads beside test settled settled';
+          at_rest = λ is_whole. same_rest (opened_as first second false whole found older).journal result.journal.active result.journal.idle
+              is.active_is is.idle_is (found_at_rest first second false whole found older gate reads beside test settled settled' is_whole);
         },
       )
 
   pub opens_second : (first second : D) (whole : Bool) (found : Found) (older : Option Found) (gate : ℕ) (result : Opened D)
-      → result ≡ opened_as second first true whole found older → IsFound (state second).seen found
+      → IsOpenedAs state second first true whole found older result → IsFound (state second).seen found
       → held (state first).seen ≡ held_older (option_map older_of older)
       → chosen (Open (found_contents found)) (held (state first).seen) ≡ Some (found_contents found) → IsIdle (is_some older) found.generation (state first).seen gate
       → (IsTrue whole ↔ ((found.gate < length (state second).seen) × (gate < length (state first).seen))) → Chooses state first second (Ok result)
   opens_second first second whole found older gate result is reads other counts beside test =
-      subst (λ r. Chooses state first second (Ok r)) (sym is) (
-        refl,
-        refl,
+      subst (λ r. Chooses state first second (Ok r)) (sym is.opened_is) (
+        is.idle_is,
+        is.active_is,
         λ settled settled'. record {
           found = ap (chosen (held (state first).seen)) (found_held (state second).seen found reads)
               ∙ chosen_comm (held (state first).seen) (Open (found_contents found)) ∙ counts;
@@ -147,6 +165,7 @@ module _ {D : Type 0} (state : D → State) where
           idle = other;
           going = refl;
           whole = λ first_whole second_whole. found_whole second first true whole found older gate reads beside test second_whole first_whole;
-          at_rest = found_at_rest second first true whole found older gate reads beside test settled' settled;
+          at_rest = λ is_whole. same_rest (opened_as second first true whole found older).journal result.journal.active result.journal.idle
+              is.active_is is.idle_is (found_at_rest second first true whole found older gate reads beside test settled' settled is_whole);
         },
       )

@@ -129,9 +129,16 @@ module _ {D : Type 0} (state : D → State) where
   Refuses first second (Refused GenerationsSpent) first' second' = ⊥
   Refuses first second NoMemory first' second' = HoldByte (state first) (state second)
 
-  -- choosing the active disk, by cases on the result: the disks are handed on as they are
+  -- the journal that was found on the active disk, and what was found on the other one; the disks are in the same state
+  pub record IsOpenedAs (active idle : D) (swapped whole : Bool) (found : Found) (older : Option Found) (opened : Opened D) : Type 0 where
+    pub opened_is : opened ≡ opened_as opened.journal.active opened.journal.idle swapped whole found older
+    pub active_is : state opened.journal.active ≡ state active
+    pub idle_is : state opened.journal.idle ≡ state idle
+
+  -- choosing the active disk, by cases on the result: the disks are handed on in the same state, and as they are where
+  -- there is no journal
   abbrev pub Chooses : D → D → Result (Opened D) (Returned D) → Type 0
-  Chooses first second (Ok opened) = (first_disk opened.journal ≡ first) × (second_disk opened.journal ≡ second)
+  Chooses first second (Ok opened) = (state (first_disk opened.journal) ≡ state first) × (state (second_disk opened.journal) ≡ state second)
       × (IsSettled (state first) → IsSettled (state second) → IsOpened (state first).seen (state second).seen opened)
   Chooses first second (Err returned) = (returned.error ≡ Refused NotAJournal) × (meaning (state first).seen (state second).seen ≡ None)
       × (returned.disks.first ≡ first) × (returned.disks.second ≡ second)

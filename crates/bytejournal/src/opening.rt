@@ -7,7 +7,7 @@ ghost use Rattle.bytejournal.specs.Reading.{Reads};
 ghost use Rattle.bytetext.specs.declared.failure.Failure.TheVariants.{Refused};
 ghost use Rattle.bytejournal.specs.declared.fault.JournalFault.TheVariants.{NotAJournal as not_a_journal};
 ghost use Rattle.bytejournal.specs.Journal.{first_disk, second_disk};
-ghost use Rattle.bytejournal.specs.Opening.{Untouched, ReadsDisk, WritesNew, Creates, Chooses, Opens, Restarts, opened_as, older_of, returned_as};
+ghost use Rattle.bytejournal.specs.Opening.{Untouched, ReadsDisk, WritesNew, Creates, Chooses, Opens, Restarts, IsOpenedAs, older_of, returned_as};
 
 use crate::fault::{JournalError, JournalFault};
 use crate::gate::{write_after_gate, write_and_sync};
@@ -124,7 +124,8 @@ fn are_inside<D: Disk>(active: &D, active_gate: usize, idle: &D, idle_gate: usiz
     active_gate < active.len() && idle_gate < idle.len()
 }
 
-/// Returns the journal that was found on the active disk, and what was found on the other one.
+/// Returns the journal that was found on the active disk, and what was found on the other one. Ends the reads of both
+/// disks.
 fn open_found<D: Disk>(
     active: D,
     idle: D,
@@ -133,8 +134,12 @@ fn open_found<D: Disk>(
     found: Found,
     older: Option<Found>,
 ) -> Opened<D>
-    ensures { result ≡ opened_as active idle swapped whole found older }
+    ensures { IsOpenedAs D.state active idle swapped whole found older result }
 {
+    let mut active = active;
+    let mut idle = idle;
+    active.end_reads();
+    idle.end_reads();
     let idle_open = older.is_some();
     Opened {
         journal: Journal {
@@ -223,7 +228,7 @@ fn write_all<D: Disk>(first: &mut D, second: &mut D, text: &[u8]) -> Result<(), 
 
 impl<D: Disk> Journal<D> {
     /// Creates a journal on the disks `first` and `second` with the base `base`, spelled by `layout`, and no entry, in
-    /// generation 1. What the disks held is lost.
+    /// generation 1. What the disks held is lost. A created journal never reads its disks, so it ends their reads.
     ///
     /// # Errors
     /// Each hands the disks back. `NoMemory` if it cannot allocate room: nothing was written. `DiskFault` if a disk
@@ -243,16 +248,20 @@ impl<D: Disk> Journal<D> {
         let mut first = first;
         let mut second = second;
         match write_new(alloc, &mut first, &mut second, layout, base) {
-            Ok(()) => Ok(Journal {
-                active: first,
-                idle: second,
-                swapped: false,
-                idle_open: false,
-                layout,
-                generation: 1,
-                gate: START + base.len(),
-                spent: false,
-            }),
+            Ok(()) => {
+                first.end_reads();
+                second.end_reads();
+                Ok(Journal {
+                    active: first,
+                    idle: second,
+                    swapped: false,
+                    idle_open: false,
+                    layout,
+                    generation: 1,
+                    gate: START + base.len(),
+                    spent: false,
+                })
+            }
             Err(error) => Err(Returned {
                 error,
                 disks: Disks { first, second },
@@ -260,7 +269,8 @@ impl<D: Disk> Journal<D> {
         }
     }
 
-    /// Opens the journal on the disks `first` and `second`, each by its own layout. Writes nothing.
+    /// Opens the journal on the disks `first` and `second`, each by its own layout. Writes nothing. An opened journal has
+    /// read its disks, so it ends their reads.
     ///
     /// # Errors
     /// Each hands the disks back as they were. `DiskFault` if a read failed. `NotAJournal` if the disks don't hold a
@@ -297,7 +307,8 @@ impl<D: Disk> Journal<D> {
     /// Crashes both disks, as if the program that used them had ended, and opens the journal on what the crash left.
     ///
     /// # Errors
-    /// As for `open`.
+    /// As for `open`. Always `DiskFault` on a disk that fails each read after `end_reads`, as a `FileDisk` that holds a
+    /// byte does: open the file again in its place.
     pub fn restart(self, alloc: Global) -> Result<Opened<D>, Returned<D>>
         ensures { Restarts D.state self result }
     {
@@ -309,7 +320,7 @@ impl<D: Disk> Journal<D> {
         Journal::open(alloc, first, second)
     }
 
-    /// Returns the two disks, in the order in which they were given.
+    /// Returns the two disks, in the order in which they were given. Their reads have ended.
     pub fn into_disks(self) -> Disks<D>
         ensures first { result.first ≡ first_disk self }
         ensures second { result.second ≡ second_disk self }

@@ -114,6 +114,7 @@ pub use crate::history::history_says;
 pub use crate::meaning::events;
 pub use crate::member::{Mark, Member};
 pub use crate::members::Members;
+pub use crate::speech::is_for_programs;
 pub use crate::state::ChanState;
 pub use crate::state_update::{Made, StateUpdate};
 pub use crate::support::Support;

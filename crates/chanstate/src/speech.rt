@@ -11,7 +11,9 @@ use crate::words::param;
 use bytetext::{NoMemory, Text, after_word, first_word};
 use std::alloc::Global;
 
-fn is_for_programs(text: &[u8]) -> bool
+/// Returns whether a text that somebody says is only for programs: it begins with byte 1, as CTCP has it. Such a text has
+/// no event but the raw one.
+pub fn is_for_programs(text: &[u8]) -> bool
     ensures { result ≡ is_hidden text.now }
 {
     !text.is_empty() && text[0] == 1

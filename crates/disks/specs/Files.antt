@@ -4,7 +4,7 @@ use Rattle.disks.specs.Memory.{Memory}
 use Rattle.disks.specs.Told.{Told}
 
 pub record FileState : Type 0 where
-  pub mirror : Memory  -- the disk in memory that reads are answered from
+  pub mirror : Memory  -- the disk in memory that answers reads; after `end_reads` contracts alone know its bytes
   pub file : Told  -- what the file was told
   pub broken : Bool  -- whether the file failed
 

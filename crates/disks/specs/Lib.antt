@@ -5,4 +5,5 @@ pub mod Laws
 pub mod Plans
 pub mod Memory
 pub mod Told
+pub mod Mirrors
 pub mod Files

@@ -14,8 +14,8 @@ pub struct DiskFault;
 
 /// A disk of bytes.
 ///
-/// `read`, `write_at` and `sync` fail only when the disk does, `reserve` only when it is out of memory. The other calls
-/// never fail.
+/// `read`, `write_at` and `sync` fail only when the disk does, and `read` also after `end_reads`. `reserve` fails only
+/// when it is out of memory. The other calls never fail.
 pub trait Disk: Drop {
     /// What a read gives, what a crash may leave according to the disk's history, and how often the disk has failed.
     ghost state: { Self → State };
@@ -32,7 +32,7 @@ pub trait Disk: Drop {
     /// disk's end.
     ///
     /// # Errors
-    /// If the disk fails. Its bytes are as they were.
+    /// If the disk fails, or after `end_reads`. Its bytes are as they were.
     fn read(&mut self, at: usize, buf: &mut [u8]) -> Result<usize, DiskFault>
         ensures count { IfOk result (λ n. n ≡ read_count (state self.old).seen at (length buf.old)) }
         ensures bytes { IfOk result (λ n. buf.new ≡ take n (drop at (state self.old).seen) ++ drop n buf.old) }
@@ -40,6 +40,11 @@ pub trait Disk: Drop {
         ensures same { SameBytes (state self.old) (state self.new) }
         ensures room { Spends 0 (state self.old) (state self.new) }
         ensures cause { HasCause (state self.old) (state self.new) result };
+
+    /// Says that the caller reads no more. The disk may free what only reads need, so each later read may fail, even
+    /// after `reopen`. Nothing else changes.
+    fn end_reads(&mut self)
+        ensures { state self.new ≡ state self.old };
 
     /// Makes room, so that the next `calls` writes and syncs, up to the offset `end`, allocate nothing.
     ///

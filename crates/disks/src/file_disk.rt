@@ -18,15 +18,16 @@ use std::marker::Model;
 use std::os::unix::fs::OpenOptionsExt as _;
 use std::rt::Files;
 
-/// A disk in a file. Each write and sync goes to the file, and a read gives what the mirror in memory holds.
+/// A disk in a file. Each write and sync goes to the file, and a read gives what the mirror in memory holds. `end_reads`
+/// frees the mirror's bytes, for a caller that only writes from then on.
 ///
-/// Contracts of a `FileDisk` speak of its mirror and of what was written to the file. After a write, all that a read
-/// gives was written to the file; after a sync or an opening, it was also synced to the device. Two things are assumed
-/// of the system and the device, since no contract can state them: the file holds what was written to it, and a crash
-/// leaves of the file what the mirror says may be left.
+/// Contracts of a `FileDisk` speak of its mirror and of what was written to the file. They know the mirror's bytes even
+/// after `end_reads`. After a write, all of these bytes were written to the file; after a sync or an opening, they were
+/// also synced to the device. Two things are assumed of the system and the device, since no contract can state them: the
+/// file holds what was written to it, and a crash leaves of the file what the mirror says may be left.
 ///
 /// After the file fails, each read, write and sync fails, even after `reopen`. Only a new program, which reads the
-/// file, learns what a failed write left in it.
+/// file, learns what a failed write left in it. A read after `end_reads` counts as such a failure.
 pub struct FileDisk {
     file: ToldFile,
     mirror: Mirror,
@@ -168,10 +169,22 @@ impl Disk for FileDisk {
         if self.broken {
             return Err(break_off(&mut self.broken, &mut self.mirror));
         }
-        Ok(self.mirror.read(at, buf))
+        match self.mirror.read(at, buf) {
+            Some(count) => Ok(count),
+            None => Err(break_off(&mut self.broken, &mut self.mirror)),
+        }
     }
 
-    /// Allocates nothing if there is room up to `end` already.
+    /// Frees the mirror's bytes. From then on `reserve` allocates nothing, and a read fails, which counts as a failure of
+    /// the file. The other calls work as before.
+    fn end_reads(&mut self)
+        ensures same { self.new ≡ self.old }
+        ensures state { state_of self.new.mirror ≡ state_of self.old.mirror }
+    {
+        self.mirror.end_reads();
+    }
+
+    /// Allocates nothing if there is room up to `end` already, or after `end_reads`.
     fn reserve(&mut self, end: usize, calls: usize) -> Result<(), NoMemory>
         ensures calls { OnOk result (calls ≤ (state_of self.new.mirror).calls) }
         ensures end { OnOk result (end ≤ (state_of self.new.mirror).end) }

@@ -9,9 +9,9 @@
 //! - [`MemDisk`] is a disk in memory whose faults are planned. From a given write or sync on, all of these fail until
 //!   the disk is reopened, and a [`Tear`] says what the crash then leaves of the ranges that were written and not kept.
 //!   Or one read fails once. So a test can stop a program at each call of a disk.
-//! - [`FileDisk`] keeps its bytes in a file, and a mirror of them in memory. A [`Pair`] is the two disks of a journal,
-//!   and a [`FileFault`] says why a file cannot be a disk. [`make_folder`], [`rename_folder`] and [`sync_folder`]
-//!   create two files that must appear together or not at all.
+//! - [`FileDisk`] keeps its bytes in a file, and a mirror of them in memory until its user ends the reads. A [`Pair`] is
+//!   the two disks of a journal, and a [`FileFault`] says why a file cannot be a disk. [`make_folder`],
+//!   [`rename_folder`] and [`sync_folder`] create two files that must appear together or not at all.
 //! - [`History`] is for those who implement a disk. It holds nothing at run time. Contracts see in it each write, sync
 //!   and opening that the disk noted, and the disk's `state` reports them.
 //!
@@ -45,7 +45,7 @@
 //!   one might have left, and what follows from that.
 //! - `Calls`: what each call of a disk does, by cases on its result.
 //! - `Memory`, `Plans`: a disk in memory, and its planned faults.
-//! - `Files`, `Told`: a disk in a file, and what the system reported of that file.
+//! - `Files`, `Told`, `Mirrors`: a disk in a file, what the system reported of that file, and its mirror in memory.
 #![tactic(auto)]
 
 mod bytes;

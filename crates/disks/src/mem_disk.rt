@@ -164,6 +164,12 @@ impl Disk for MemDisk {
         Ok(read_from(&self.content, at, buf))
     }
 
+    /// Does nothing: each later read works as before.
+    fn end_reads(&mut self)
+        ensures same { self.new ≡ self.old }
+        ensures state { state_of self.new ≡ state_of self.old }
+    {}
+
     /// Allocates nothing if there is room up to `end` already.
     fn reserve(&mut self, end: usize, calls: usize) -> Result<(), NoMemory>
         ensures calls { OnOk result (calls ≤ (state_of self.new).calls) }

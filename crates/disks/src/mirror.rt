@@ -1,50 +1,71 @@
 // What a disk in a file holds, in memory. It is no `MemDisk`, which has a second copy of its bytes for a planned crash.
-ghost use Rattle.std.specs.Prelude.{◌≡◌, ◌≤◌, ◌<◌, ◌+◌, ◌++◌, [], length, take, drop, vec_len, OnErr, OnOk};
+ghost use Rattle.std.specs.Prelude.{◌≡◌, ◌≤◌, ◌<◌, ◌+◌, ◌++◌, [], List, ℕ, length, take, drop, vec_len, max, IfSome, OnErr, OnOk};
+ghost use Rattle.std.specs.Vec.{vec_capacity};
 ghost use Rattle.disks.specs.Events.{openings};
 ghost use Rattle.disks.specs.State.{IsSettled};
 ghost use Rattle.disks.specs.Calls.{Holds, Tears, Elapses, SameBytes, read_count};
 ghost use Rattle.disks.specs.Memory.{state_of, Fails};
+ghost use Rattle.disks.specs.Mirrors.{IsHeld};
+ghost use Rattle.disks.specs.Told.{with_text};
 ghost use Rattle.disks.specs.Plans.{no_plan};
 
 use crate::bytes::{make_room, put, read_from};
 use crate::history::History;
 use bytetext::NoMemory;
 use std::marker::Model;
+use std::snapshot::Snapshot;
 
 /// The bytes that a file was told, and how often the file failed. As contracts see it, no fault of it is planned, and a
 /// crash leaves what a read gives.
+///
+/// After `end_reads` the bytes are no longer in memory. Contracts still know them: what was found in the file, with what
+/// was written since.
 pub(crate) struct Mirror {
-    content: Vec<u8>,
+    /// The bytes, until `end_reads`.
+    bytes: Option<Vec<u8>>,
+    /// How many bytes there are.
+    len: usize,
+    /// Up to where there is room.
+    room: usize,
     failures: u64,
-    history: History,
+    /// What was found in the file, for contracts alone.
+    found: Snapshot<Vec<u8>>,
+    /// Each write with what was written, and each sync and opening, for contracts alone.
+    told: History,
 }
 
 // By hand, so that this is proved once, and not in each function in which one ends.
 impl Drop for Mirror {
     fn drop(self) {
         let Mirror {
-            content: _,
+            bytes: _,
+            len: _,
+            room: _,
             failures: _,
-            history: _,
+            found: _,
+            told: _,
         } = self;
     }
 }
 
 impl Model for Mirror {
-    ghost use Rattle.std.specs.Vec.{vec_capacity};
     ghost use Rattle.disks.specs.Memory.{Memory};
+    ghost use Rattle.disks.specs.Mirrors.{IsMirror, events_after};
     ghost use Rattle.disks.specs.Plans.{no_plan};
+    ghost use Rattle.disks.specs.Told.{after_writes};
 
     ghost Value = { Memory };
 
     ghost view = { λ m. record {
-      events = m.history.events;
-      content = m.content.items;
-      left = m.content.items;
+      events = events_after m.found.value.items m.told.events;
+      content = after_writes m.found.value.items m.told.events;
+      left = after_writes m.found.value.items m.told.events;
       plan = no_plan;
       failures = m.failures;
-      room = vec_capacity m.content;
+      room = m.room;
     } };
+
+    ghost invariant = { λ m. IsMirror m.bytes m.len m.room (after_writes m.found.value.items m.told.events) };
 }
 
 impl Mirror {
@@ -54,18 +75,30 @@ impl Mirror {
         ensures content { result.content ≡ content.items }
         ensures plan { result.plan ≡ no_plan }
     {
+        let len = content.len();
+        let found = Snapshot::of(&content);
         Mirror {
-            content,
+            bytes: Some(content),
+            len,
+            room: len,
             failures: 0,
-            history: History::new(),
+            found,
+            told: History::new(),
         }
+    }
+
+    /// Frees the bytes. From then on `read` returns `None`, and `reserve` allocates nothing.
+    pub(crate) fn end_reads(&mut self)
+        ensures { self.new ≡ self.old }
+    {
+        self.bytes = None;
     }
 
     /// Returns the number of bytes.
     pub(crate) fn len(&self) -> usize
         ensures { result ≡ length self.now.content }
     {
-        self.content.len()
+        self.len
     }
 
     /// Returns how often the file failed. The count stops at its greatest value.
@@ -82,15 +115,18 @@ impl Mirror {
         self.failures = self.failures.saturating_add(1);
     }
 
-    /// Reads from the offset `at` into `buf`, and returns how many bytes it read.
-    pub(crate) fn read(&self, at: usize, buf: &mut [u8]) -> usize
-        ensures count { result ≡ read_count self.now.content at (length buf.old) }
-        ensures bytes { buf.new ≡ take result (drop at self.now.content) ++ drop result buf.old }
+    /// Reads from the offset `at` into `buf`, and returns how many bytes it read. Returns `None` after `end_reads`.
+    pub(crate) fn read(&self, at: usize, buf: &mut [u8]) -> Option<usize>
+        ensures count { IfSome result (λ n. n ≡ read_count self.now.content at (length buf.old)) }
+        ensures bytes { IfSome result (λ n. buf.new ≡ take n (drop at self.now.content) ++ drop n buf.old) }
     {
-        read_from(&self.content, at, buf)
+        match &self.bytes {
+            Some(bytes) => Some(read_from(bytes, at, buf)),
+            None => None,
+        }
     }
 
-    /// Makes room up to the offset `end`. Allocates nothing if there is room already.
+    /// Makes room up to the offset `end`. Allocates nothing if there is room already, or after `end_reads`.
     ///
     /// # Errors
     /// `NoMemory` if it cannot allocate the room.
@@ -103,7 +139,13 @@ impl Mirror {
         ensures plan { self.new.plan ≡ self.old.plan }
         ensures memory { OnErr result (self.old.room < end) }
     {
-        make_room(&mut self.content, end)
+        match make_held_room(&mut self.bytes, end) {
+            Ok(()) => {
+                self.room = self.room.max(end);
+                Ok(())
+            }
+            Err(error) => Err(error),
+        }
     }
 
     /// Writes `bytes` at the offset `at`, in room that was made before.
@@ -117,9 +159,9 @@ impl Mirror {
         ensures failures { self.new.failures ≡ self.old.failures }
         ensures plan { self.new.plan ≡ self.old.plan }
     {
-        self.history
-            .note(&[1, at as u64, bytes.len() as u64], &self.content);
-        put(&mut self.content, at, bytes);
+        self.told.note(&[1, at as u64, bytes.len() as u64], bytes);
+        self.len = self.len.max(at + bytes.len());
+        put_held(&mut self.bytes, at, bytes);
     }
 
     /// Notes that the device has kept what was written.
@@ -131,7 +173,7 @@ impl Mirror {
         ensures failures { self.new.failures ≡ self.old.failures }
         ensures plan { self.new.plan ≡ self.old.plan }
     {
-        self.history.note(&[0, 0, 0], &self.content);
+        self.told.note(&[0, 0, 0], &[]);
     }
 
     /// Notes that the file was opened again, and that nothing that was written is lost.
@@ -144,6 +186,33 @@ impl Mirror {
         ensures failures { self.new.failures ≡ self.old.failures }
         ensures plan { self.new.plan ≡ self.old.plan }
     {
-        self.history.note(&[2, 0, 0], &self.content);
+        self.told.note(&[2, 0, 0], &[]);
+    }
+}
+
+/// Makes room up to the offset `end` in the bytes, if they are still in memory.
+fn make_held_room(bytes: &mut Option<Vec<u8>>, end: usize) -> Result<(), NoMemory>
+    ensures room { OnOk result ((content : List ℕ) (room : ℕ) → IsHeld bytes.old content room
+        → IsHeld bytes.new content (max room end)) }
+    ensures same { OnErr result ((content : List ℕ) (room : ℕ) → IsHeld bytes.old content room
+        → IsHeld bytes.new content room) }
+    ensures memory { OnErr result ((content : List ℕ) (room : ℕ) → IsHeld bytes.old content room → room < end) }
+{
+    match bytes {
+        Some(bytes) => make_room(bytes, end),
+        None => Ok(()),
+    }
+}
+
+/// Writes `text` at the offset `at` into the bytes, if they are still in memory.
+fn put_held(bytes: &mut Option<Vec<u8>>, at: usize, text: &[u8])
+    requires inside { IfSome bytes.old (λ b. at ≤ vec_len b) }
+    requires room { IfSome bytes.old (λ b. at + length text.now ≤ vec_capacity b) }
+    ensures { (content : List ℕ) (room : ℕ) → IsHeld bytes.old content room
+        → IsHeld bytes.new (with_text at text.now content) room }
+{
+    match bytes {
+        Some(bytes) => put(bytes, at, text),
+        None => {}
     }
 }

@@ -8,7 +8,7 @@ use crate::folder::look_at_folder;
 use crate::journal::journal_verdict;
 use crate::report::Report;
 use crate::secret::{look_at_password, look_at_secret, open_mode};
-use crate::subject::Subject;
+use crate::subject::{FOLDER, Subject};
 use crate::user::User;
 use crate::verdict::{Bad, Note, Verdict};
 use botfolder::FolderFault;
@@ -46,9 +46,17 @@ fn look_at_all<R: Print + AllocGlobal + Net + Clock + Files<File = File> + Rando
     settings: &Settings,
 ) {
     let config = config_verdict(settings, open_mode(rt, file));
-    report.tell(rt, Subject::Config(file.as_bytes()), config);
+    report.tell(
+        rt,
+        Subject::Named("configuration ", file.as_bytes()),
+        config,
+    );
     let runs = look_at_data(rt, report, settings);
-    report.tell_found(rt, Subject::Files, files_verdict(rt, settings.station));
+    report.tell_found(
+        rt,
+        Subject::Named("the limit of open files", b""),
+        files_verdict(rt, settings.station),
+    );
     look_at_passwords(rt, report, settings);
     look_at_servers(rt, report, settings);
     look_at_hubs(rt, report, settings);
@@ -64,17 +72,19 @@ fn look_at_data<R: Print + AllocGlobal + Files<File = File>>(
     let name = settings.folder.as_bytes();
     let Ok(path) = str::from_utf8(name) else {
         let fault = Bad::Folder(FolderFault::Unusable);
-        report.tell(rt, Subject::Folder(name), Verdict::Bad(fault));
+        report.tell(rt, Subject::Named(FOLDER, name), Verdict::Bad(fault));
         return false;
     };
-    let exists = match User::of_process(rt) {
-        Ok(user) => look_at_folder(rt, report, path, user.as_ref()),
+    match User::of_process(rt) {
+        Ok(user) => {
+            look_at_folder(rt, report, path, &user)
+                && look_at_journal(rt, report, path, settings.station)
+        }
         Err(NoMemory) => {
             report.lack_memory();
             false
         }
-    };
-    exists && look_at_journal(rt, report, path, settings.station)
+    }
 }
 
 // Looks at the journal in the folder at `path`. Returns whether a bot runs on it.
@@ -84,7 +94,7 @@ fn look_at_journal<R: Print + AllocGlobal + Files<File = File>>(
     path: &str,
     station: Station,
 ) -> bool {
-    let folder = Subject::Folder(path.as_bytes());
+    let folder = Subject::Named(FOLDER, path.as_bytes());
     match journal_verdict(rt, path, station) {
         Ok(Some(verdict)) => report.tell(rt, folder, verdict),
         Ok(None) => {
@@ -121,12 +131,7 @@ fn look_at_servers<R: Print + AllocGlobal + Net + Clock + Files<File = File> + R
     let folder = settings.folder.as_bytes();
     for server in settings.servers.as_slice() {
         let address = &server.address;
-        look_at_address(
-            rt,
-            report,
-            Subject::Server(address),
-            Target { folder, address },
-        );
+        look_at_address(rt, report, "server ", Target { folder, address });
     }
 }
 
@@ -138,24 +143,23 @@ fn look_at_hubs<R: Print + AllocGlobal + Net + Clock + Files<File = File> + Rand
 ) {
     let folder = settings.folder.as_bytes();
     for address in settings.hubs.as_slice() {
-        look_at_address(
-            rt,
-            report,
-            Subject::Hub(address),
-            Target { folder, address },
-        );
+        look_at_address(rt, report, "hub ", Target { folder, address });
     }
 }
 
-// Looks whether somebody answers at an address, unless nothing more is printed.
+// Looks whether somebody answers at an address, unless nothing more is printed. `words` say whose it is.
 fn look_at_address<R: Print + AllocGlobal + Net + Clock + Files<File = File> + RandomSource>(
     rt: &R,
     report: &mut Report,
-    subject: Subject<'_>,
+    words: &'static str,
     target: Target<'_>,
 ) {
     if !report.has_fault() {
-        report.tell_found(rt, subject, dial_verdict(rt, target));
+        report.tell_found(
+            rt,
+            Subject::At(words, target.address),
+            dial_verdict(rt, target),
+        );
     }
 }
 
@@ -168,7 +172,11 @@ fn look_at_door<R: Print + AllocGlobal + Net>(
 ) {
     match &settings.listen {
         Some(address) if settings.station.leaves > 0 && !runs && !address.tls => {
-            report.tell_found(rt, Subject::Listen(address), door_verdict(rt, address));
+            report.tell_found(
+                rt,
+                Subject::At("listen ", address),
+                door_verdict(rt, address),
+            );
         }
         Some(_) | None => {}
     }

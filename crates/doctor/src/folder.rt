@@ -1,7 +1,7 @@
 // The bot's folder.
 use crate::modes::{Seen, verdict_above, verdict_of_mode, verdict_of_owner};
 use crate::report::Report;
-use crate::subject::Subject;
+use crate::subject::{FOLDER, Subject};
 use crate::user::User;
 use crate::verdict::{Bad, Fine, Verdict};
 use botfolder::{FolderFault, MAX_PATH};
@@ -16,19 +16,19 @@ pub(crate) fn look_at_folder<R: Print + Files>(
     rt: &R,
     report: &mut Report,
     path: &str,
-    user: Option<&User>,
+    user: &User,
 ) -> bool {
     let verdict = if path.len() > MAX_PATH {
-        faulty(FolderFault::LongName)
+        Verdict::Bad(Bad::Folder(FolderFault::LongName))
     } else {
         match entry_of(fs::symlink_metadata(rt, path)) {
-            Entry::Link => faulty(FolderFault::IsLink),
+            Entry::Link => Verdict::Bad(Bad::Folder(FolderFault::IsLink)),
             Entry::Folder(_) | Entry::Other => return look_inside(rt, report, path, user),
             Entry::Missing(_) => verdict_of_missing(rt, above(path), user),
-            Entry::Unknown(fault) => faulty(fault),
+            Entry::Unknown(fault) => Verdict::Bad(Bad::Folder(fault)),
         }
     };
-    report.tell(rt, Subject::Folder(path.as_bytes()), verdict);
+    report.tell(rt, Subject::Named(FOLDER, path.as_bytes()), verdict);
     false
 }
 
@@ -58,12 +58,7 @@ fn entry_of(found: io::Result<Metadata>) -> Entry {
 }
 
 // Looks at what `path` names.
-fn look_inside<R: Print + Files>(
-    rt: &R,
-    report: &mut Report,
-    path: &str,
-    user: Option<&User>,
-) -> bool {
+fn look_inside<R: Print + Files>(rt: &R, report: &mut Report, path: &str, user: &User) -> bool {
     let fault = match entry_of(fs::metadata(rt, path)) {
         Entry::Folder(seen) => {
             look_at_rights(rt, report, path, seen, user);
@@ -72,21 +67,19 @@ fn look_inside<R: Print + Files>(
         Entry::Link | Entry::Other => FolderFault::NotAFolder,
         Entry::Missing(fault) | Entry::Unknown(fault) => fault,
     };
-    report.tell(rt, Subject::Folder(path.as_bytes()), faulty(fault));
+    report.tell(
+        rt,
+        Subject::Named(FOLDER, path.as_bytes()),
+        Verdict::Bad(Bad::Folder(fault)),
+    );
     false
 }
 
 // Tells who owns the folder and what others may do there.
-fn look_at_rights<R: Print>(
-    rt: &R,
-    report: &mut Report,
-    path: &str,
-    seen: Seen,
-    user: Option<&User>,
-) {
-    let folder = Subject::Folder(path.as_bytes());
-    let owner = match user {
-        Some(user) => verdict_of_owner(seen.owner, user.number),
+fn look_at_rights<R: Print>(rt: &R, report: &mut Report, path: &str, seen: Seen, user: &User) {
+    let folder = Subject::Named(FOLDER, path.as_bytes());
+    let owner = match user.number {
+        Some(number) => verdict_of_owner(seen.owner, number),
         None => None,
     };
     let mode = verdict_of_mode(seen.mode);
@@ -98,20 +91,12 @@ fn look_at_rights<R: Print>(
 }
 
 // Whether a missing folder can be made in the folder at `path`.
-fn verdict_of_missing<R: Files>(rt: &R, path: &str, user: Option<&User>) -> Verdict {
+fn verdict_of_missing<R: Files>(rt: &R, path: &str, user: &User) -> Verdict {
     match entry_of(fs::metadata(rt, path)) {
-        Entry::Folder(seen) => verdict_above(true, may_make_in(seen, user)),
+        Entry::Folder(seen) => verdict_above(true, user.may_make_in(seen)),
         Entry::Link | Entry::Other => verdict_above(false, false),
-        Entry::Missing(_) => faulty(FolderFault::NoParent),
-        Entry::Unknown(fault) => faulty(fault),
-    }
-}
-
-// Whether the user may make a folder in this one; true if nobody knows the user.
-fn may_make_in(folder: Seen, user: Option<&User>) -> bool {
-    match user {
-        Some(user) => user.may_make_in(folder),
-        None => true,
+        Entry::Missing(_) => Verdict::Bad(Bad::Folder(FolderFault::NoParent)),
+        Entry::Unknown(fault) => Verdict::Bad(Bad::Folder(fault)),
     }
 }
 
@@ -122,10 +107,6 @@ fn above(path: &str) -> &str {
         Some(_) => ".",
         None => path,
     }
-}
-
-fn faulty(fault: FolderFault) -> Verdict {
-    Verdict::Bad(Bad::Folder(fault))
 }
 
 // Why the system says nothing of a folder.

@@ -18,7 +18,7 @@ pub(crate) fn look_at_secret<R: Print + Files<File = File>>(
     name: &[u8],
     number: u16,
 ) {
-    let secret = Subject::Secret(name);
+    let secret = Subject::Named("secret ", name);
     let Ok(path) = str::from_utf8(name) else {
         return report.tell(
             rt,
@@ -36,7 +36,7 @@ pub(crate) fn look_at_password<R: Print + Files<File = File>>(
     report: &mut Report,
     name: &[u8],
 ) {
-    let password = Subject::Password(name);
+    let password = Subject::Named("password ", name);
     match str::from_utf8(name) {
         Ok(path) if is_readable(rt, path) => {
             report.tell(rt, password, Verdict::Fine(Fine::Password));

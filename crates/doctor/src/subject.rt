@@ -4,39 +4,32 @@ use settings::Address;
 use std::fmt;
 use std::fmt::Display;
 
-// What was looked at: the front of a line.
+// The words before the name of a folder.
+pub(crate) const FOLDER: &str = "folder ";
+
+// What was looked at: the front of a line. Words say what kind of thing it is.
 #[derive(Clone, Copy)]
 pub(crate) enum Subject<'a> {
-    Config(&'a [u8]),
-    Folder(&'a [u8]),
-    Files,
-    Secret(&'a [u8]),
-    Password(&'a [u8]),
-    Server(&'a Address),
-    Hub(&'a Address),
-    Listen(&'a Address),
+    // What has a name.
+    Named(&'static str, &'a [u8]),
+    // What has an address.
+    At(&'static str, &'a Address),
 }
 
 impl Display for Subject<'_> {
     fn fmt<W: fmt::Write>(&self, f: &mut fmt::Formatter<W>) -> fmt::Result {
         match *self {
-            Subject::Files => f.write_str("the limit of open files"),
-            Subject::Config(name) => put(f, "configuration ", &Shown(name)),
-            Subject::Folder(name) => put(f, "folder ", &Shown(name)),
-            Subject::Secret(name) => put(f, "secret ", &Shown(name)),
-            Subject::Password(name) => put(f, "password ", &Shown(name)),
-            Subject::Server(address) => put_address(f, "server ", address),
-            Subject::Hub(address) => put_address(f, "hub ", address),
-            Subject::Listen(address) => put_address(f, "listen ", address),
+            Subject::Named(words, name) => put(f, words, &Shown(name)),
+            Subject::At(words, address) => put_address(f, words, address),
         }
     }
 }
 
 fn put_address<W: fmt::Write>(
     f: &mut fmt::Formatter<W>,
-    word: &str,
+    words: &str,
     address: &Address,
 ) -> fmt::Result {
-    put(f, word, &Shown(address.host.as_bytes()))?;
+    put(f, words, &Shown(address.host.as_bytes()))?;
     put(f, if address.tls { " +" } else { " " }, &address.port)
 }

@@ -11,9 +11,9 @@ use streams::{Duplex, ReadError, read_up_to};
 // The most bytes of a text of the system that are read.
 const MAX_TEXT: usize = 65_536;
 
-// The user of this process, and what the system says of the process.
+// The user of this process, if the system says who that is, and what it says of the process.
 pub(crate) struct User {
-    pub(crate) number: u64,
+    pub(crate) number: Option<u64>,
     status: Vec<u8>,
 }
 
@@ -28,24 +28,25 @@ impl Drop for User {
 }
 
 impl User {
-    // Returns who this process is, or `None` if the system does not say it.
+    // Returns who this process is.
     pub(crate) fn of_process<R: AllocGlobal + Files<File = File>>(
         rt: &R,
-    ) -> Result<Option<User>, NoMemory> {
+    ) -> Result<User, NoMemory> {
         let status = text_of(rt, "/proc/self/status")?;
-        match number_after(status.as_slice(), b"Uid:") {
-            Some(number) => Ok(Some(User { number, status })),
-            None => Ok(None),
-        }
+        let number = number_after(status.as_slice(), b"Uid:");
+        Ok(User { number, status })
     }
 
-    // Returns whether the user may make a folder in `folder`, as far as its mode says it.
+    // Returns whether the user may make a folder in `folder`, as far as its mode says it; true if nobody knows the user.
     pub(crate) fn may_make_in(&self, folder: Seen) -> bool {
+        let Some(number) = self.number else {
+            return true;
+        };
         let group = u64::from(folder.group);
         let status = self.status.as_slice();
         let is_member = number_after(status, b"Gid:") == Some(group)
             || has_number(status, b"Groups:", group);
-        may_make(self.number, is_member, folder)
+        may_make(number, is_member, folder)
     }
 }
 

@@ -60,7 +60,7 @@ pub(crate) enum Fine {
 
 impl Display for Fine {
     fn fmt<W: fmt::Write>(&self, f: &mut fmt::Formatter<W>) -> fmt::Result {
-        f.write_str(match *self {
+        let words = match *self {
             Fine::Config => "reads well",
             Fine::Folder => "is this user's alone",
             Fine::NoFolder => "is missing, and the first start makes it",
@@ -72,11 +72,12 @@ impl Display for Fine {
             Fine::Door => "is free",
             Fine::Journal(seen) => return put(f, "has ", &seen),
             Fine::Answers(address) => return put(f, "answers at ", &address),
-            Fine::Files { limit, needed } => return write!(
-                f,
-                "is {limit}, and this bot needs at most {needed}"
-            ),
-        })
+            Fine::Files { limit, needed } => {
+                put(f, "is ", &limit)?;
+                return put(f, ", and this bot needs at most ", &needed);
+            }
+        };
+        f.write_str(words)
     }
 }
 
@@ -94,7 +95,7 @@ pub(crate) enum Note {
 
 impl Display for Note {
     fn fmt<W: fmt::Write>(&self, f: &mut fmt::Formatter<W>) -> fmt::Result {
-        f.write_str(match *self {
+        let words = match *self {
             Note::OpenFolder =>
                 "lets others read the names there: take that right away, as chmod 700 does",
             Note::Runs =>
@@ -104,24 +105,31 @@ impl Display for Note {
                 "reads well, but holds passwords, and others may read it: ",
                 &mode,
             ),
-            Note::OldJournal(seen) => return write!(
+            Note::OldJournal(seen) => return put_within(
                 f,
-                "has {seen}: the next start rewrites it, so copy the folder first if an older eggnet is to read it again"
+                "has ",
+                &seen,
+                ": the next start rewrites it, so copy the folder first if an older eggnet is to read it again",
             ),
-            Note::LargeJournal(seen) => return write!(
+            Note::LargeJournal(seen) => return put_within(
                 f,
-                "has {seen}: have its bot rewrite it, by eggnet tell FOLDER compact"
+                "has ",
+                &seen,
+                ": have its bot rewrite it, by eggnet tell FOLDER compact",
             ),
             Note::Files(needed) => return put(
                 f,
                 "can't be read: see that ulimit -n says at least ",
                 &needed,
             ),
-            Note::NetsSecret(leaf) => return write!(
+            Note::NetsSecret(leaf) => return put_within(
                 f,
-                "holds the net's secret: print the key of leaf {leaf} with eggnet key, and keep only that here"
+                "holds the net's secret: print the key of leaf ",
+                &leaf,
+                " with eggnet key, and keep only that here",
             ),
-        })
+        };
+        f.write_str(words)
     }
 }
 
@@ -151,7 +159,7 @@ pub(crate) enum Bad {
 
 impl Display for Bad {
     fn fmt<W: fmt::Write>(&self, f: &mut fmt::Formatter<W>) -> fmt::Result {
-        f.write_str(match *self {
+        let words = match *self {
             Bad::NoFolder =>
                 "can't be made: give this user the right to write and enter the folder above it",
             Bad::OpenFolder => "lets others write there: take that right away, as chmod 700 does",
@@ -177,32 +185,41 @@ impl Display for Bad {
             Bad::OpenSecret(mode) => return put(f, "may be read by others: ", &mode),
             Bad::OthersFolder { owner, user } => return others_folder(f, owner, user),
             Bad::Files { limit, needed } => return few_files(f, limit, needed),
-            Bad::Refuses(address) => return write!(
+            Bad::Refuses(address) => return put_within(
                 f,
-                "refuses connections at {address}, or no way leads there: check its host and port, and that it runs"
+                "refuses connections at ",
+                &address,
+                ", or no way leads there: check its host and port, and that it runs",
             ),
-            Bad::Silent(address) => return write!(
+            Bad::Silent(address) => return put_within(
                 f,
-                "doesn't answer within 5 seconds at {address}: check its host and port, and the firewalls on the way"
+                "doesn't answer within 5 seconds at ",
+                &address,
+                ": check its host and port, and the firewalls on the way",
             ),
-        })
+        };
+        f.write_str(words)
     }
 }
 
 // Who owns a folder that another user is to use.
 fn others_folder<W: fmt::Write>(f: &mut fmt::Formatter<W>, owner: u32, user: u64) -> fmt::Result {
-    write!(
+    put(f, "belongs to user ", &owner)?;
+    put(f, ", and this is user ", &user)?;
+    put_within(
         f,
-        "belongs to user {owner}, and this is user {user}: run the bot and this command as user {owner}, or give the folder to this user, as chown does"
+        ": run the bot and this command as user ",
+        &owner,
+        ", or give the folder to this user, as chown does",
     )
 }
 
 // How many files may be open, where that is too few.
 fn few_files<W: fmt::Write>(f: &mut fmt::Formatter<W>, limit: u64, needed: u64) -> fmt::Result {
-    write!(
-        f,
-        "is {limit}, and this bot may need {needed}: raise it, as ulimit -n {needed} does, or LimitNOFILE={needed} in its unit"
-    )
+    put(f, "is ", &limit)?;
+    put(f, ", and this bot may need ", &needed)?;
+    put(f, ": raise it, as ulimit -n ", &needed)?;
+    put_within(f, " does, or LimitNOFILE=", &needed, " in its unit")
 }
 
 // What is seen of a journal: the layout in which it is written, the version of its records, and the bytes of its files.
@@ -215,14 +232,19 @@ pub(crate) struct JournalSeen {
 
 impl Display for JournalSeen {
     fn fmt<W: fmt::Write>(&self, f: &mut fmt::Formatter<W>) -> fmt::Result {
-        let JournalSeen {
-            layout,
-            version,
-            bytes,
-        } = *self;
-        write!(
-            f,
-            "a journal of layout {layout}, at version {version}, of {bytes} bytes"
-        )
+        put(f, "a journal of layout ", &self.layout)?;
+        put(f, ", at version ", &self.version)?;
+        put_within(f, ", of ", &self.bytes, " bytes")
     }
+}
+
+// Writes `shown` between `front` and `back`.
+fn put_within<W: fmt::Write, D: Display>(
+    f: &mut fmt::Formatter<W>,
+    front: &str,
+    shown: &D,
+    back: &str,
+) -> fmt::Result {
+    put(f, front, shown)?;
+    f.write_str(back)
 }

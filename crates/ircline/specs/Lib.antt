@@ -10,3 +10,4 @@ pub mod Codes
 pub mod Refusals
 pub mod Carrying
 pub mod Numeric
+pub mod Said

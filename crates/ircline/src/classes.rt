@@ -7,7 +7,7 @@ ghost use Rattle.ircline.specs.Carrying.{capital, kept_command};
 use crate::prefix::nick;
 
 // Whether the byte ends a line.
-fn is_end(byte: u8) -> bool
+pub(crate) fn is_end(byte: u8) -> bool
     ensures { result ≡ is_end byte }
 {
     byte == b'\r' || byte == b'\n'

@@ -16,6 +16,18 @@ pub struct Message {
     pub rest: Text,
 }
 
+impl Message {
+    ghost use Rattle.std.specs.Prelude.{◌≡◌};
+    ghost use Rattle.ircline.specs.Said.{is_said};
+
+    /// Returns whether somebody says the message: whether it is a PRIVMSG (RFC 2812 section 3.3.1).
+    pub fn is_said(&self) -> bool
+        ensures { result ≡ is_said self.now }
+    {
+        self.command.as_bytes() == b"PRIVMSG".as_slice()
+    }
+}
+
 // By hand, so that the drop is proved once, and not in each function that drops a message.
 impl Drop for Message {
     fn drop(self) {

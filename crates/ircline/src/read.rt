@@ -5,7 +5,7 @@ ghost use Rattle.ircline.specs.Words.{up_to};
 ghost use Rattle.ircline.specs.Classes.{is_end, upper};
 ghost use Rattle.ircline.specs.Reading.{flush, tail_of, prefix_at, after_prefix, is_nameless, last_param, is_last, params_of, line_at, line_of, TakesMemory};
 
-use crate::classes::is_command;
+use crate::classes::{is_command, is_end};
 use crate::fault::LineFault;
 use crate::line::Line;
 use crate::message::Message;
@@ -40,6 +40,12 @@ pub fn read_line(alloc: Global, bytes: &[u8]) -> Result<Line, NoMemory>
 pub fn first_end(bytes: &[u8]) -> Option<usize>
     ensures { IsFirstByte is_end bytes.now result }
 {
+    // Where a line ended with CR, its LF is next.
+    if let [first, ..] = bytes {
+        if is_end(*first) {
+            return Some(0);
+        }
+    }
     memchr2(b'\r', b'\n', bytes)
 }
 

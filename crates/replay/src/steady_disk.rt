@@ -62,6 +62,10 @@ impl Disk for SteadyDisk {
         }
     }
 
+    fn end_reads(&mut self) {
+        self.disk.end_reads();
+    }
+
     fn reserve(&mut self, end: usize, calls: usize) -> Result<(), NoMemory> {
         self.disk.reserve(end, calls)
     }

@@ -60,11 +60,6 @@ is_same-apart a b c apart is = sym (is_same-right b c a is) ∙ apart
 pub equal_keys : (a b : List ℕ) → (pointwise nat_eq (folded a) (folded b) ≡ true) ↔ IsSame a b
 equal_keys a b = bytes_decides (folded a) (folded b)
 
--- texts whose bytes differ at an index are not the same
-pub differ_at : (a b : List ℕ) (i : ℕ) → i < length a → i < length b → low (get_or a i 0) ≢ low (get_or b i 0) → IsSame a b → ⊥
-differ_at a b i ha hb ne same =
-    ne (sym (get_or-map low a i 0 0 ha) ∙ ap (λ (xs : List ℕ). get_or xs i 0) same ∙ get_or-map low b i 0 0 hb)
-
 -- ---- by a server's casemapping
 
 pub length-folded_by : (mapping : Casemapping) (text : List ℕ) → length (folded_by mapping text) ≡ length text
@@ -114,6 +109,7 @@ is_same_by-right mapping a b c is = ap (λ (text : List ℕ). pointwise nat_eq (
 pub is_same_by-apart : (mapping : Casemapping) (a b c : List ℕ) → is_same_by mapping a b ≡ false → is_same_by mapping b c ≡ true → is_same_by mapping a c ≡ false
 is_same_by-apart mapping a b c apart is = sym (is_same_by-right mapping b c a is) ∙ apart
 
+-- texts whose bytes differ at an index are not the same
 pub differ_at_by : (mapping : Casemapping) (a b : List ℕ) (i : ℕ) → i < length a → i < length b
     → low_by mapping (get_or a i 0) ≢ low_by mapping (get_or b i 0) → IsSameBy mapping a b → ⊥
 differ_at_by mapping a b i ha hb ne same =

@@ -1,5 +1,5 @@
 // The lower case of a byte and of a text.
-ghost use Rattle.std.specs.Prelude.{◌≡◌, ◌<◌, ◌↔◌, IsTrue, MatchResult, length, slice_index};
+ghost use Rattle.std.specs.Prelude.{◌≡◌, ◌==◌, ◌<◌, ◌↔◌, IsTrue, MatchResult, length, slice_index};
 ghost use Rattle.rfccase.specs.Casemapping.{low, folded, IsSame, low_by, folded_by, IsSameBy};
 ghost use Rattle.rfccase.specs.Table.{lower_cases};
 
@@ -23,15 +23,7 @@ pub fn fold(byte: u8) -> u8
 pub fn same(a: &[u8], b: &[u8]) -> bool
     ensures { IsTrue result ↔ IsSame a.now b.now }
 {
-    if a.len() != b.len() {
-        return false;
-    }
-    for (i, byte) in a.iter().enumerate() {
-        if fold(*byte) != fold(b[i]) {
-            return false;
-        }
-    }
-    true
+    same_by(Casemapping::Rfc1459, a, b)
 }
 
 /// Replaces each byte of `text` by its lower case.
@@ -73,12 +65,24 @@ pub fn same_by(mapping: Casemapping, a: &[u8], b: &[u8]) -> bool
     if a.len() != b.len() {
         return false;
     }
+    // Many names of one network begin alike.
+    let len = a.len();
+    if len > 0 && !is_same_byte(mapping, a[len - 1], b[len - 1]) {
+        return false;
+    }
     for (i, byte) in a.iter().enumerate() {
-        if fold_by(mapping, *byte) != fold_by(mapping, b[i]) {
+        if !is_same_byte(mapping, *byte, b[i]) {
             return false;
         }
     }
     true
+}
+
+// Whether two bytes have the same lower case by a server's casemapping. Most that do are equal.
+fn is_same_byte(mapping: Casemapping, a: u8, b: u8) -> bool
+    ensures { result ≡ (low_by mapping a == low_by mapping b) }
+{
+    a == b || fold_by(mapping, a) == fold_by(mapping, b)
 }
 
 /// Puts the lower case of each byte by a server's casemapping in its place.

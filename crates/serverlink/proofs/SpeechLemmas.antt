@@ -6,7 +6,8 @@ use Rattle.rfccase.specs.declared.casemappings.Casemapping.{Casemapping}
 use Rattle.ircline.specs.declared.message.Message.{Message}
 use Rattle.serverlink.specs.declared.cue.Cue.TheVariants.{Nothing}
 use Rattle.serverlink.specs.declared.session.Session.{Session}
-use Rattle.serverlink.specs.Cues.{cue_of, is_by, is_said}
+use Rattle.ircline.specs.Said.{is_said}
+use Rattle.serverlink.specs.Cues.{cue_of, is_by}
 use Rattle.serverlink.specs.Regains.{Regaining, heard, is_free, is_left, lacks, regains, told}
 use Rattle.serverlink.specs.Waiting.{HasHeardMessage, message_noted, wants_in, wants_of}
 

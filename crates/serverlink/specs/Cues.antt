@@ -17,10 +17,6 @@ use Rattle.serverlink.specs.declared.cue.Cue.TheVariants.{Welcomed, Renamed, Joi
 abbrev pub param : Message → ℕ → List ℕ
 param message place = unwrap_or (slice_get message.params place) []
 
--- somebody says it
-abbrev pub is_said : Message → Bool
-is_said message = is_command (codes "PRIVMSG") message.command
-
 -- the source is a person with this nick, by the casemapping of the server
 abbrev pub is_from : Casemapping → Source → List ℕ → Bool
 is_from mapping Nobody own = false

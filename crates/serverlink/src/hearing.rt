@@ -1,6 +1,5 @@
 // What a server says, for the registration and the channels.
 ghost use Rattle.std.specs.Prelude.{◌≡◌};
-ghost use Rattle.serverlink.specs.Cues.{is_said};
 
 use crate::casing::name_in;
 use crate::cue::{Cue, cue_of, param};
@@ -91,7 +90,7 @@ impl IrcConnection {
             (HasHeardMessage message.now own.now settings.now.nick now self.old.session self.new.session) }
     {
         // Most lines are what somebody says, which means nothing to the connection.
-        if is_said(message) {
+        if message.is_said() {
             return Ok(Cue::Nothing);
         }
         let mapping = self.casemapping();
@@ -374,13 +373,6 @@ impl Session {
             }
         }
     }
-}
-
-// Whether somebody says the message.
-fn is_said(message: &Message) -> bool
-    ensures { result ≡ is_said message.now }
-{
-    message.command.as_bytes() == b"PRIVMSG".as_slice()
 }
 
 // Queues copies of these lines.

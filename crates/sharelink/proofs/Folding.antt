@@ -1,5 +1,5 @@
 -- Entries folded in, and an end on a base alone.
-use Rattle.std.proofs.Common.{◌≡◌, ◌==◌, ◌<◌, ℕ, ◌+◌, Bool, true, false, if◌then◌else◌, List, [], ◌∷◌, ◌++◌, length, drop, get_or, Option, None, Some, Err, refl, ap, sym, subst, ◌∙◌, eq-eqb}
+use Rattle.std.proofs.Common.{◌≡◌, ◌==◌, ℕ, ◌+◌, Bool, true, false, if◌then◌else◌, List, [], ◌∷◌, ◌++◌, length, Option, None, Some, Err, refl, ap, sym, subst, ◌∙◌, eq-eqb}
 use Rattle.std.specs.List.{list_all}
 use Rattle.std.specs.Option.{option_map}
 use Rattle.bytetext.specs.declared.failure.Failure.{Failure}
@@ -22,7 +22,7 @@ use Rattle.userfile.proofs.RepeatLemmas.{and_true}
 use Rattle.protocol.specs.Network.{new_hub}
 use Rattle.sharelink.specs.States.{Takes, TakesAll, Reads, sound_records, hub_on, is_hubs, leaf_on}
 use Rattle.sharelink.specs.declared.state_fault.StateFault.{StateFault}
-use Rattle.sharelink.proofs.Lists.{drop-at, replies_of-none}
+use Rattle.sharelink.proofs.Lists.{replies_of-none}
 
 -- a record that may be folded in
 pub folds : {Kept Record : Type 0} (folded : Kept → Record → Kept) (old new : Kept) (may : Bool) (rec : Record) → may ≡ true
@@ -88,29 +88,27 @@ module _ {Kept Record : Type 0} (record_of : Kept → Entry → Option Record) (
   reads-none (entry ∷ entries) = reads-none entries
 
   -- one entry more
-  pub reads-more : (old new : Kept) (entries : List Entry) (i : ℕ) (entry : Entry) (all : Option Kept) → i < length entries
-      → entry ≡ get_or entries i entry → read_next record_of folded (Some old) entry ≡ Some new
-      → reads record_of folded (Some old) (drop i entries) ≡ all → reads record_of folded (Some new) (drop (i + 1) entries) ≡ all
-  reads-more old new entries i entry all within at took so_far =
-      ap (λ k. reads record_of folded k (drop (i + 1) entries)) (sym took)
-      ∙ ap (λ l. reads record_of folded (Some old) l) (sym (drop-at entries i entry within at)) ∙ so_far
+  pub reads-more : (old new : Kept) (left rest : List Entry) (entry : Entry) (all : Option Kept) → left ≡ entry ∷ rest
+      → read_next record_of folded (Some old) entry ≡ Some new
+      → reads record_of folded (Some old) left ≡ all → reads record_of folded (Some new) rest ≡ all
+  reads-more old new left rest entry all first took so_far =
+      ap (λ k. reads record_of folded k rest) (sym took) ∙ ap (λ l. reads record_of folded (Some old) l) (sym first) ∙ so_far
 
   -- an entry that is no record
-  pub reads-refused : (old : Kept) (entries : List Entry) (i : ℕ) (entry : Entry) (all : Option Kept) → i < length entries
-      → entry ≡ get_or entries i entry → record_of old entry ≡ None
-      → reads record_of folded (Some old) (drop i entries) ≡ all → all ≡ None
-  reads-refused old entries i entry all within at refused so_far =
-      sym so_far ∙ ap (λ l. reads record_of folded (Some old) l) (drop-at entries i entry within at)
-      ∙ ap (λ k. reads record_of folded (option_map (folded old) k) (drop (i + 1) entries)) refused ∙ reads-none (drop (i + 1) entries)
+  pub reads-refused : (old : Kept) (left rest : List Entry) (entry : Entry) (all : Option Kept) → left ≡ entry ∷ rest
+      → record_of old entry ≡ None → reads record_of folded (Some old) left ≡ all → all ≡ None
+  reads-refused old left rest entry all first refused so_far =
+      sym so_far ∙ ap (λ l. reads record_of folded (Some old) l) first
+      ∙ ap (λ k. reads record_of folded (option_map (folded old) k) rest) refused ∙ reads-none rest
 
   -- where one is no record, or memory runs out
-  pub reads-failed : (start old new last : Kept) (entries : List Entry) (i : ℕ) (entry : Entry) (error : Failure StateFault) → i < length entries
-      → entry ≡ get_or entries i entry → Takes record_of folded old entry (Err error) new
-      → reads record_of folded (Some old) (drop i entries) ≡ reads record_of folded (Some start) entries
+  pub reads-failed : (start old new last : Kept) (entries left rest : List Entry) (entry : Entry) (error : Failure StateFault)
+      → left ≡ entry ∷ rest → Takes record_of folded old entry (Err error) new
+      → reads record_of folded (Some old) left ≡ reads record_of folded (Some start) entries
       → TakesAll record_of folded start entries (Err error) last
-  reads-failed start old new last entries i entry NoMemory within at took so_far = tt
-  reads-failed start old new last entries i entry (Refused fault) within at took so_far =
-      reads-refused old entries i entry (reads record_of folded (Some start) entries) within at took.0 so_far
+  reads-failed start old new last entries left rest entry NoMemory first took so_far = tt
+  reads-failed start old new last entries left rest entry (Refused fault) first took so_far =
+      reads-refused old left rest entry (reads record_of folded (Some start) entries) first took.0 so_far
 
 -- what is made of a start that there is
 pub started : {Kept : Type 0} (may : Bool) (start kept : Kept) (rest : Option Kept → Option Kept) → record_if may start ≡ Some kept

@@ -1,7 +1,6 @@
 -- One item more of what is made of a list item by item: what is made of the rest is what is made of the item and of those
 -- after it.
-use Rattle.std.proofs.Common.{◌≡◌, ◌<◌, ◌==◌, ◌||◌, ℕ, zero, suc, ◌+◌, true, List, [], ◌∷◌, ◌++◌, length, drop, get_or, slice_get, Some, cond, refl, ap, sym, ◌∙◌, append_assoc, arith, add-one}
-use Rattle.std.proofs.Math.Seq.{drop-cons}
+use Rattle.std.proofs.Common.{◌≡◌, ◌==◌, ◌||◌, ℕ, zero, suc, ◌+◌, true, List, [], ◌∷◌, ◌++◌, drop, slice_get, Some, cond, refl, ap, sym, ◌∙◌, append_assoc, arith, add-one}
 use Rattle.std.specs.List.{AllByRecursion, list_all, list_any, find}
 use Rattle.userfile.specs.declared.user.User.{User}
 use Rattle.userfile.specs.declared.ban.Ban.{Ban}
@@ -20,9 +19,6 @@ use Rattle.protocol.specs.Journals.{replies_of, replies_among}
 -- ---- the rest of a list
 
 -- the item at a place, and those after it
-pub drop-at : {X : Type 0} (xs : List X) (i : ℕ) (x : X) → i < length xs → x ≡ get_or xs i x → drop i xs ≡ x ∷ drop (i + 1) xs
-drop-at xs i x within at = rw (add-one) (drop-cons xs i x within ∙ ap (λ y. y ∷ drop (suc i) xs) (sym at))
-
 pub drop-found : {X : Type 0} (xs : List X) (i : ℕ) (x : X) → slice_get xs i ≡ Some x → drop i xs ≡ x ∷ drop (i + 1) xs
 drop-found [] i x found = cc
 drop-found (y ∷ ys) zero x found = let same : y ≡ x = cc in ap (λ z. z ∷ ys) same

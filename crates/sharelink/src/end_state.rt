@@ -11,7 +11,7 @@ ghost use Rattle.sharelink.specs.Kept.{WritesAny, LeavesWritten};
 
 use crate::state_fault::StateError;
 use botjournal::{Base, Entry, Ledger, LedgerError};
-use bytetext::NoMemory;
+use bytetext::{NoMemory, Seq};
 use disks::Disk;
 use std::alloc::Global;
 
@@ -66,7 +66,7 @@ pub trait EndState: Drop + Sized {
         ensures state { IfOk result (λ kept. is_state who kept) };
 
     /// Returns what a journal's `base` and `entries` mean to `who`, in this `generation`. They have spellings, as they
-    /// all have when a journal was opened with them.
+    /// all have when a journal was opened with them. It moves them into the state.
     ///
     /// # Errors
     /// `NotAJournal` if they mean nothing, or `NoMemory`.
@@ -74,14 +74,14 @@ pub trait EndState: Drop + Sized {
         alloc: Global,
         who: u16,
         generation: u32,
-        base: &Base,
-        entries: &[Entry],
+        base: Base,
+        entries: Seq<Entry>,
     ) -> Result<Self, StateError>
         requires end { is_end who }
-        requires good { IsGoodBase base.now }
-        requires spelled { AllByRecursion IsGoodEntry entries.now }
+        requires good { IsGoodBase base }
+        requires spelled { AllByRecursion IsGoodEntry entries }
         // In any layout that they had.
-        ensures reads { (layout : ℕ) → Reads (meaning who (record { layout = layout; generation = generation; base = base.now; entries = entries.now })) result }
+        ensures reads { (layout : ℕ) → Reads (meaning who (record { layout = layout; generation = generation; base = base; entries = entries })) result }
         ensures state { IfOk result (λ kept. is_state who kept) };
 
     /// Journals the record `entry` of `who` in `ledger`, and then folds it into the state. It allocates everything

@@ -9,7 +9,7 @@ use crate::hub_state::HubState;
 use crate::leaf_replies::LeafReplies;
 use crate::state_fault::StateError;
 use botjournal::{Base, Entry, Ledger, LedgerError};
-use bytetext::NoMemory;
+use bytetext::{NoMemory, Seq};
 use disks::Disk;
 use std::alloc::Global;
 use std::marker::Model;
@@ -109,8 +109,8 @@ impl EndState for HubState {
         alloc: Global,
         leaves: u16,
         generation: u32,
-        base: &Base,
-        entries: &[Entry],
+        base: Base,
+        entries: Seq<Entry>,
     ) -> Result<HubState, StateError> {
         HubState::read(alloc, leaves, generation, base, entries)
     }

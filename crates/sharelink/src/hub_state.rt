@@ -8,6 +8,7 @@ use crate::accepted::AcceptedChange;
 use crate::fields::know_change;
 use crate::journaled::{base_journaled, change_journaled};
 use crate::leaf_replies::LeafReplies;
+use crate::moved::moved_change;
 use crate::next_change::apply_next;
 use crate::records::{items_of, userfile_of};
 use crate::replies::{
@@ -19,6 +20,7 @@ use bytetext::{Failure, NoMemory, Seq, TryCopy};
 use disks::Disk;
 use std::alloc::Global;
 use std::marker::Model;
+use std::mem;
 use usercodec::Record;
 use userfile::{Change, ChangeFault, Userfile};
 
@@ -103,7 +105,8 @@ impl HubState {
     }
 
     /// Returns what a journal's `base` and `entries` mean, in this `generation`, to a hub with `leaves` leaves. The
-    /// base has a spelling, as it has whenever a journal was opened with it.
+    /// base has a spelling, as it has whenever a journal was opened with it. The records and changes are moved into the
+    /// state.
     ///
     /// # Errors
     /// `NotAJournal` if they mean nothing: the base is no hub's, has a reply to leaf 0 or to a leaf above the last, or
@@ -113,13 +116,13 @@ impl HubState {
         alloc: Global,
         leaves: u16,
         generation: u32,
-        base: &Base,
-        entries: &[Entry],
+        base: Base,
+        entries: Seq<Entry>,
     ) -> Result<HubState, StateError>
-        requires good { IsGoodBase base.now }
+        requires good { IsGoodBase base }
         // In any layout that they had.
-        ensures reads { (layout : _) → Reads (hub_meaning leaves (record { layout = layout; generation = generation; base = base.now; entries = entries.now })) result }
-        ensures foreign { is_hubs leaves base.now ≡ false → result ≡ Err (Refused NotAJournal) }
+        ensures reads { (layout : _) → Reads (hub_meaning leaves (record { layout = layout; generation = generation; base = base; entries = entries })) result }
+        ensures foreign { is_hubs leaves base ≡ false → result ≡ Err (Refused NotAJournal) }
         // Each leaf has a place for its replies, and each reply is at its leaf's place.
         ensures state { IfOk result (λ hub. IsHubState leaves hub) }
         ensures generation { IfOk result (λ hub. hub.generation ≡ generation) }
@@ -136,16 +139,18 @@ impl HubState {
         alloc: Global,
         leaves: u16,
         generation: u32,
-        base: &Base,
+        base: Base,
     ) -> Result<HubState, StateError>
-        requires good { IsGoodBase base.now }
-        ensures reads { Reads (hub_on leaves generation base.now) result }
-        ensures foreign { is_hubs leaves base.now ≡ false → result ≡ Err (Refused NotAJournal) }
+        requires good { IsGoodBase base }
+        ensures reads { Reads (hub_on leaves generation base) result }
+        ensures foreign { is_hubs leaves base ≡ false → result ≡ Err (Refused NotAJournal) }
     {
-        if !is_hubs(base, leaves) {
+        if !is_hubs(&base, leaves) {
             return Err(Failure::Refused(StateFault::NotAJournal));
         }
-        let userfile = userfile_of(alloc, base.records.as_slice())?;
+        let mut base = base;
+        let records = mem::replace(&mut base.records, Seq::empty(alloc));
+        let userfile = userfile_of(alloc, records.into_vec())?;
         let replies = replies_of(alloc, leaves, base.replies.as_slice())?;
         Ok(HubState {
             floor: base.version,
@@ -203,16 +208,17 @@ impl HubState {
     /// # Errors
     /// `NotAJournal` if it is one that a hub doesn't write in this state, or `NoMemory`, which only an accepted change
     /// can cause. Both leave the state as it was.
-    pub fn take(&mut self, alloc: Global, entry: &Entry) -> Result<(), StateError>
-        ensures takes { Takes hub_record hub_folded self.old entry.now result self.new }
-        ensures memory { result ≡ Err no_memory → is_accepted entry.now ≡ true }
+    pub fn take(&mut self, alloc: Global, entry: Entry) -> Result<(), StateError>
+        ensures takes { Takes hub_record hub_folded self.old entry result self.new }
+        ensures memory { result ≡ Err no_memory → is_accepted entry ≡ true }
     {
-        match entry {
+        let mut entry = entry;
+        match &mut entry {
             Entry::Accepted {
                 origin,
                 request,
                 change,
-            } => self.accept(alloc, *origin, *request, change),
+            } => self.accept(alloc, *origin, *request, moved_change(alloc, change)),
             Entry::Settled {
                 leaf,
                 request,
@@ -224,10 +230,10 @@ impl HubState {
         }
     }
 
-    fn take_all(&mut self, alloc: Global, entries: &[Entry]) -> Result<(), StateError>
-        ensures { TakesAll hub_record hub_folded self.old entries.now result self.new }
+    fn take_all(&mut self, alloc: Global, entries: Seq<Entry>) -> Result<(), StateError>
+        ensures { TakesAll hub_record hub_folded self.old entries result self.new }
     {
-        for entry in entries {
+        for entry in entries.into_vec() {
             match self.take(alloc, entry) {
                 Ok(()) => {}
                 Err(error) => return Err(error),
@@ -241,15 +247,15 @@ impl HubState {
         alloc: Global,
         origin: u16,
         request: u32,
-        change: &Change,
+        change: Change,
     ) -> Result<(), StateError>
-        ensures { Takes hub_record hub_folded self.old (Accepted origin request change.now) result self.new }
+        ensures { Takes hub_record hub_folded self.old (Accepted origin request change) result self.new }
     {
-        if !self.may_accept(origin, request, change) {
+        if !self.may_accept(origin, request, &change) {
             return Err(Failure::Refused(StateFault::NotAJournal));
         }
         let number = self.version() + 1;
-        let entry = AcceptedChange::new(origin, request, change.copy(alloc)?);
+        let entry = AcceptedChange::new(origin, request, change);
         apply_next(alloc, &mut self.userfile, &mut self.tail, entry)?;
         put_reply(&mut self.replies, origin, request, Verdict::Taken(number));
         Ok(())

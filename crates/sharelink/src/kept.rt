@@ -130,7 +130,7 @@ impl<S: EndState, D: Disk> Kept<S, D> {
             Ok(opened) => opened,
             Err(returned) => return Err(returned),
         };
-        match state_in(alloc, who, ledger.generation(), &found) {
+        match state_in(alloc, who, ledger.generation(), found) {
             Ok(state) => {
                 if ledger.layout() == LAYOUT {
                     return Ok(Kept::up(who, state, ledger));
@@ -274,7 +274,7 @@ impl<S: EndState, D: Disk> Kept<S, D> {
                 return Err(Failure::NoMemory);
             }
         };
-        match state_in(alloc, self.who, self.ledger.generation(), &found) {
+        match state_in(alloc, self.who, self.ledger.generation(), found) {
             Ok(state) => {
                 self.state = state;
                 self.doubt = None;
@@ -332,25 +332,20 @@ fn empty_base(alloc: Global, bot: u16, last: u32) -> Base
     }
 }
 
-// Returns the state that a journal means.
+// Returns the state that a journal means. What was found in the journal is moved into it.
 fn state_in<S: EndState>(
     alloc: Global,
     who: u16,
     generation: u32,
-    found: &Found,
+    found: Found,
 ) -> Result<S, StateError>
     requires end { S.is_end who }
-    requires good { IsGoodFound found.now }
-    ensures reads { (layout : _) → Reads (S.meaning who (contents_in layout generation found.now)) result }
+    requires good { IsGoodFound found }
+    ensures reads { (layout : _) → Reads (S.meaning who (contents_in layout generation found)) result }
     ensures state { IfOk result (λ kept. S.is_state who kept) }
 {
-    S::read(
-        alloc,
-        who,
-        generation,
-        &found.base,
-        found.entries.as_slice(),
-    )
+    let Found { base, entries } = found;
+    S::read(alloc, who, generation, base, entries)
 }
 
 // Converts the error of a journal that could not be rewritten.

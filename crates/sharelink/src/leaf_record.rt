@@ -3,7 +3,7 @@ use crate::end_state::EndState;
 use crate::leaf_state::LeafState;
 use crate::state_fault::StateError;
 use botjournal::{Base, Entry, Ledger, LedgerError};
-use bytetext::NoMemory;
+use bytetext::{NoMemory, Seq};
 use disks::Disk;
 use std::alloc::Global;
 use std::marker::Model;
@@ -127,8 +127,8 @@ impl EndState for LeafState {
         alloc: Global,
         number: u16,
         generation: u32,
-        base: &Base,
-        entries: &[Entry],
+        base: Base,
+        entries: Seq<Entry>,
     ) -> Result<LeafState, StateError> {
         match LeafState::read(alloc, number, generation, base, entries) {
             Ok(leaf) => {

@@ -1,6 +1,7 @@
 // What a leaf keeps.
 use crate::fields::know_change;
 use crate::journaled::{base_journaled, change_journaled};
+use crate::moved::moved_change;
 use crate::records::{items_of, userfile_of};
 use crate::requests::{has_room, is_out, remove_request};
 use crate::state_fault::{StateError, StateFault};
@@ -9,6 +10,7 @@ use bytetext::{Failure, NoMemory, Seq, TryCopy, copies_of};
 use disks::Disk;
 use std::alloc::Global;
 use std::marker::Model;
+use std::mem;
 use usercodec::Record;
 use userfile::{Change, Userfile};
 
@@ -85,7 +87,7 @@ impl LeafState {
     }
 
     /// Returns what a journal's `base` and `entries` mean, in this `generation`, to the leaf `number`. The base has a
-    /// spelling, as it has whenever a journal was opened with it.
+    /// spelling, as it has whenever a journal was opened with it. The records and requests are moved into the state.
     ///
     /// # Errors
     /// `NotAJournal` if they mean nothing: the base is another bot's or has records that no userfile holds, or an entry
@@ -94,15 +96,15 @@ impl LeafState {
         alloc: Global,
         number: u16,
         generation: u32,
-        base: &Base,
-        entries: &[Entry],
+        base: Base,
+        entries: Seq<Entry>,
     ) -> Result<LeafState, StateError>
-        requires good { IsGoodBase base.now }
+        requires good { IsGoodBase base }
         // In any layout that they had.
-        ensures reads { (layout : _) → Reads (leaf_meaning number (record { layout = layout; generation = generation; base = base.now; entries = entries.now })) result }
-        ensures foreign { base.now.bot ≢ number → result ≡ Err (Refused NotAJournal) }
+        ensures reads { (layout : _) → Reads (leaf_meaning number (record { layout = layout; generation = generation; base = base; entries = entries })) result }
+        ensures foreign { base.bot ≢ number → result ≡ Err (Refused NotAJournal) }
         // If the entries have spellings, so have the outstanding requests, and a base may hold them.
-        ensures good { IfOk result (λ leaf. AllByRecursion IsGoodEntry entries.now → AreOut leaf.last leaf.out) }
+        ensures good { IfOk result (λ leaf. AllByRecursion IsGoodEntry entries → AreOut leaf.last leaf.out) }
     {
         let mut leaf = LeafState::on_base(alloc, number, generation, base)?;
         match leaf.take_all(alloc, entries) {
@@ -116,22 +118,24 @@ impl LeafState {
         alloc: Global,
         number: u16,
         generation: u32,
-        base: &Base,
+        base: Base,
     ) -> Result<LeafState, StateError>
-        requires good { IsGoodBase base.now }
-        ensures reads { Reads (leaf_on number generation base.now) result }
-        ensures foreign { base.now.bot ≢ number → result ≡ Err (Refused NotAJournal) }
+        requires good { IsGoodBase base }
+        ensures reads { Reads (leaf_on number generation base) result }
+        ensures foreign { base.bot ≢ number → result ≡ Err (Refused NotAJournal) }
     {
         if base.bot != number {
             return Err(Failure::Refused(StateFault::NotAJournal));
         }
-        let userfile = userfile_of(alloc, base.records.as_slice())?;
-        let out = copies_of(alloc, base.out.as_slice())?;
+        let mut base = base;
+        let records = mem::replace(&mut base.records, Seq::empty(alloc));
+        let out = mem::replace(&mut base.out, Seq::empty(alloc));
+        let userfile = userfile_of(alloc, records.into_vec())?;
         Ok(LeafState {
             version: base.version,
             userfile,
             last: base.last_request,
-            out,
+            out: out.into_vec(),
             generation,
         })
     }
@@ -191,13 +195,14 @@ impl LeafState {
     /// # Errors
     /// `NotAJournal` if it is one that a leaf doesn't write in this state, or `NoMemory`, which only a change that is
     /// kept or that adds something can cause. Both leave the state as it was.
-    pub fn take(&mut self, alloc: Global, entry: &Entry) -> Result<(), StateError>
-        ensures takes { Takes leaf_record leaf_folded self.old entry.now result self.new }
-        ensures memory { result ≡ Err no_memory → wants_room entry.now ≡ true }
+    pub fn take(&mut self, alloc: Global, entry: Entry) -> Result<(), StateError>
+        ensures takes { Takes leaf_record leaf_folded self.old entry result self.new }
+        ensures memory { result ≡ Err no_memory → wants_room entry ≡ true }
     {
-        match entry {
+        let mut entry = entry;
+        match &mut entry {
             Entry::Applied { number, change } => self.apply(alloc, *number, change),
-            Entry::ReqOut { request, change } => self.send(alloc, *request, change),
+            Entry::ReqOut { request, change } => self.send(*request, moved_change(alloc, change)),
             Entry::ReqDone { request } => self.end(*request),
             Entry::Accepted { .. } | Entry::Settled { .. } => {
                 Err(Failure::Refused(StateFault::NotAJournal))
@@ -205,10 +210,10 @@ impl LeafState {
         }
     }
 
-    fn take_all(&mut self, alloc: Global, entries: &[Entry]) -> Result<(), StateError>
-        ensures { TakesAll leaf_record leaf_folded self.old entries.now result self.new }
+    fn take_all(&mut self, alloc: Global, entries: Seq<Entry>) -> Result<(), StateError>
+        ensures { TakesAll leaf_record leaf_folded self.old entries result self.new }
     {
-        for entry in entries {
+        for entry in entries.into_vec() {
             match self.take(alloc, entry) {
                 Ok(()) => {}
                 Err(error) => return Err(error),
@@ -239,13 +244,12 @@ impl LeafState {
     }
 
     // Folds in a request that goes out.
-    fn send(&mut self, alloc: Global, request: u32, change: &Change) -> Result<(), StateError>
-        ensures { Takes leaf_record leaf_folded self.old (ReqOut request change.now) result self.new }
+    fn send(&mut self, request: u32, change: Change) -> Result<(), StateError>
+        ensures { Takes leaf_record leaf_folded self.old (ReqOut request change) result self.new }
     {
         if !self.may_send(request) {
             return Err(Failure::Refused(StateFault::NotAJournal));
         }
-        let change = change.copy(alloc)?;
         self.out.push(Request {
             number: request,
             change,

@@ -73,6 +73,7 @@ mod leaf_receiving;
 mod leaf_record;
 mod leaf_replies;
 mod leaf_state;
+mod moved;
 mod next_change;
 mod note;
 mod parts;

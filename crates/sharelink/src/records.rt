@@ -14,17 +14,16 @@ use std::alloc::Global;
 use usercodec::Record;
 use userfile::{Ban, User, Userfile};
 
-/// Returns the userfile of the records `items`, if one can hold them together.
+/// Returns the userfile of the records `items`, if one can hold them together. It moves them into the userfile.
 ///
 /// # Errors
 /// `NotAJournal` if no userfile holds all of them. `NoMemory`, but never if there are none.
-pub fn userfile_of(alloc: Global, items: &[Record]) -> Result<Userfile, StateError>
-    requires good { AllByRecursion IsGoodRecord items.now }
-    ensures reads { Reads (sound_records items.now) result }
-    ensures memory { result ≡ Err no_memory → 0 < length items.now }
+pub fn userfile_of(alloc: Global, items: Vec<Record>) -> Result<Userfile, StateError>
+    requires good { AllByRecursion IsGoodRecord items.items }
+    ensures reads { Reads (sound_records items.items) result }
+    ensures memory { result ≡ Err no_memory → 0 < length items.items }
 {
-    let users = users_in(alloc, items)?;
-    let bans = bans_in(alloc, items)?;
+    let (users, bans) = users_and_bans(alloc, items)?;
     match Userfile::from_records(alloc, users, bans) {
         Ok(userfile) => Ok(userfile),
         Err(Failure::Refused(_)) => Err(Failure::Refused(StateFault::NotAJournal)),
@@ -32,32 +31,21 @@ pub fn userfile_of(alloc: Global, items: &[Record]) -> Result<Userfile, StateErr
     }
 }
 
-fn users_in(alloc: Global, items: &[Record]) -> Result<Vec<User>, NoMemory>
-    ensures users { IfOk result (λ users. users.items ≡ users_in items.now) }
-    ensures memory { IfErr result (λ _. 0 < length items.now) }
+// Returns the users and the bans among the records, each in their order.
+fn users_and_bans(alloc: Global, items: Vec<Record>) -> Result<(Vec<User>, Vec<Ban>), NoMemory>
+    ensures users { IfOk result (λ parts. parts.0.items ≡ users_in items.items) }
+    ensures bans { IfOk result (λ parts. parts.1.items ≡ bans_in items.items) }
+    ensures memory { IfErr result (λ _. 0 < length items.items) }
 {
     let mut users = Vec::new(alloc);
-    for item in items {
-        match item {
-            Record::User(user) => users.push(user.copy(alloc)?)?,
-            Record::Ban(_) => {}
-        }
-    }
-    Ok(users)
-}
-
-fn bans_in(alloc: Global, items: &[Record]) -> Result<Vec<Ban>, NoMemory>
-    ensures bans { IfOk result (λ bans. bans.items ≡ bans_in items.now) }
-    ensures memory { IfErr result (λ _. 0 < length items.now) }
-{
     let mut bans = Vec::new(alloc);
     for item in items {
         match item {
-            Record::User(_) => {}
-            Record::Ban(ban) => bans.push(ban.copy(alloc)?)?,
+            Record::User(user) => users.push(user)?,
+            Record::Ban(ban) => bans.push(ban)?,
         }
     }
-    Ok(bans)
+    Ok((users, bans))
 }
 
 // Returns the userfile's records one by one, its users first. Each has a spelling.

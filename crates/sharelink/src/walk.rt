@@ -42,7 +42,7 @@ impl<'a> Walk<'a> {
         ensures { IfOk result (λ userfile. userfile ≡ records_from (left self.entry)) }
     {
         let items = self.copies(alloc)?;
-        match userfile_of(alloc, items.as_slice()) {
+        match userfile_of(alloc, items) {
             Ok(userfile) => Ok(userfile),
             Err(_) => Err(NoMemory),
         }

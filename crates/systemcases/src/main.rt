@@ -2,11 +2,12 @@
 //! machine. It prints what it sees of each.
 //!
 //! No contract can say what a file holds, so these cases look. Another opening of the file reads back what was written.
-//! A second disk finds the file in use. An opening changes the time of the last writing. A disk whose descriptor was
-//! closed under it refuses a write and a sync, since both go to the file. The program stops the making of a journal at
-//! each call of its disks, with five ways of tearing, and prints what the next start does. For a bot's folder it prints
-//! what a start finds after one that was stopped at each step of its making, beside one that runs, after one that
-//! ended, and where a gate of its journal is closed; and what is found of the numbers and the lines that the folder keeps.
+//! A disk whose reads have ended still writes, and refuses a read. A second disk finds the file in use. An opening
+//! changes the time of the last writing. A disk whose descriptor was closed under it refuses a write and a sync, since
+//! both go to the file. The program stops the making of a journal at each call of its disks, with five ways of tearing,
+//! and prints what the next start does. For a bot's folder it prints what a start finds after one that was stopped at
+//! each step of its making, beside one that runs, after one that ended, and where a gate of its journal is closed; and
+//! what is found of the numbers and the lines that the folder keeps.
 //!
 //! No contract can say either what a socket gives and takes. The program prints that the bytes that one end sends come
 //! out of the other in order; that a waiting caller is let in; that the watch names the token of a socket that has

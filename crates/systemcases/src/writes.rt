@@ -27,16 +27,33 @@ fn write_twice<R: AllocGlobal + Files<File = File>>(rt: &R, disk: FileDisk, seen
     );
     seen.note("the file holds both", yes(holds(rt, "a JOURNAL, longer")));
     seen.note("synced", synced(&mut disk));
+    end_reads(rt, disk, seen);
+}
+
+// Ends the reads of the disk, and writes on it once more.
+fn end_reads<R: AllocGlobal + Files<File = File>>(rt: &R, disk: FileDisk, seen: &mut Seen) {
+    let mut disk = disk;
+    let mut byte = [0];
+    seen.note("read", done(disk.read(0, &mut byte).is_ok()));
+    disk.end_reads();
+    let word = put(&mut disk, 15, b"er!");
+    seen.note("another text, once its reads have ended", word);
+    seen.note("the file holds it", yes(holds(rt, "a JOURNAL, longer!")));
+    seen.note("synced", synced(&mut disk));
+    seen.note("that is 18 bytes", yes(disk.len() == 18));
+    seen.note("read then", done(disk.read(0, &mut byte).is_ok()));
+    seen.note("that is one failure", yes(disk.failures() == 1));
+    seen.note("a write after it", put(&mut disk, 17, b"?"));
 }
 
 // Opens the disk on the file, whose time of last writing was set to 0.
 fn open_again<R: AllocGlobal + Files<File = File>>(rt: &R, seen: &mut Seen) {
     seen.note("its time set to 0", yes(set_back(rt) && is_time_0(rt)));
     match FileDisk::open(rt, "first") {
-        Ok(disk) => seen.note("opened again, it holds 17 bytes", yes(disk.len() == 17)),
+        Ok(disk) => seen.note("opened again, it holds 18 bytes", yes(disk.len() == 18)),
         Err(_) => seen.note("opened again", "refused"),
     }
-    seen.note("the file holds both", yes(holds(rt, "a JOURNAL, longer")));
+    seen.note("the file holds all", yes(holds(rt, "a JOURNAL, longer!")));
     seen.note("its time is 0", yes(is_time_0(rt)));
 }
 

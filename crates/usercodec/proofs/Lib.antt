@@ -6,6 +6,7 @@ pub mod EditLaws
 pub mod ChangeLaws
 pub mod SortLaws
 pub mod ItemSteps
+pub mod PassLaws
 pub mod HeldLaws
 pub mod ItemLaws
 pub mod NewLaws

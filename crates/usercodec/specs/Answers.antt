@@ -15,6 +15,11 @@ abbrev pub Gives : {A B : Type 0} → (A → B) → Result A (Failure CodecFault
 Gives view (Ok x) reading = reading ≡ Ok (view x)
 Gives view (Err failure) reading = Tells failure reading
 
+-- a reader that passes over a value, without building it, leaves the bytes after the value
+abbrev pub Passes : {A : Type 0} → Result Unit (Failure CodecFault) → Reading A → List ℕ → Type 0
+Passes {A = A} (Ok done) reading rest = (value : A) × (reading ≡ Ok (value, rest))
+Passes (Err failure) reading rest = Tells failure reading
+
 -- a reader that copies may also run out of memory, but only if reading gives a value
 abbrev pub MayTell : {A : Type 0} → Failure CodecFault → Result A CodecFault → Type 0
 MayTell (Refused fault) reading = reading ≡ Err fault

@@ -5,7 +5,7 @@ use crate::change_fields::{change, nameless_change};
 use crate::fault::{CodecError, CodecFault};
 use crate::fault_byte::fault_of_byte;
 use crate::old::change_old;
-use crate::record_lists::{tagged_records, tagged_records_old};
+use crate::record_lists::{pass_records, tagged_records, tagged_records_old};
 use crate::records::{Record, tagged_record};
 use bytetext::Failure;
 use flagexpr::Flags;
@@ -45,7 +45,7 @@ impl<'a> Model for Reader<'a> {
 impl<'a> Reader<'a> {
     ghost use Rattle.std.specs.Prelude.{◌≡◌, ◌<◌, ◌↔◌, [], length, IfOk, IfErr, OnErr, IsTrue};
     ghost use Rattle.std.specs.Int.{w16, w32};
-    ghost use Rattle.usercodec.specs.Answers.{Gives, Makes, Finds};
+    ghost use Rattle.usercodec.specs.Answers.{Gives, Makes, Passes, Finds};
     ghost use Rattle.usercodec.specs.Fields.{byte_at, bytes_at, number_at};
     ghost use Rattle.usercodec.specs.FaultBytes.{fault_at};
     ghost use Rattle.usercodec.specs.Changes.{change_at};
@@ -194,6 +194,20 @@ impl<'a> Reader<'a> {
         let records = tagged_records(alloc, &mut ahead, count)?;
         self.rest = ahead.rest;
         Ok(records)
+    }
+
+    /// Passes over `count` records, one after the other, without building them. Allocates nothing.
+    ///
+    /// # Errors
+    /// `Refused` with the first fault of the bytes from the left.
+    pub fn pass_records(&mut self, count: usize) -> Result<(), CodecError>
+        ensures value { Passes result (so_many_records_at count self.old) self.new }
+        ensures unchanged { OnErr result (self.new ≡ self.old) }
+    {
+        let mut ahead = Reader { rest: self.rest };
+        pass_records(&mut ahead, count)?;
+        self.rest = ahead.rest;
+        Ok(())
     }
 
     /// Reads a change as the layouts 2 and 3 spelled it: see [`read_nameless_change`](crate::read_nameless_change).

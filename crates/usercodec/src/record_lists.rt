@@ -1,14 +1,14 @@
 // Writes and reads several records, one after the other.
 ghost use Rattle.std.specs.Prelude.{◌≡◌, ◌≤◌, ◌<◌, ◌+◌, ◌++◌, length, OnOk, OnErr, IfErr, vec_capacity, vec_len};
 ghost use Rattle.std.specs.List.{AllByRecursion, flat_map};
-ghost use Rattle.usercodec.specs.Answers.{Finds};
+ghost use Rattle.usercodec.specs.Answers.{Finds, Passes};
 ghost use Rattle.usercodec.specs.Records.{record_bytes, HasShape, so_many_records_at};
 ghost use Rattle.usercodec.specs.Old.{so_many_records_at_old};
 
 use crate::fault::CodecError;
 use crate::old::tagged_record_old;
 use crate::reader::Reader;
-use crate::records::{Record, put_record, tagged_record};
+use crate::records::{Record, pass_record, put_record, tagged_record};
 use bytetext::NoMemory;
 use std::alloc::Global;
 
@@ -47,7 +47,17 @@ pub(crate) fn tagged_records(
     Ok(records)
 }
 
-// The same for layout 1.
+// Passes over `count` records without building them.
+pub(crate) fn pass_records(reader: &mut Reader<'_>, count: usize) -> Result<(), CodecError>
+    ensures { Passes result (so_many_records_at count reader.old) reader.new }
+{
+    for _ in 0..count {
+        pass_record(reader)?;
+    }
+    Ok(())
+}
+
+// Reads records as layout 1 spelled them.
 pub(crate) fn tagged_records_old(
     alloc: Global,
     reader: &mut Reader<'_>,

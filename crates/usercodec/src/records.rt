@@ -2,7 +2,7 @@
 ghost use Rattle.std.specs.Prelude.{◌≡◌, ℕ, List, ◌++◌, ◌∷◌, length, take, IfOk, OnOk};
 ghost use Rattle.std.specs.Prelude.{◌≤◌, ◌<◌, ◌+◌, OnErr, vec_capacity, vec_len};
 ghost use Rattle.usercodec.specs.declared.records.Record.{Record};
-ghost use Rattle.usercodec.specs.Answers.{Makes, Decodes, Reads};
+ghost use Rattle.usercodec.specs.Answers.{Makes, Passes, Decodes, Reads};
 ghost use Rattle.usercodec.specs.Records.{record_bytes, HasShape, IsGoodRecord, record_fields_at, record_at};
 
 use crate::bans::{held_ban_fields, put_ban};
@@ -112,6 +112,32 @@ fn fields(alloc: Global, tag: u8, reader: &mut Reader<'_>) -> Result<Record, Cod
         4 => {
             let ban = held_ban_fields(reader)?;
             Ok(Record::Ban(ban.copy(alloc)?))
+        }
+        _ => Err(Failure::Refused(CodecFault::BadTag)),
+    }
+}
+
+// Passes over a record without building it.
+#[tactic(auto, unfolding(crate::specs::Records::record_at))]
+pub(crate) fn pass_record(reader: &mut Reader<'_>) -> Result<(), CodecError>
+    ensures { Passes result (record_at reader.old) reader.new }
+{
+    let tag = reader.byte()?;
+    pass_fields(tag, reader)
+}
+
+#[tactic(auto, unfolding(crate::specs::Records::record_fields_at))]
+fn pass_fields(tag: u8, reader: &mut Reader<'_>) -> Result<(), CodecError>
+    ensures { Passes result (record_fields_at tag reader.old) reader.new }
+{
+    match tag {
+        3 => {
+            user_fields(reader)?;
+            Ok(())
+        }
+        4 => {
+            held_ban_fields(reader)?;
+            Ok(())
         }
         _ => Err(Failure::Refused(CodecFault::BadTag)),
     }

@@ -1,6 +1,6 @@
 -- The listings under a tail, after one is put in, and after those of a user's place are left out.
 use Rattle.std.proofs.Common.{◌≡◌, ℕ, zero, suc, ◌-◌, ◌<◌, ◌≤◌, ◌==◌, nat_eq, nat_lt, inl, inr, ◌⊎◌, Bool, true, false, cond, not, ◌&&◌, ◌||◌, List, [], ◌∷◌}
-use Rattle.std.proofs.Common.{◌++◌, map, filter, length, refl, sym, ap, subst, ◌∙◌, arith, None, Some, slice_index, slice_set, true≢false}
+use Rattle.std.proofs.Common.{◌++◌, drop, map, filter, length, refl, sym, ap, subst, ◌∙◌, arith, None, Some, slice_index, slice_set, true≢false}
 use Rattle.std.specs.List.{list_any, AllByRecursion, IsDistinct}
 use Rattle.std.specs.Map.{keys_of, lookup, set_value}
 use Rattle.std.proofs.lemmas.Map.Keys.{IsDistinct-head, IsDistinct-tail}
@@ -30,6 +30,11 @@ IsIn-left n (x ∷ xs) ys (inr later) = inr (IsIn-left n xs ys later)
 pub IsIn-right : (n : Listing) (xs ys : List Listing) → IsIn n ys → IsIn n (xs ++ ys)
 IsIn-right n [] ys h = h
 IsIn-right n (x ∷ xs) ys h = inr (IsIn-right n xs ys h)
+
+pub IsIn-drop : (x : Listing) (n : ℕ) (xs : List Listing) → IsIn x (drop n xs) → IsIn x xs
+IsIn-drop x zero xs h = h
+IsIn-drop x (suc n) [] h = h
+IsIn-drop x (suc n) (y ∷ ys) h = inr (IsIn-drop x n ys h)
 
 pub IsIn-last : (n : Listing) (xs : List Listing) → IsIn n (xs ++ n ∷ [])
 IsIn-last n xs = IsIn-right n xs (n ∷ []) (inl refl)

@@ -86,12 +86,13 @@ fn listings_under<'a>(groups: &'a IndexMap<Tail, Vec<Listing>>, tail: Tail) -> &
     }
 }
 
-// Adds a listing under a tail.
+// Adds a listing under a tail, if it is not among the last `recent` ones there.
 pub(crate) fn add_listing(
     index: &mut TailIndex,
     alloc: Global,
     tail: Tail,
     listing: &Listing,
+    recent: usize,
 ) -> Result<(), NoMemory>
     requires { length tail < TAIL_LENGTHS }
     ensures kept { Keeps index.old index.new }
@@ -100,15 +101,16 @@ pub(crate) fn add_listing(
     ensures err { OnErr result (AddsNothing index.old.groups.entries index.new.groups.entries) }
 {
     index.lengths[tail.as_bytes().len()] = 1;
-    put(&mut index.groups, alloc, tail, listing)
+    put(&mut index.groups, alloc, tail, listing, recent)
 }
 
-// Adds a listing to the group of a tail.
+// Adds a listing to the group of a tail, if it is not among the last `recent` ones there.
 fn put(
     groups: &mut IndexMap<Tail, Vec<Listing>>,
     alloc: Global,
     tail: Tail,
     listing: &Listing,
+    recent: usize,
 ) -> Result<(), NoMemory>
     ensures kept { (t : List ℕ) → KeepsAll (listings_at t groups.old.entries) (listings_at t groups.new.entries) }
     ensures only { AddsOnly groups.old.entries groups.new.entries tail listing.now }
@@ -116,7 +118,7 @@ fn put(
     ensures err { OnErr result (AddsNothing groups.old.entries groups.new.entries) }
 {
     if let Some(group) = groups.get_mut(&tail) {
-        return put_once(group, listing);
+        return put_once(group, listing, recent);
     }
     let mut group = Vec::new(alloc);
     group.push(*listing)?;
@@ -124,20 +126,21 @@ fn put(
     Ok(())
 }
 
-// Appends a listing if it is not in the group yet.
-fn put_once(group: &mut Vec<Listing>, listing: &Listing) -> Result<(), NoMemory>
+// Appends a listing if it is not among the last `recent` ones of the group.
+fn put_once(group: &mut Vec<Listing>, listing: &Listing, recent: usize) -> Result<(), NoMemory>
     ensures kept { KeepsAll group.old.items group.new.items }
     ensures only { IsWithOnly group.old.items group.new.items listing.now }
     ensures ok { OnOk result (IsIn listing.now group.new.items) }
     ensures err { OnErr result (KeepsAll group.new.items group.old.items) }
 {
-    if !has_listing(group.as_slice(), listing) {
+    let first = group.len().saturating_sub(recent);
+    if !has_listing(&group[first..], listing) {
         group.push(*listing)?;
     }
     Ok(())
 }
 
-// Whether a listing is in the group.
+// Whether a listing is in a group.
 fn has_listing(group: &[Listing], listing: &Listing) -> bool
     ensures { result ≡ list_any (same_listing listing.now) group.now }
 {

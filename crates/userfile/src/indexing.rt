@@ -14,7 +14,7 @@ ghost use Rattle.userfile.specs.Together.{repeats_handle};
 use crate::entries::{edit_user, keep_other_users, push_mask};
 use crate::hostmask::Hostmask;
 use crate::index::{TailIndex, add_listing, keep_masks, listing_of, new_index, remove_user};
-use crate::limits::MAX_HANDLE;
+use crate::limits::{MAX_HANDLE, MAX_MASKS};
 use crate::user::User;
 use crate::user_edits::UserEdit;
 use bytetext::NoMemory;
@@ -72,7 +72,7 @@ fn add_host_at(
     ensures ok { OnOk result (values users.new ≡ with_user handle.now (with_mask mask) (values users.old)) }
     ensures err { OnErr result (values users.new ≡ values users.old) }
 {
-    add_mask(index, alloc, &mask, place)?;
+    add_mask(index, alloc, &mask, place, usize::MAX)?;
     match push_mask(users, handle, mask) {
         Ok(()) => Ok(()),
         Err(NoMemory) => {
@@ -151,7 +151,8 @@ pub(crate) fn index_of(
     Ok(index)
 }
 
-// Adds these masks, of the user at position `place`, under their tails.
+// Adds these masks, of the user at position `place`, under their tails. They are all that the user has, so their
+// listings are the last ones of their groups.
 fn add_masks(
     index: &mut TailIndex,
     alloc: Global,
@@ -163,22 +164,23 @@ fn add_masks(
     ensures ok { OnOk result (AreUnder index.new place masks.now) }
 {
     for mask in masks {
-        add_mask(index, alloc, mask, place)?;
+        add_mask(index, alloc, mask, place, MAX_MASKS)?;
     }
     Ok(())
 }
 
-// Adds a mask, of the user at position `place`, under its tail.
+// Adds a mask, of the user at position `place`, under its tail, if its listing is not among the last `recent` ones there.
 fn add_mask(
     index: &mut TailIndex,
     alloc: Global,
     mask: &Hostmask,
     place: usize,
+    recent: usize,
 ) -> Result<(), NoMemory>
     ensures kept { Keeps index.old index.new }
     ensures only { AddsOnly index.old.groups.entries index.new.groups.entries (mask_tail mask.now) (listing_of place mask.now) }
     ensures ok { OnOk result (IsUnder index.new (mask_tail mask.now) (listing_of place mask.now)) }
     ensures err { OnErr result (AddsNothing index.old.groups.entries index.new.groups.entries) }
 {
-    add_listing(index, alloc, mask.tail(), &listing_of(mask, place))
+    add_listing(index, alloc, mask.tail(), &listing_of(mask, place), recent)
 }

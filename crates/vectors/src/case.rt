@@ -38,6 +38,7 @@ enum Asked {
     Numeric,
     OldChange,
     OldRecord,
+    Pass,
     Person,
     PersonBy,
     Prefix,
@@ -58,7 +59,7 @@ enum Asked {
     Zone,
 }
 
-const ASKED: [(&[u8], Asked); 45] = [
+const ASKED: [(&[u8], Asked); 46] = [
     (b"ban", Asked::Ban),
     (b"banby", Asked::BanBy),
     (b"binds", Asked::Binds),
@@ -86,6 +87,7 @@ const ASKED: [(&[u8], Asked); 45] = [
     (b"numeric", Asked::Numeric),
     (b"oldchange", Asked::OldChange),
     (b"oldrecord", Asked::OldRecord),
+    (b"pass", Asked::Pass),
     (b"person", Asked::Person),
     (b"personby", Asked::PersonBy),
     (b"prefix", Asked::Prefix),
@@ -151,6 +153,7 @@ fn answer_to(asked: Asked, alloc: Global, words: &[Text], out: &mut Sink) -> Res
         Asked::Numeric => lines::numeric(words, out),
         Asked::OldChange => spellings::old_change(alloc, words, out),
         Asked::OldRecord => spellings::old_record(alloc, words, out),
+        Asked::Pass => spellings::pass(alloc, words, out),
         Asked::Person => persons::person(alloc, words, out),
         Asked::PersonBy => persons::person_by(alloc, words, out),
         Asked::Prefix => lines::prefix(words, out),

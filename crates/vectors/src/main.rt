@@ -26,6 +26,7 @@
 //! | `spell CHANGE` | the bytes that spell the change, or the code of what is wrong with its shape |
 //! | `change BYTES`, `record BYTES` | how many bytes spell a change or record, and what they spell, or the code |
 //! | `oldchange BYTES`, `oldrecord BYTES` | the same for a change or record of layout 1 |
+//! | `pass COUNT BYTES` | the record after so many others, which are passed over, or the code |
 //! | `respell change\|record BYTES` | the bytes that spell what was read, or the code |
 //! | `frame PACKET` | the bytes that spell the packet |
 //! | `frames PIECE..` | for each piece of a stream the packets that end in it and the code of the fault, or `none` |

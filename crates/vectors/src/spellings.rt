@@ -1,10 +1,10 @@
 // Values as bytes.
 use bytetext::Text;
-use caselines::{BAD_WORDS, CaseError, Sink, put_change, put_record};
+use caselines::{BAD_WORDS, CaseError, Sink, number, put_change, put_record};
 use std::alloc::Global;
 use usercodec::{
-    CodecError, Decoded, Record, read_change, read_change_old, read_record, read_record_old,
-    write_change, write_record,
+    CodecError, Decoded, Reader, Record, read_change, read_change_old, read_record,
+    read_record_old, write_change, write_record,
 };
 use userfile::{Change, shape};
 
@@ -45,6 +45,26 @@ pub fn record(alloc: Global, words: &[Text], out: &mut Sink) -> Result<(), CaseE
 /// Answers `oldrecord BYTES` on `out`: the same for layout 1.
 pub fn old_record(alloc: Global, words: &[Text], out: &mut Sink) -> Result<(), CaseError> {
     record_shown(alloc, read_record_old(alloc, only(words)?), out)
+}
+
+/// Answers `pass COUNT BYTES` on `out`: the record after so many others, which are passed over, or the code.
+pub fn pass(alloc: Global, words: &[Text], out: &mut Sink) -> Result<(), CaseError> {
+    let [count, bytes] = words else {
+        return Err(BAD_WORDS);
+    };
+    match record_after(alloc, number(count.as_bytes())?, bytes.as_bytes()) {
+        Ok(record) => {
+            put_record(alloc, &record, out);
+            Ok(())
+        }
+        Err(error) => tell(error, out),
+    }
+}
+
+fn record_after(alloc: Global, count: usize, bytes: &[u8]) -> Result<Record, CodecError> {
+    let mut reader = Reader::new(bytes);
+    reader.pass_records(count)?;
+    reader.record(alloc)
 }
 
 // The bytes of a case that has them alone.

@@ -1,10 +1,10 @@
--- Which pairs of adjacent bytes a text has, and which a mask needs, as sets of 256 places (our own choice).
+-- Which pairs of adjacent bytes a text has, and which a mask needs, as sets of 128 places (our own choice).
 use Rattle.std.specs.Prelude.{ℕ, ◌+◌, ◌-◌, ◌*◌, ◌%◌, ◌^◌, Bool, ◌==◌, ◌&&◌, nat_lt, if◌then◌else◌, List, [], ◌∷◌, bit_and, bit_or}
 use Rattle.rfccase.specs.Casemapping.{low, folded}
 use Rattle.wildmask.specs.declared.items.Item.{Item}
 use Rattle.wildmask.specs.declared.items.Item.TheVariants.{Literal, AnyByte, AnyText, NoSpace, Spaces}
 
--- a set of places: those below 128 as the bits of one number, and the others, less 128, as the bits of another
+-- a set of places: those below 64 as the bits of one number, and the others, less 64, as the bits of another
 pub record Pairs : Type 0 where
   pub first : ℕ
   pub second : ℕ
@@ -18,12 +18,12 @@ either a b = record { first = bit_or a.first b.first; second = bit_or a.second b
 
 -- the place of a pair of lower cases; several pairs share one
 abbrev pub place_of : ℕ → ℕ → ℕ
-place_of a b = (a + b * 23) % 256
+place_of a b = (a + b * 23) % 128
 
 abbrev pub pair : ℕ → ℕ → Pairs
 pair a b = record {
-  first = if nat_lt (place_of a b) 128 then 2 ^ place_of a b else 0;
-  second = if nat_lt (place_of a b) 128 then 0 else 2 ^ (place_of a b - 128);
+  first = if nat_lt (place_of a b) 64 then 2 ^ place_of a b else 0;
+  second = if nat_lt (place_of a b) 64 then 0 else 2 ^ (place_of a b - 64);
 }
 
 -- the places of the pairs of adjacent bytes

@@ -9,12 +9,12 @@ use rfccase::fold;
 use std::marker::Model;
 
 /// A set of pairs of adjacent bytes: those that a text has, or those of literals that a mask needs. A mask that needs a
-/// pair that a text lacks does not match it. Several pairs share one of 256 places, so a pair that seems to be in the
+/// pair that a text lacks does not match it. Several pairs share one of 128 places, so a pair that seems to be in the
 /// set may not be. Contracts see the places as the bits of two numbers.
 #[derive(Clone, Copy, Debug, PartialEq, Eq)]
 pub struct Signature {
-    first: u128,
-    second: u128,
+    first: u64,
+    second: u64,
 }
 
 impl Model for Signature {
@@ -100,9 +100,9 @@ fn needed_pair(first: u8, second: u8) -> Signature
 fn pair_of(a: u8, b: u8) -> Signature
     ensures { result ≡ pair a b }
 {
-    let place = (u32::from(a) + u32::from(b) * 23) % 256;
+    let place = (u32::from(a) + u32::from(b) * 23) % 128;
     Signature {
-        first: if place < 128 { 1 << place } else { 0 },
-        second: if place < 128 { 0 } else { 1 << (place - 128) },
+        first: if place < 64 { 1 << place } else { 0 },
+        second: if place < 64 { 0 } else { 1 << (place - 64) },
     }
 }

@@ -1,7 +1,8 @@
-use Rattle.std.proofs.Common.{◌≡◌, true, [], ◌∷◌, inl, inr, sym, subst, rules}
+use Rattle.std.proofs.Common.{◌≡◌, true, drop, [], ◌∷◌, inl, inr, sym, subst, ap, ◌∙◌}
 use Rattle.std.specs.List.{list_any}
+use Rattle.std.proofs.lemmas.List.{take_rest}
 use Rattle.userfile.specs.Index.{IsIn, same_listing}
-use Rattle.userfile.proofs.GroupLemmas.{IsIn-left, IsIn-last, IsIn-split, IsIn-one, IsIn-found}
+use Rattle.userfile.proofs.GroupLemmas.{IsIn-left, IsIn-last, IsIn-split, IsIn-one, IsIn-found, IsIn-drop}
 use Rattle.userfile.proofs.index.put_once.Goals as goal
 
 pub returns-in_ok-push-clause-kept : goal.returns-in_ok-push-clause-kept
@@ -19,5 +20,8 @@ returns-in_ok-push-clause-ok c = subst (IsIn c.args.listing.now) (sym c.in_ok-pu
 
 pub returns-else-not-has_listing-clause-ok : goal.returns-else-not-has_listing-clause-ok
 returns-else-not-has_listing-clause-ok c =
-    let there : list_any (same_listing c.args.listing.now) c.args.group.now.items ≡ true = search rules in
-    IsIn-found c.args.listing.now c.args.group.now.items there
+    let first = c.saturating_sub-first.result in
+    let whole = c.deref.result.now in
+    let recent : list_any (same_listing c.args.listing.now) (drop first whole) ≡ true =
+    ap (list_any (same_listing c.args.listing.now)) (sym (take_rest whole first)) ∙ sym c.has_listing.ensures ∙ c.if-not-has_listing.false in
+    subst (IsIn c.args.listing.now) c.deref.ensures.value (IsIn-drop c.args.listing.now first whole (IsIn-found c.args.listing.now _ recent))

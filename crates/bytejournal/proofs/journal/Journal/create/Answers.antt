@@ -1,4 +1,5 @@
-use Rattle.std.proofs.Common.{refl, ap}
+use Rattle.std.proofs.Common.{refl, sym, ◌∙◌, ap, subst}
+use Rattle.disks.specs.State.{State, IsSettled}
 use Rattle.bytejournal.specs.Gates.{with_first}
 use Rattle.bytejournal.specs.Meaning.{held}
 use Rattle.bytejournal.proofs.Creating.{new_at_rest, new_counts}
@@ -7,11 +8,17 @@ use Rattle.bytejournal.proofs.journal.Journal.create.Goals as goal
 pub returns-in-Ok : goal.returns-in-Ok
 returns-in-Ok g c =
     let state = g.D.Disk.state in
-    let e = c.in-Ok.ensures in (
+    let first = c.end_reads.new.self in
+    let second = c.end_reads-in-Ok.new.self in
+    let e = c.in-Ok.ensures in
+    let one = ap (λ (s : State). s.seen) c.end_reads.ensures ∙ e.0 in
+    let two = ap (λ (s : State). s.seen) c.end_reads-in-Ok.ensures ∙ e.1 in
+    let settled = subst IsSettled (sym c.end_reads.ensures) e.2 in
+    let settled' = subst IsSettled (sym c.end_reads-in-Ok.ensures) e.3 in (
       refl,
-      new_at_rest g.D.Disk.state c.write_new.new.first c.write_new.new.second c.args.layout c.args.base.now (with_first (g.D.Disk.state c.args.first).seen 0)
-          (g.D.Disk.state c.args.second).seen c.requires.small e.0 e.1 e.2 e.3 _ refl,
-      new_counts g.D.Disk.state c.write_new.new.first c.write_new.new.second c.args.layout c.args.base.now (with_first (g.D.Disk.state c.args.first).seen 0)
-          (g.D.Disk.state c.args.second).seen c.requires.small e.0 e.1 e.2 e.3 _ refl,
-      ap held e.1,
+      new_at_rest g.D.Disk.state first second c.args.layout c.args.base.now (with_first (g.D.Disk.state c.args.first).seen 0)
+          (g.D.Disk.state c.args.second).seen c.requires.small one two settled settled' _ refl,
+      new_counts g.D.Disk.state first second c.args.layout c.args.base.now (with_first (g.D.Disk.state c.args.first).seen 0)
+          (g.D.Disk.state c.args.second).seen c.requires.small one two settled settled' _ refl,
+      ap held two,
     )

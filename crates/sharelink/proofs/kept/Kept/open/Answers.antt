@@ -59,8 +59,8 @@ returns-then-layout-eq-LAYOUT-clause-any_moment g c =
 
 -- ---- an older one
 
-pub returns-in-Ok-state_in-clause-row : goal.returns-in-Ok-state_in-clause-row
-returns-in-Ok-state_in-clause-row g c =
+pub returns-else-layout-eq-LAYOUT-clause-row : goal.returns-else-layout-eq-LAYOUT-clause-row
+returns-else-layout-eq-LAYOUT-clause-row g c =
     let opened = c.in-Ok.opened in
     let account = opened.0.account in
     let before = c.in-Ok-state_in.state in
@@ -77,8 +77,8 @@ returns-in-Ok-state_in-clause-row g c =
     (g.met.S.EndState.renews_layout c.args.who account.contents before) c.put_anew.result
     c.put_anew.ensures.row c.put_anew.ensures.any_moment
 
-pub returns-in-Ok-state_in-clause-any_moment : goal.returns-in-Ok-state_in-clause-any_moment
-returns-in-Ok-state_in-clause-any_moment g c =
+pub returns-else-layout-eq-LAYOUT-clause-any_moment : goal.returns-else-layout-eq-LAYOUT-clause-any_moment
+returns-else-layout-eq-LAYOUT-clause-any_moment g c =
     let opened = c.in-Ok.opened in
     let account = opened.0.account in
     let before = c.in-Ok-state_in.state in
@@ -127,8 +127,8 @@ returns-in-Err-Refused-clause-any_moment g c =
     (left-still state c.args.first c.args.second means becomes c.in-Ok.opened.0.device c.requires.first_settled c.requires.second_settled
     c.in-Ok.ensures.still)
 
-pub returns-clause-any_moment : goal.returns-clause-any_moment
-returns-clause-any_moment g c =
+pub returns-in-Err-NoMemory-clause-any_moment : goal.returns-in-Err-NoMemory-clause-any_moment
+returns-in-Err-NoMemory-clause-any_moment g c =
     let state = g.D.Disk.state in
     let means = g.S.EndState.meaning c.args.who in
     let becomes = Renews g.S.EndState.may g.S.EndState.folded g.S.EndState.renewal in
@@ -145,8 +145,8 @@ returns-then-layout-eq-LAYOUT-clause-gates g c =
     (sym (ap (λ (k : Kept g.row.S.Denot g.row.S-Record.Denot). k.device) c.up.ensures))
     (gates-still state c.args.first c.args.second c.in-Ok.opened.0.device c.requires.first_settled c.requires.second_settled c.in-Ok.ensures.still)
 
-pub returns-in-Ok-state_in-clause-gates : goal.returns-in-Ok-state_in-clause-gates
-returns-in-Ok-state_in-clause-gates g c =
+pub returns-else-layout-eq-LAYOUT-clause-gates : goal.returns-else-layout-eq-LAYOUT-clause-gates
+returns-else-layout-eq-LAYOUT-clause-gates g c =
     let before = c.in-Ok-state_in.state in
     gates-put g.D.Disk.state c.args.first c.args.second (g.S.EndState.may before g.S.EndState.renewal)
     (g.S.EndState.pending c.args.who before g.S.EndState.renewal) (λ (k : Kept g.row.S.Denot g.row.S-Record.Denot). k.device)
@@ -167,8 +167,8 @@ returns-in-Err-Refused-clause-gates g c =
     subst (λ (d : Device). KeepsGates state c.args.first c.args.second d) (sym c.into_disks.ensures.device)
     (gates-still state c.args.first c.args.second c.in-Ok.opened.0.device c.requires.first_settled c.requires.second_settled c.in-Ok.ensures.still)
 
-pub returns-clause-gates : goal.returns-clause-gates
-returns-clause-gates g c =
+pub returns-in-Err-NoMemory-clause-gates : goal.returns-in-Err-NoMemory-clause-gates
+returns-in-Err-NoMemory-clause-gates g c =
     let state = g.D.Disk.state in
     subst (λ (d : Device). KeepsGates state c.args.first c.args.second d) (sym c.into_disks-in-Err-NoMemory.ensures.device)
     (gates-still state c.args.first c.args.second c.in-Ok.opened.0.device c.requires.first_settled c.requires.second_settled c.in-Ok.ensures.still)
