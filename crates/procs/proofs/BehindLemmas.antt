@@ -12,7 +12,7 @@ use Rattle.std.proofs.lemmas.Bool.{eqb-true, eq-eqb, ne_eqb, cases_lt, and_parts
 use Rattle.std.proofs.lemmas.List.Folds.{list_any_none}
 use Rattle.std.specs.List.{cons_option, list_any}
 use Rattle.std.specs.List.Sorted.{IsNonDecreasingBy, IsPartitionPoint}
-use Rattle.wildmask.specs.Signatures.{Pairs, text_signature, is_within}
+use Rattle.wildmask.specs.WideSignatures.{WidePairs, wide_text_signature, is_wide_within}
 use Rattle.procs.specs.declared.bind.Bind.{Bind}
 use Rattle.procs.specs.declared.index.IndexEntry.{IndexEntry}
 use Rattle.procs.specs.Kinds.{is_kind}
@@ -27,7 +27,7 @@ use Rattle.procs.proofs.MaskLemmas.{takes_event-needs}
 -- ---- one entry
 
 -- a bind that needs what the subject lacks isn't called
-pub not_needed : (event : Occurrence) (needs pairs : Pairs) (o : Option Bind) → Tells needs o → pairs ≡ text_signature event.subject → is_within needs pairs ≡ false
+pub not_needed : (event : Occurrence) (needs pairs : WidePairs) (o : Option Bind) → Tells needs o → pairs ≡ wide_text_signature event.subject → is_wide_within needs pairs ≡ false
     → None ≡ slice_get (called event (cons_option o [])) 0
 not_needed event needs pairs None told is_pairs lacks = refl
 not_needed event needs pairs (Some b) told is_pairs lacks = sym (ap (λ c. slice_get (cond c (b ∷ []) []) 0) (by (is_called event b) refl))
@@ -36,7 +36,7 @@ not_needed event needs pairs (Some b) told is_pairs lacks = sym (ap (λ c. slice
     by true e =
         let rest = and_parts (is_kind event.kind b.kind) (takes_event b event && takes_person b event) e in
         let text = and_parts (takes_event b event) (takes_person b event) rest.1 in
-        let has : is_within needs pairs ≡ true = ap (λ n. is_within n pairs) told ∙ ap (is_within (needs_of b)) is_pairs
+        let has : is_wide_within needs pairs ≡ true = ap (λ n. is_wide_within n pairs) told ∙ ap (is_wide_within (needs_of b)) is_pairs
         ∙ takes_event-needs b event text.0 in
         absurd cc
     by false e = refl
@@ -82,11 +82,11 @@ known-next binds entries rest e first known = subst (AreKnown binds) first known
 
 -- if the subject lacks what each of some entries needs, none of their binds is called
 pub none-needed : (event : Occurrence) (binds : List Bind) (entries : List IndexEntry) → AreKnown binds entries
-    → list_any (λ e. is_within e.needs (text_signature event.subject)) entries ≡ false → called event (behind binds entries) ≡ []
+    → list_any (λ e. is_wide_within e.needs (wide_text_signature event.subject)) entries ≡ false → called event (behind binds entries) ≡ []
 none-needed event binds [] known none = refl
 none-needed event binds (e ∷ entries) known none =
-    let pairs = text_signature event.subject in
-    let parts = or_parts (is_within e.needs pairs) (list_any (λ (x : IndexEntry). is_within x.needs pairs) entries) none in
+    let pairs = wide_text_signature event.subject in
+    let parts = or_parts (is_wide_within e.needs pairs) (list_any (λ (x : IndexEntry). is_wide_within x.needs pairs) entries) none in
     behind-next event binds (e ∷ entries) entries e None refl (not_needed event e.needs pairs (bind_of e.number binds) known.0 refl parts.0)
     ∙ none-needed event binds entries known.1 parts.1
 

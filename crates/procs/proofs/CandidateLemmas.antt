@@ -13,7 +13,7 @@ use Rattle.std.specs.Str.{bytes_eq}
 use Rattle.rfccase.specs.Casemapping.{folded, is_same}
 use Rattle.rfccase.proofs.SameLemmas.{length-folded}
 use Rattle.wildmask.specs.Masks.{bind_mask, is_match}
-use Rattle.wildmask.specs.Signatures.{text_signature, is_within}
+use Rattle.wildmask.specs.WideSignatures.{wide_text_signature, is_wide_within}
 use Rattle.wildmask.proofs.TestLemmas.{is_match-Decides}
 use Rattle.flagexpr.specs.Expression.{expression_of, meets}
 use Rattle.flagexpr.specs.Faults.{expression_fault}
@@ -240,7 +240,7 @@ candidates-call event held index some risen apart is = by_kind (is_single event.
 -- if the subject lacks what each of the entries that an index gives for it needs, it calls no bind, whoever it is by
 pub takes-none : (kind : BindKind) (subject : List ℕ) (held : List Bind) (index : KindIndex) (some : List IndexEntry)
     → HaveRisen held → AreApart held → IsIndexOf kind held index → AreCandidates kind subject index some
-    → list_any (λ e. is_within e.needs (text_signature subject)) some ≡ false
+    → list_any (λ e. is_wide_within e.needs (wide_text_signature subject)) some ≡ false
     → (event : Occurrence) → event.kind ≡ kind → event.subject ≡ subject → called event held ≡ []
 takes-none kind subject held index some risen apart is is_some none event of_kind of_subject =
     let here : IsIndexOf event.kind held index = subst (λ (k : BindKind). IsIndexOf k held index) (sym of_kind) is in
@@ -248,8 +248,8 @@ takes-none kind subject held index some risen apart is is_some none event of_kin
     subst (λ (k : BindKind). AreCandidates k event.subject index some) (sym of_kind)
     (subst (λ (s : List ℕ). AreCandidates kind s index some) (sym of_subject) is_some) in
     let all = candidates-call event held index some risen apart here these in
-    let lacks : list_any (λ (e : IndexEntry). is_within e.needs (text_signature event.subject)) some ≡ false =
-    ap (λ (s : List ℕ). list_any (λ (e : IndexEntry). is_within e.needs (text_signature s)) some) of_subject ∙ none in
+    let lacks : list_any (λ (e : IndexEntry). is_wide_within e.needs (wide_text_signature event.subject)) some ≡ false =
+    ap (λ (s : List ℕ). list_any (λ (e : IndexEntry). is_wide_within e.needs (wide_text_signature s)) some) of_subject ∙ none in
     sym all.1 ∙ none-needed event held some all.0 lacks
 
 -- ---- the test is the relation

@@ -1,7 +1,7 @@
 -- The binds behind entries.
 use Rattle.std.specs.Prelude.{◌≡◌, ℕ, ◌==◌, List, [], ◌∷◌, find, Option, Some, None}
 use Rattle.std.specs.List.{cons_option}
-use Rattle.wildmask.specs.Signatures.{Pairs}
+use Rattle.wildmask.specs.WideSignatures.{WidePairs}
 use Rattle.procs.specs.declared.bind.Bind.{Bind}
 use Rattle.procs.specs.declared.index.IndexEntry.{IndexEntry}
 use Rattle.procs.specs.Masks.{needs_of}
@@ -17,7 +17,7 @@ behind binds [] = []
 behind binds (e ∷ entries) = cons_option (bind_of e.number binds) (behind binds entries)
 
 -- what an entry says of its bind is true
-abbrev pub Tells : Pairs → Option Bind → Type 0
+abbrev pub Tells : WidePairs → Option Bind → Type 0
 Tells needs (Some b) = needs ≡ needs_of b
 Tells needs None = Unit {0}
 

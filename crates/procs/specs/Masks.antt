@@ -2,7 +2,7 @@
 use Rattle.std.specs.Prelude.{◌≡◌, ℕ, true, false, if◌then◌else◌, List}
 use Rattle.rfccase.specs.Casemapping.{folded}
 use Rattle.wildmask.specs.Masks.{bind_mask, mask_items}
-use Rattle.wildmask.specs.Signatures.{Pairs, no_pairs, items_signature}
+use Rattle.wildmask.specs.WideSignatures.{WidePairs, no_wide_pairs, wide_items_signature}
 use Rattle.bottimers.specs.declared.calendar.CivilMinute.{CivilMinute}
 use Rattle.bottimers.specs.CronSets.{sets_match}
 use Rattle.bottimers.specs.CronMask.{mask_matches}
@@ -21,9 +21,9 @@ Says kind text (Minutes sets) =
 Says kind text (Wildcards mask) = (is_single kind ≡ false) × (is_cron kind ≡ false) × (mask ≡ bind_mask text)
 
 -- the pairs of bytes that a subject needs to match; keywords are looked up, and cron fields need none
-abbrev pub needs_of : Bind → Pairs
+abbrev pub needs_of : Bind → WidePairs
 needs_of b =
-    if is_single b.kind then no_pairs else (if is_cron b.kind then no_pairs else items_signature (mask_items (bind_mask b.mask)))
+    if is_single b.kind then no_wide_pairs else (if is_cron b.kind then no_wide_pairs else wide_items_signature (mask_items (bind_mask b.mask)))
 
 abbrev pub entry_of : Bind → IndexEntry
 entry_of b = record { number = b.number; needs = needs_of b }

@@ -2,7 +2,7 @@
 ghost use Rattle.std.specs.Prelude.{◌≡◌, [], ◌∷◌, slice_get};
 ghost use Rattle.std.specs.List.{list_any};
 ghost use Rattle.std.specs.Option.{option_copied};
-ghost use Rattle.wildmask.specs.Signatures.{text_signature, is_within};
+ghost use Rattle.wildmask.specs.WideSignatures.{wide_text_signature, is_wide_within};
 ghost use Rattle.procs.specs.Calls.{called, seen};
 ghost use Rattle.procs.specs.Behind.{HaveRisen, Tells, behind, bind_of};
 
@@ -11,7 +11,7 @@ use crate::event::BindEvent;
 use crate::held::Held;
 use crate::index::IndexEntry;
 use std::marker::Model;
-use wildmask::Signature;
+use wildmask::WideSignature;
 
 /// An iterator over the binds that an event calls, oldest first.
 #[derive(Drop)]
@@ -20,12 +20,12 @@ pub struct Called<'t, 'e> {
     entries: &'t [IndexEntry],
     event: BindEvent<'e>,
     // the pairs of bytes that the subject has
-    pairs: Signature,
+    pairs: WideSignature,
 }
 
 impl<'t, 'e> Model for Called<'t, 'e> {
     ghost use Rattle.std.specs.Prelude.{◌≡◌, List};
-    ghost use Rattle.wildmask.specs.Signatures.{text_signature};
+    ghost use Rattle.wildmask.specs.WideSignatures.{wide_text_signature};
     ghost use Rattle.procs.specs.declared.bind.Bind.{Bind};
     ghost use Rattle.procs.specs.Calls.{called, seen};
     ghost use Rattle.procs.specs.Behind.{AreKnown, HaveRisen, behind};
@@ -35,7 +35,7 @@ impl<'t, 'e> Model for Called<'t, 'e> {
     ghost view = { λ c. called (seen c.event) (behind c.held.now c.entries.now) };
 
     ghost invariant = { λ c. HaveRisen c.held.now × AreKnown c.held.now c.entries.now
-        × (c.pairs ≡ text_signature c.event.subject.now) };
+        × (c.pairs ≡ wide_text_signature c.event.subject.now) };
 }
 
 impl<'t, 'e> Called<'t, 'e> {
@@ -65,7 +65,7 @@ impl<'t, 'e> Called<'t, 'e> {
                 channel: event.channel,
                 bot: event.bot,
             },
-            pairs: Signature::of(event.subject),
+            pairs: WideSignature::of(event.subject),
         }
     }
 
@@ -90,11 +90,11 @@ fn if_called<'a>(
     held: &'a [Held],
     entry: &IndexEntry,
     event: &BindEvent,
-    pairs: Signature,
+    pairs: WideSignature,
 ) -> Option<&'a Bind>
     requires risen { HaveRisen held.now }
     requires told { Tells entry.now.needs (bind_of entry.now.number held.now) }
-    requires pairs { pairs ≡ text_signature event.now.subject.now }
+    requires pairs { pairs ≡ wide_text_signature event.now.subject.now }
     ensures { option_copied result ≡ slice_get (called (seen event.now) (behind held.now (entry.now ∷ []))) 0 }
 {
     if !entry.needs.is_within(pairs) {
@@ -110,12 +110,12 @@ fn if_called<'a>(
 
 // Whether `subject` has each pair of bytes that the bind behind one of the entries needs.
 pub(crate) fn has_needed(entries: &[IndexEntry], subject: &[u8]) -> bool
-    ensures { result ≡ list_any (λ e. is_within e.needs (text_signature subject.now)) entries.now }
+    ensures { result ≡ list_any (λ e. is_wide_within e.needs (wide_text_signature subject.now)) entries.now }
 {
     if entries.is_empty() {
         return false;
     }
-    let pairs = Signature::of(subject);
+    let pairs = WideSignature::of(subject);
     entries.iter().any(|entry| entry.needs.is_within(pairs))
 }
 

@@ -12,7 +12,7 @@ use flagexpr::FlagExpr;
 use rfccase::same;
 use std::alloc::Global;
 use std::marker::Model;
-use wildmask::Signature;
+use wildmask::WideSignature;
 
 pub(crate) struct Held {
     bind: Bind,
@@ -128,12 +128,12 @@ impl Held {
     }
 
     // Returns the pairs of bytes that a subject needs to match.
-    fn needs(&self) -> Signature
+    fn needs(&self) -> WideSignature
         ensures { result ≡ needs_of self.now }
     {
         match &self.matcher {
-            Matcher::Wildcards(mask) => mask.signature(),
-            Matcher::Keyword | Matcher::Minutes(_) => Signature::of(&[]),
+            Matcher::Wildcards(mask) => mask.wide_signature(),
+            Matcher::Keyword | Matcher::Minutes(_) => WideSignature::of(&[]),
         }
     }
 

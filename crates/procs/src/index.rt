@@ -13,13 +13,13 @@ use bytetext::NoMemory;
 use indexmap::IndexSet;
 use rfccase::ShortFold;
 use std::alloc::Global;
-use wildmask::Signature;
+use wildmask::WideSignature;
 
 /// An entry says where a bind is, and which pairs of bytes a subject needs to match it.
 #[derive(Clone, Copy)]
 pub struct IndexEntry {
     pub number: u32,
-    pub needs: Signature,
+    pub needs: WideSignature,
 }
 
 /// The binds of one kind, oldest first. `words` holds the keywords of a single kind in lower case, at the same places;

@@ -9,7 +9,8 @@ use Rattle.wildmask.specs.declared.items.Item.{Item}
 use Rattle.wildmask.specs.declared.items.Item.TheVariants.{Literal, AnyByte, AnyText, NoSpace, Spaces}
 use Rattle.wildmask.specs.Codes.{lower, decoded, items_in}
 use Rattle.wildmask.specs.Matching.{Takes, Matches}
-use Rattle.wildmask.specs.Signatures.{Pairs, no_pairs, either, pair, pairs_of, text_signature, needed, items_signature, is_within, same_pairs}
+use Rattle.wildmask.specs.Signatures.{Pairs, Sums, no_pairs, either, pair_if, pairs_of, needed, pairs_needed, items_signature, text_signature, every, is_within, same_pairs}
+use Rattle.wildmask.specs.WideSignatures.{WidePairs, no_wide_pairs, is_low, is_high, wide_items_signature, wide_text_signature, is_wide_within}
 use Rattle.rfccase.proofs.SameLemmas.{low-low}
 use Rattle.rfccase.specs.declared.casemappings.Casemapping.TheVariants.{Rfc1459}
 
@@ -66,23 +67,24 @@ same_within : (a : Pairs) → IsWithin a a
 same_within a = (λ i. omega arith, λ i. omega arith)
 
 -- what the end of a text has the text has
-pairs_of-drop : (cut : ℕ) (text : List ℕ) → IsWithin (pairs_of (folded (drop cut text))) (pairs_of (folded text))
-pairs_of-drop zero text = same_within (pairs_of (folded text))
-pairs_of-drop (suc cut) [] = same_within no_pairs
-pairs_of-drop (suc cut) (x ∷ []) = by cut
+pairs_of-drop : (sums : Sums) (cut : ℕ) (text : List ℕ) → IsWithin (pairs_of sums (folded (drop cut text))) (pairs_of sums (folded text))
+pairs_of-drop sums zero text = same_within (pairs_of sums (folded text))
+pairs_of-drop sums (suc cut) [] = same_within no_pairs
+pairs_of-drop sums (suc cut) (x ∷ []) = by cut
   where
-    by : (cut : ℕ) → IsWithin (pairs_of (folded (drop cut []))) no_pairs
+    by : (cut : ℕ) → IsWithin (pairs_of sums (folded (drop cut []))) no_pairs
     by zero = same_within no_pairs
     by (suc cut) = same_within no_pairs
-pairs_of-drop (suc cut) (x ∷ y ∷ text) = or_right _ (pair (low x) (low y)) (pairs_of (folded (y ∷ text))) (pairs_of-drop cut (y ∷ text))
+pairs_of-drop sums (suc cut) (x ∷ y ∷ text) =
+    or_right _ (pair_if sums (low x) (low y)) (pairs_of sums (folded (y ∷ text))) (pairs_of-drop sums cut (y ∷ text))
 
 -- two literals in front of a mask that matches are a pair of the text
-first_pair : (a b : ℕ) (items : List Item) (text : List ℕ) → Matches Rfc1459 (Literal a ∷ Literal b ∷ items) text
-    → IsWithin (pair (low a) (low b)) (text_signature text)
-first_pair a b items text m = by text m.0 m.1.0 m.1.1 m.1.2.0 m.1.2.1.0 m.1.2.1.1
+first_pair : (sums : Sums) (a b : ℕ) (items : List Item) (text : List ℕ) → Matches Rfc1459 (Literal a ∷ Literal b ∷ items) text
+    → IsWithin (pair_if sums (low a) (low b)) (pairs_of sums (folded text))
+first_pair sums a b items text m = by text m.0 m.1.0 m.1.1 m.1.2.0 m.1.2.1.0 m.1.2.1.1
   where
     by : (text : List ℕ) (k : ℕ) → k ≤ length text → Takes Rfc1459 (Literal a) (take k text) → (j : ℕ) → j ≤ length (drop k text)
-        → Takes Rfc1459 (Literal b) (take j (drop k text)) → IsWithin (pair (low a) (low b)) (text_signature text)
+        → Takes Rfc1459 (Literal b) (take j (drop k text)) → IsWithin (pair_if sums (low a) (low b)) (pairs_of sums (folded text))
     by [] zero within first j early second = cc
     by [] (suc k) within first j early second = absurd (omega arith)
     by (x ∷ text) zero within first j early second = cc
@@ -92,46 +94,70 @@ first_pair a b items text m = by text m.0 m.1.0 m.1.1 m.1.2.0 m.1.2.1.0 m.1.2.1.
     by (x ∷ y ∷ text) (suc zero) within first (suc j) early second =
         let e : low x ≡ low a = cc in
         let f : low y ≡ low b = cc in
-        subst (λ (n : Pairs). IsWithin n (text_signature (x ∷ y ∷ text))) (ap (λ i. pair i (low y)) e ∙ ap (λ i. pair (low a) i) f)
-        (or_left _ (pair (low x) (low y)) (pairs_of (folded (y ∷ text))) (same_within (pair (low x) (low y))))
+        subst (λ (n : Pairs). IsWithin n (pairs_of sums (folded (x ∷ y ∷ text)))) (ap (λ i. pair_if sums i (low y)) e ∙ ap (λ i. pair_if sums (low a) i) f)
+        (or_left _ (pair_if sums (low x) (low y)) (pairs_of sums (folded (y ∷ text))) (same_within (pair_if sums (low x) (low y))))
     by (x ∷ []) (suc (suc k)) within first j early second = absurd (omega arith)
     by (x ∷ y ∷ text) (suc (suc k)) within first j early second = cc
 
-needed_within : (x y : Item) (items : List Item) (text : List ℕ) → Matches Rfc1459 (x ∷ y ∷ items) text → IsWithin (needed x y) (text_signature text)
-needed_within (Literal a) (Literal b) items text m = first_pair a b items text m
-needed_within (Literal a) AnyByte items text m = none_within (text_signature text)
-needed_within (Literal a) AnyText items text m = none_within (text_signature text)
-needed_within (Literal a) NoSpace items text m = none_within (text_signature text)
-needed_within (Literal a) Spaces items text m = none_within (text_signature text)
-needed_within AnyByte y items text m = none_within (text_signature text)
-needed_within AnyText y items text m = none_within (text_signature text)
-needed_within NoSpace y items text m = none_within (text_signature text)
-needed_within Spaces y items text m = none_within (text_signature text)
+needed_within : (sums : Sums) (x y : Item) (items : List Item) (text : List ℕ) → Matches Rfc1459 (x ∷ y ∷ items) text → IsWithin (needed sums x y) (pairs_of sums (folded text))
+needed_within sums (Literal a) (Literal b) items text m = first_pair sums a b items text m
+needed_within sums (Literal a) AnyByte items text m = none_within (pairs_of sums (folded text))
+needed_within sums (Literal a) AnyText items text m = none_within (pairs_of sums (folded text))
+needed_within sums (Literal a) NoSpace items text m = none_within (pairs_of sums (folded text))
+needed_within sums (Literal a) Spaces items text m = none_within (pairs_of sums (folded text))
+needed_within sums AnyByte y items text m = none_within (pairs_of sums (folded text))
+needed_within sums AnyText y items text m = none_within (pairs_of sums (folded text))
+needed_within sums NoSpace y items text m = none_within (pairs_of sums (folded text))
+needed_within sums Spaces y items text m = none_within (pairs_of sums (folded text))
+
+pairs_within : (sums : Sums) (items : List Item) (text : List ℕ) → Matches Rfc1459 items text
+    → IsWithin (pairs_needed sums items) (pairs_of sums (folded text))
+pairs_within sums [] text m = none_within (pairs_of sums (folded text))
+pairs_within sums (x ∷ []) text m = none_within (pairs_of sums (folded text))
+pairs_within sums (x ∷ y ∷ items) text m =
+    or_within (needed sums x y) (pairs_needed sums (y ∷ items)) (pairs_of sums (folded text)) (needed_within sums x y items text m)
+    (within_trans _ (pairs_of sums (folded (drop m.0 text))) _ (pairs_within sums (y ∷ items) (drop m.0 text) m.1.2) (pairs_of-drop sums m.0 text))
 
 pub signature_within : (items : List Item) (text : List ℕ) → Matches Rfc1459 items text → IsWithin (items_signature items) (text_signature text)
-signature_within [] text m = none_within (text_signature text)
-signature_within (x ∷ []) text m = none_within (text_signature text)
-signature_within (x ∷ y ∷ items) text m =
-    or_within (needed x y) (items_signature (y ∷ items)) (text_signature text) (needed_within x y items text m)
-    (within_trans _ (text_signature (drop m.0 text)) _ (signature_within (y ∷ items) (drop m.0 text) m.1.2) (pairs_of-drop m.0 text))
+signature_within = pairs_within every
+
+pub none_wide_within : (b : WidePairs) → is_wide_within no_wide_pairs b ≡ true
+none_wide_within b = and_from _ _ (is_within-from no_pairs b.low (none_within b.low)) (is_within-from no_pairs b.high (none_within b.high))
+
+pub wide_within : (items : List Item) (text : List ℕ) → Matches Rfc1459 items text
+    → is_wide_within (wide_items_signature items) (wide_text_signature text) ≡ true
+wide_within items text m = and_from _ _ (is_within-from _ _ (pairs_within is_low items text m)) (is_within-from _ _ (pairs_within is_high items text m))
 
 -- the (lower Rfc1459) cases of literals need the same
-needed-lower : (x y : Item) → needed (lower Rfc1459 x) (lower Rfc1459 y) ≡ needed x y
-needed-lower (Literal a) (Literal b) = ap (λ i. pair i (low (low b))) (low-low a) ∙ ap (λ i. pair (low a) i) (low-low b)
-needed-lower (Literal a) AnyByte = refl
-needed-lower (Literal a) AnyText = refl
-needed-lower (Literal a) NoSpace = refl
-needed-lower (Literal a) Spaces = refl
-needed-lower AnyByte y = refl
-needed-lower AnyText y = refl
-needed-lower NoSpace y = refl
-needed-lower Spaces y = refl
+needed-lower : (sums : Sums) (x y : Item) → needed sums (lower Rfc1459 x) (lower Rfc1459 y) ≡ needed sums x y
+needed-lower sums (Literal a) (Literal b) = ap (λ i. pair_if sums i (low (low b))) (low-low a) ∙ ap (λ i. pair_if sums (low a) i) (low-low b)
+needed-lower sums (Literal a) AnyByte = refl
+needed-lower sums (Literal a) AnyText = refl
+needed-lower sums (Literal a) NoSpace = refl
+needed-lower sums (Literal a) Spaces = refl
+needed-lower sums AnyByte y = refl
+needed-lower sums AnyText y = refl
+needed-lower sums NoSpace y = refl
+needed-lower sums Spaces y = refl
+
+pairs_needed-lower : (sums : Sums) (items : List Item) → pairs_needed sums (map (lower Rfc1459) items) ≡ pairs_needed sums items
+pairs_needed-lower sums [] = refl
+pairs_needed-lower sums (x ∷ []) = refl
+pairs_needed-lower sums (x ∷ y ∷ items) = ap (λ n. either n (pairs_needed sums (map (lower Rfc1459) (y ∷ items)))) (needed-lower sums x y)
+    ∙ ap (λ n. either (needed sums x y) n) (pairs_needed-lower sums (y ∷ items))
 
 pub items_signature-lower : (items : List Item) → items_signature (map (lower Rfc1459) items) ≡ items_signature items
-items_signature-lower [] = refl
-items_signature-lower (x ∷ []) = refl
-items_signature-lower (x ∷ y ∷ items) = ap (λ n. either n (items_signature (map (lower Rfc1459) (y ∷ items)))) (needed-lower x y)
-    ∙ ap (λ n. either (needed x y) n) (items_signature-lower (y ∷ items))
+items_signature-lower = pairs_needed-lower every
+
+pub same_wide : (a b : WidePairs) → a.low ≡ b.low → a.high ≡ b.high → a ≡ b
+same_wide a b low high = ap (λ n. wide n a.high) low ∙ ap (wide b.low) high
+  where
+    wide : Pairs → Pairs → WidePairs
+    wide low high = record { low = low; high = high }
+
+pub wide_items_signature-lower : (items : List Item) → wide_items_signature (map (lower Rfc1459) items) ≡ wide_items_signature items
+wide_items_signature-lower items =
+    same_wide (wide_items_signature (map (lower Rfc1459) items)) (wide_items_signature items) (pairs_needed-lower is_low items) (pairs_needed-lower is_high items)
 
 -- ---- when two sets are one
 
@@ -168,22 +194,26 @@ either-assoc a b c = ap (λ n. halves n (bit_or (bit_or a.second b.second) c.sec
     ∙ ap (halves (bit_or a.first (bit_or b.first c.first))) (or-assoc a.second b.second c.second)
 
 -- a byte and what is left of a text after it have the pair of the two, and those from the next byte on
-pub pairs_more : (pairs all : Pairs) (a : ℕ) (rest : List ℕ) (i : ℕ) → i < length rest → either pairs (pairs_of (a ∷ folded (drop i rest))) ≡ all
-    → either (either pairs (pair a (low (get_or rest i 0)))) (pairs_of (low (get_or rest i 0) ∷ folded (drop (suc i) rest))) ≡ all
-pairs_more pairs all a [] i lt h = absurd (omega (arith, lt))
-pairs_more pairs all a (x ∷ rest) zero lt h = either-assoc pairs _ _ ∙ h
-pairs_more pairs all a (x ∷ rest) (suc i) lt h = pairs_more pairs all a rest i (omega (arith, lt)) h
+pub pairs_more : (sums : Sums) (pairs all : Pairs) (a : ℕ) (rest : List ℕ) (i : ℕ) → i < length rest
+    → either pairs (pairs_of sums (a ∷ folded (drop i rest))) ≡ all
+    → either (either pairs (pair_if sums a (low (get_or rest i 0)))) (pairs_of sums (low (get_or rest i 0) ∷ folded (drop (suc i) rest))) ≡ all
+pairs_more sums pairs all a [] i lt h = absurd (omega (arith, lt))
+pairs_more sums pairs all a (x ∷ rest) zero lt h = either-assoc pairs _ _ ∙ h
+pairs_more sums pairs all a (x ∷ rest) (suc i) lt h = pairs_more sums pairs all a rest i (omega (arith, lt)) h
 
-pub pairs_end : (pairs all : Pairs) (a : ℕ) (rest : List ℕ) (i : ℕ) → length rest ≤ i → either pairs (pairs_of (a ∷ folded (drop i rest))) ≡ all → pairs ≡ all
-pairs_end pairs all a rest i past h = sym (either-none pairs) ∙ ap (λ (xs : List ℕ). either pairs (pairs_of (a ∷ folded xs))) (sym (drop_all i rest past)) ∙ h
+pub pairs_end : (sums : Sums) (pairs all : Pairs) (a : ℕ) (rest : List ℕ) (i : ℕ) → length rest ≤ i
+    → either pairs (pairs_of sums (a ∷ folded (drop i rest))) ≡ all → pairs ≡ all
+pairs_end sums pairs all a rest i past h =
+    sym (either-none pairs) ∙ ap (λ (xs : List ℕ). either pairs (pairs_of sums (a ∷ folded xs))) (sym (drop_all i rest past)) ∙ h
 
-pub codes_more : (pairs all : Pairs) (codes : List ℕ) → 2 ≤ length codes → either pairs (items_signature (items_in codes)) ≡ all
-    → either (either pairs (needed (decoded (get_or codes 0 0)) (decoded (get_or codes 1 0)))) (items_signature (items_in (drop 1 codes))) ≡ all
-codes_more pairs all [] some h = absurd (omega arith)
-codes_more pairs all (x ∷ []) some h = absurd (omega arith)
-codes_more pairs all (x ∷ y ∷ codes) some h = either-assoc pairs _ _ ∙ h
+pub codes_more : (sums : Sums) (pairs all : Pairs) (codes : List ℕ) → 2 ≤ length codes → either pairs (pairs_needed sums (items_in codes)) ≡ all
+    → either (either pairs (needed sums (decoded (get_or codes 0 0)) (decoded (get_or codes 1 0)))) (pairs_needed sums (items_in (drop 1 codes))) ≡ all
+codes_more sums pairs all [] some h = absurd (omega arith)
+codes_more sums pairs all (x ∷ []) some h = absurd (omega arith)
+codes_more sums pairs all (x ∷ y ∷ codes) some h = either-assoc pairs _ _ ∙ h
 
-pub codes_end : (pairs all : Pairs) (codes : List ℕ) → length codes < 2 → either pairs (items_signature (items_in codes)) ≡ all → pairs ≡ all
-codes_end pairs all [] short h = sym (either-none pairs) ∙ h
-codes_end pairs all (x ∷ []) short h = sym (either-none pairs) ∙ h
-codes_end pairs all (x ∷ y ∷ codes) short h = absurd (omega arith)
+pub codes_end : (sums : Sums) (pairs all : Pairs) (codes : List ℕ) → length codes < 2
+    → either pairs (pairs_needed sums (items_in codes)) ≡ all → pairs ≡ all
+codes_end sums pairs all [] short h = sym (either-none pairs) ∙ h
+codes_end sums pairs all (x ∷ []) short h = sym (either-none pairs) ∙ h
+codes_end sums pairs all (x ∷ y ∷ codes) short h = absurd (omega arith)

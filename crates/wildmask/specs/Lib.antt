@@ -3,6 +3,7 @@ pub mod Matching
 pub mod Tests
 pub mod Tails
 pub mod Signatures
+pub mod WideSignatures
 pub mod Codes
 pub mod Walks
 pub mod Masks

@@ -1,5 +1,5 @@
 -- Which pairs of adjacent bytes a text has, and which a mask needs, as sets of 128 places (our own choice).
-use Rattle.std.specs.Prelude.{ℕ, ◌+◌, ◌-◌, ◌*◌, ◌%◌, ◌^◌, Bool, ◌==◌, ◌&&◌, nat_lt, if◌then◌else◌, List, [], ◌∷◌, bit_and, bit_or}
+use Rattle.std.specs.Prelude.{ℕ, ◌+◌, ◌-◌, ◌*◌, ◌%◌, ◌^◌, Bool, true, ◌==◌, ◌&&◌, nat_lt, if◌then◌else◌, List, [], ◌∷◌, bit_and, bit_or}
 use Rattle.rfccase.specs.Casemapping.{low, folded}
 use Rattle.wildmask.specs.declared.items.Item.{Item}
 use Rattle.wildmask.specs.declared.items.Item.TheVariants.{Literal, AnyByte, AnyText, NoSpace, Spaces}
@@ -26,33 +26,47 @@ pair a b = record {
   second = if nat_lt (place_of a b) 64 then 0 else 2 ^ (place_of a b - 64);
 }
 
+-- which pairs a set is to have, by the sum that gives a pair its place
+abbrev pub Sums : Type 0
+Sums = ℕ → Bool
+
+abbrev pub every : Sums
+every sum = true
+
+-- a pair, if the set is to have it
+abbrev pub pair_if : Sums → ℕ → ℕ → Pairs
+pair_if sums a b = if sums (a + b * 23) then pair a b else no_pairs
+
 -- the places of the pairs of adjacent bytes
-abbrev pub pairs_of : List ℕ → Pairs
-pairs_of [] = no_pairs
-pairs_of (a ∷ []) = no_pairs
-pairs_of (a ∷ b ∷ text) = either (pair a b) (pairs_of (b ∷ text))
+abbrev pub pairs_of : Sums → List ℕ → Pairs
+pairs_of sums [] = no_pairs
+pairs_of sums (a ∷ []) = no_pairs
+pairs_of sums (a ∷ b ∷ text) = either (pair_if sums a b) (pairs_of sums (b ∷ text))
 
 -- the pairs that a text has, in lower case
 abbrev pub text_signature : List ℕ → Pairs
-text_signature text = pairs_of (folded text)
+text_signature text = pairs_of every (folded text)
 
 -- the pair that two adjacent items need: that of two literals; with a special item, none
-abbrev pub needed : Item → Item → Pairs
-needed (Literal a) (Literal b) = pair (low a) (low b)
-needed (Literal a) AnyByte = no_pairs
-needed (Literal a) AnyText = no_pairs
-needed (Literal a) NoSpace = no_pairs
-needed (Literal a) Spaces = no_pairs
-needed AnyByte item = no_pairs
-needed AnyText item = no_pairs
-needed NoSpace item = no_pairs
-needed Spaces item = no_pairs
+abbrev pub needed : Sums → Item → Item → Pairs
+needed sums (Literal a) (Literal b) = pair_if sums (low a) (low b)
+needed sums (Literal a) AnyByte = no_pairs
+needed sums (Literal a) AnyText = no_pairs
+needed sums (Literal a) NoSpace = no_pairs
+needed sums (Literal a) Spaces = no_pairs
+needed sums AnyByte item = no_pairs
+needed sums AnyText item = no_pairs
+needed sums NoSpace item = no_pairs
+needed sums Spaces item = no_pairs
 
 -- the pairs that a mask with these items needs
+abbrev pub pairs_needed : Sums → List Item → Pairs
+pairs_needed sums [] = no_pairs
+pairs_needed sums (a ∷ []) = no_pairs
+pairs_needed sums (a ∷ b ∷ items) = either (needed sums a b) (pairs_needed sums (b ∷ items))
+
 abbrev pub items_signature : List Item → Pairs
-items_signature [] = no_pairs
-items_signature (a ∷ []) = no_pairs
-items_signature (a ∷ b ∷ items) = either (needed a b) (items_signature (b ∷ items))
+items_signature items = pairs_needed every items
 
 -- whether the second set has each place of the first
 abbrev pub is_within : Pairs → Pairs → Bool

@@ -27,7 +27,8 @@
 //!
 //! A match goes over the text once, so that no mask from a stranger takes long: [`Mask::matches_counted`] says how many
 //! comparisons it takes at most. A caller with many masks need not try each of them: a mask that matches a text has a
-//! [`Tail`] that the text ends with, and its [`Signature`] is within that of the text.
+//! [`Tail`] that the text ends with, and its [`Signature`] is within that of the text. For texts as long as a line of
+//! talk there is a [`WideSignature`].
 #![tactic(auto)]
 
 mod checks;
@@ -42,6 +43,7 @@ mod runs;
 mod signatures;
 mod tails;
 mod walks;
+mod wide_signatures;
 
 pub use crate::checks::{bind_fault, host_fault};
 pub use crate::counts::Count;
@@ -49,3 +51,4 @@ pub use crate::faults::{MaskError, MaskFault};
 pub use crate::masks::Mask;
 pub use crate::signatures::Signature;
 pub use crate::tails::Tail;
+pub use crate::wide_signatures::WideSignature;

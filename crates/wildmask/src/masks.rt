@@ -7,6 +7,7 @@ use crate::items::MaskKind;
 use crate::pattern::Pattern;
 use crate::signatures::Signature;
 use crate::tails::Tail;
+use crate::wide_signatures::WideSignature;
 use bytetext::{NoMemory, Text, TryCopy, refuse};
 use rfccase::Casemapping;
 use std::alloc::Global;
@@ -52,6 +53,7 @@ impl Mask {
     ghost use Rattle.wildmask.specs.Items.{literals_of};
     ghost use Rattle.wildmask.specs.Masks.{IsMatch, IsMatchBy, Makes, fault_of, is_match, is_match_by, mask_items};
     ghost use Rattle.wildmask.specs.Signatures.{is_within, items_signature, text_signature};
+    ghost use Rattle.wildmask.specs.WideSignatures.{is_wide_within, wide_items_signature, wide_text_signature};
     ghost use Rattle.wildmask.specs.Tails.{end_key, tail_of};
 
     /// Creates the mask of a bind from `text` (Eggdrop's Tcl commands document, "bind"): `?` is one byte, `*` any
@@ -150,6 +152,15 @@ impl Mask {
         ensures needed { (by : Casemapping) (text : List ℕ) → IsMatchBy by self.now text → IsTrue (is_within result (text_signature text)) }
     {
         self.signature
+    }
+
+    /// Returns the pairs of adjacent literals that the mask needs, in 256 places. A text that the mask matches has each of
+    /// them, by whichever casemapping it matches.
+    pub fn wide_signature(&self) -> WideSignature
+        ensures value { result ≡ wide_items_signature (mask_items self.now) }
+        ensures needed { (by : Casemapping) (text : List ℕ) → IsMatchBy by self.now text → IsTrue (is_wide_within result (wide_text_signature text)) }
+    {
+        self.pattern(Casemapping::Rfc1459).wide_signature()
     }
 
     // Parses the items of the mask from its text. Many masks are kept and few are matched, so no mask keeps its items.

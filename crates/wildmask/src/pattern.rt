@@ -4,6 +4,7 @@ ghost use Rattle.wildmask.specs.Codes.{items_in, lower};
 ghost use Rattle.wildmask.specs.Items.{items_of, is_literal};
 ghost use Rattle.wildmask.specs.Matching.{Matches};
 ghost use Rattle.wildmask.specs.Signatures.{items_signature};
+ghost use Rattle.wildmask.specs.WideSignatures.{wide_items_signature};
 ghost use Rattle.wildmask.specs.Tails.{front_len, tail_of};
 ghost use Rattle.wildmask.specs.Walks.{AllLower};
 
@@ -13,6 +14,7 @@ use crate::items::{MaskKind, next_item};
 use crate::runs::matches_end_first;
 use crate::signatures::Signature;
 use crate::tails::Tail;
+use crate::wide_signatures::WideSignature;
 use rfccase::Casemapping;
 use std::marker::Model;
 
@@ -93,6 +95,13 @@ impl Pattern {
         ensures { result ≡ items_signature self.now }
     {
         Signature::needed_by(&self.codes[..self.len])
+    }
+
+    /// Returns the pairs that the items need, in 256 places.
+    pub fn wide_signature(&self) -> WideSignature
+        ensures { result ≡ wide_items_signature self.now }
+    {
+        WideSignature::needed_by(&self.codes[..self.len])
     }
 }
 

@@ -1,7 +1,7 @@
 // The pairs of adjacent bytes that a text has, and those that a mask needs.
 ghost use Rattle.std.specs.Prelude.{◌≡◌};
 ghost use Rattle.wildmask.specs.Codes.{decoded, items_in};
-ghost use Rattle.wildmask.specs.Signatures.{either, pair, needed, text_signature, items_signature, is_within};
+ghost use Rattle.wildmask.specs.Signatures.{every, either, pair, needed, text_signature, items_signature, is_within};
 
 use crate::codes::item_of;
 use crate::items::Item;
@@ -28,7 +28,7 @@ impl Model for Signature {
 }
 
 // The set without pairs.
-const NONE: Signature = Signature {
+pub(crate) const NONE: Signature = Signature {
     first: 0,
     second: 0,
 };
@@ -73,7 +73,7 @@ impl Signature {
     }
 
     // The pairs of both.
-    fn or(self, other: Signature) -> Signature
+    pub(crate) fn or(self, other: Signature) -> Signature
         ensures { result ≡ either self other }
     {
         Signature {
@@ -85,7 +85,7 @@ impl Signature {
 
 // The pair that two adjacent items need: only two literals need one.
 fn needed_pair(first: u8, second: u8) -> Signature
-    ensures { result ≡ needed (decoded first) (decoded second) }
+    ensures { result ≡ needed every (decoded first) (decoded second) }
 {
     let Item::Literal(a) = item_of(first) else {
         return NONE;
@@ -97,7 +97,7 @@ fn needed_pair(first: u8, second: u8) -> Signature
 }
 
 // The pair of two lower cases.
-fn pair_of(a: u8, b: u8) -> Signature
+pub(crate) fn pair_of(a: u8, b: u8) -> Signature
     ensures { result ≡ pair a b }
 {
     let place = (u32::from(a) + u32::from(b) * 23) % 128;

@@ -8,7 +8,7 @@ use Rattle.procs.proofs.held.Held.needs.Goals as goal
 
 pub returns-in-Wildcards : goal.returns-in-Wildcards
 returns-in-Wildcards c =
-    c.signature.ensures.value
+    c.wide_signature.ensures.value
     ∙ needs-wildcards c.args.self.now c.in-Wildcards.mask
     (subst (λ (b : Bind). Says b.kind b.mask (Wildcards c.in-Wildcards.mask)) c.self.view_is
     (subst (λ (m : Matcher). Says c.self.inside.bind.kind c.self.inside.bind.mask m) c.in-Wildcards.is c.self.invariant.1))
