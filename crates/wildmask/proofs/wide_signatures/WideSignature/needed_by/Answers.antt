@@ -15,9 +15,10 @@ loop-rest-preserved c =
     subst (λ (xs : List ℕ). AreAll is_low c.or-pairs.result.low xs c.args.codes.now × AreAll is_high c.or-pairs.result.high xs c.args.codes.now)
     (sym (take_rest c.loop-rest.rest.now 1))
     (subst (λ (n : WidePairs). AreAll is_low n.low (drop 1 c.loop-rest.rest.now) c.args.codes.now × AreAll is_high n.high (drop 1 c.loop-rest.rest.now) c.args.codes.now)
-    (sym more)
-    (codes_more is_low c.loop-rest.pairs.low _ c.loop-rest.rest.now c.in-len2-up.len_at_least c.loop-rest.invariant.0,
-    codes_more is_high c.loop-rest.pairs.high _ c.loop-rest.rest.now c.in-len2-up.len_at_least c.loop-rest.invariant.1))
+    (sym more) (
+      codes_more is_low c.loop-rest.pairs.low _ c.loop-rest.rest.now c.in-len2-up.len_at_least c.loop-rest.invariant.0,
+      codes_more is_high c.loop-rest.pairs.high _ c.loop-rest.rest.now c.in-len2-up.len_at_least c.loop-rest.invariant.1,
+    ))
 
 pub returns : goal.returns
 returns c = same_wide c.loop-rest.pairs (wide_items_signature (items_in c.args.codes.now))
