@@ -7,7 +7,7 @@ use crate::fault::{FolderError, FolderFault, system_error};
 use crate::folder_file::{FolderFile, len_of, open_file, read_file};
 use crate::owner::check_owner;
 use crate::paths::{JOURNAL, below};
-use botjournal::is_cut_short;
+use botjournal::{are_cut_short, is_cut_short};
 use bytetext::Failure;
 use disks::MemDisk;
 use std::alloc::Global;
@@ -66,7 +66,12 @@ pub(crate) fn keep_uncut<R: AllocGlobal + Files<File = File>>(
     let mut second_bytes = room_for(rt.alloc(), &second)?;
     read(&first, &mut first_bytes)?;
     read(&second, &mut second_bytes)?;
-    let _copies = uncut_copies(rt.alloc(), first_bytes, second_bytes)?;
+    // Closed before their bytes are looked at.
+    drop(first);
+    drop(second);
+    if are_cut_short(rt.alloc(), first_bytes, second_bytes)? {
+        return Err(Failure::Refused(FolderFault::CutShort));
+    }
     Ok(())
 }
 

@@ -1,12 +1,13 @@
 // Journals that a device cut short.
-ghost use Rattle.std.specs.Prelude.{◌≡◌};
+ghost use Rattle.std.specs.Prelude.{◌≡◌, ◌<◌, ◌+◌, IfErr, IfOk, length};
 ghost use Rattle.disks.specs.State.{IsSettled};
 ghost use Rattle.bytejournal.specs.Opening.{Untouched};
-ghost use Rattle.botjournal.specs.CutShort.{TellsCut, carries_sums, is_cut, is_more, would_count};
+ghost use Rattle.botjournal.specs.CutShort.{TellsCut, carries_sums, is_cut, is_cut_short, is_more, would_count};
 
 use crate::LAYOUT;
 use crate::sums::Seal;
-use bytejournal::{Counted, Ending, IfOpen, JournalError, read_ending};
+use bytejournal::{Counted, Ending, IfOpen, JournalError, ending_of, read_ending};
+use bytetext::NoMemory;
 use disks::Disk;
 use std::alloc::Global;
 
@@ -42,6 +43,20 @@ pub fn is_cut_short<D: Disk>(
 {
     let a = read_ending(alloc, first)?;
     let b = read_ending(alloc, second)?;
+    Ok(is_cut(b.counted, &a) || is_cut(a.counted, &b))
+}
+
+/// Whether [`is_cut_short`] is `true` of disks that hold the bytes `first` and `second`. It takes less memory and time
+/// than disks that hold them.
+///
+/// # Errors
+/// `NoMemory` if it cannot allocate room for what the bytes hold; never if there is none.
+pub fn are_cut_short(alloc: Global, first: Vec<u8>, second: Vec<u8>) -> Result<bool, NoMemory>
+    ensures cut { IfOk result (λ cut. cut ≡ is_cut_short first.items second.items) }
+    ensures memory { IfErr result (λ _. 0 < length first.items + length second.items) }
+{
+    let a = ending_of(alloc, first)?;
+    let b = ending_of(alloc, second)?;
     Ok(is_cut(b.counted, &a) || is_cut(a.counted, &b))
 }
 

@@ -60,7 +60,7 @@ mod sums;
 
 pub use crate::base::Base;
 pub use crate::bases::{read_base, write_base};
-pub use crate::cut_short::is_cut_short;
+pub use crate::cut_short::{are_cut_short, is_cut_short};
 pub use crate::entries::{read_entry, write_entry};
 pub use crate::entry::Entry;
 pub use crate::found::{Found, LedgerError, RebaseError, RebaseFault};

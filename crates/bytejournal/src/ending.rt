@@ -1,5 +1,5 @@
 // What stands after the gate that ends a disk.
-ghost use Rattle.std.specs.Prelude.{◌≡◌, Some, IfOk};
+ghost use Rattle.std.specs.Prelude.{◌≡◌, ◌<◌, Some, IfErr, IfOk, length};
 ghost use Rattle.disks.specs.State.{IsSettled};
 ghost use Rattle.bytejournal.specs.Meaning.{held};
 ghost use Rattle.bytejournal.specs.Opening.{Untouched};
@@ -76,11 +76,21 @@ pub fn read_ending<D: Disk>(alloc: Global, disk: &mut D) -> Result<Ending, Journ
     Ok(ending_of(alloc, bytes)?)
 }
 
-/// Returns what stands in the bytes of a disk before and after the gate that ends them.
+/// Returns what stands in the bytes of a disk before and after the gate that ends them, as [`read_ending`] reads it.
+///
+/// # Errors
+/// `NoMemory` if it cannot allocate room for what the bytes hold; never if there is none.
 #[tactic(auto, using(crate::proofs::Choosing::shut_held, crate::proofs::Choosing::found_held, crate::proofs::Endings::found_end))]
-fn ending_of(alloc: Global, bytes: Vec<u8>) -> Result<Ending, NoMemory>
-    ensures { IfOk result (λ ending. ending ≡ ending_of bytes.items) }
+pub fn ending_of(alloc: Global, bytes: Vec<u8>) -> Result<Ending, NoMemory>
+    ensures ending { IfOk result (λ ending. ending ≡ ending_of bytes.items) }
+    ensures memory { IfErr result (λ _. 0 < length bytes.items) }
 {
+    if bytes.is_empty() {
+        return Ok(Ending {
+            counted: None,
+            if_open: None,
+        });
+    }
     match read_disk(alloc, &bytes)? {
         Reading::Shut => Ok(Ending {
             counted: None,

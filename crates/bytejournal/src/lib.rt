@@ -55,7 +55,7 @@ mod spelling;
 mod unmade;
 mod writing;
 
-pub use crate::ending::{Counted, Ending, IfOpen, read_ending};
+pub use crate::ending::{Counted, Ending, IfOpen, ending_of, read_ending};
 pub use crate::fault::{JournalError, JournalFault};
 pub use crate::journal::Journal;
 pub use crate::opening::{Disks, Older, Opened, Returned};

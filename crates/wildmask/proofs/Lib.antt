@@ -5,5 +5,6 @@ pub mod IdleLemmas
 pub mod RunLemmas
 pub mod SignatureLemmas
 pub mod TailLemmas
+pub mod PlainLemmas
 pub mod PatternLemmas
 pub mod TestLemmas

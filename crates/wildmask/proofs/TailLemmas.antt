@@ -45,8 +45,11 @@ suffix_passes items i late within =
     get_or-reverse items (length items - 1 - i) AnyByte inside ∙ ap (λ n. get_or items n AnyByte) back in
     ap is_literal (sym at) ∙ prefix_len_passes is_literal (reverse items) (length items - 1 - i) AnyByte early
 
+pub front_len-le : (items : List Item) → front_len items ≤ length items
+front_len-le items = omega (arith, suffix_len-le-length is_literal items)
+
 -- and the last special one is none
-suffix_stops : (items : List Item) → 0 < front_len items → is_literal (get_or items (front_len items - 1) AnyByte) ≡ false
+pub suffix_stops : (items : List Item) → 0 < front_len items → is_literal (get_or items (front_len items - 1) AnyByte) ≡ false
 suffix_stops items some =
     let inside : suffix_len is_literal items < length items = omega arith in
     let long : length (reverse items) ≡ length items = length-reverse items in

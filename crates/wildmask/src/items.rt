@@ -1,6 +1,10 @@
 // The items of a mask's text.
 ghost use Rattle.std.specs.Prelude.{◌≡◌, ◌<◌, [], ◌∷◌, length, MatchOption};
+ghost use Rattle.std.specs.List.{list_any};
 ghost use Rattle.wildmask.specs.Items.{items_of, item_of, is_special};
+ghost use Rattle.wildmask.specs.Tails.{ends_plainly};
+
+use crate::tails::MOST_BYTES;
 
 /// Where a mask is used, which decides what `%` and `~` mean in it.
 #[derive(Clone, Copy, Debug, Drop)]
@@ -43,6 +47,23 @@ pub fn next_item(kind: MaskKind, mask: &[u8]) -> Option<(Item, &[u8])>
         )),
         [byte, rest @ ..] => Some((item_of(kind, *byte), rest)),
     }
+}
+
+// Whether the last 16 bytes of a mask's text are literals, whatever comes before them.
+pub(crate) fn ends_plainly(text: &[u8]) -> bool
+    ensures { result ≡ ends_plainly text.now }
+{
+    if text.len() < MOST_BYTES {
+        return false;
+    }
+    let (_, end) = text.split_at(text.len() - MOST_BYTES);
+    !has_special(end)
+}
+
+fn has_special(bytes: &[u8]) -> bool
+    ensures { result ≡ list_any is_special bytes.now }
+{
+    bytes.iter().any(|byte| is_special(*byte))
 }
 
 // Whether a backslash before the byte makes it a literal.

@@ -3,10 +3,10 @@
 use crate::checks::fault_of;
 use crate::counts::Count;
 use crate::faults::MaskError;
-use crate::items::MaskKind;
+use crate::items::{MaskKind, ends_plainly};
 use crate::pattern::Pattern;
 use crate::signatures::Signature;
-use crate::tails::Tail;
+use crate::tails::{MOST_BYTES, Tail};
 use crate::wide_signatures::WideSignature;
 use bytetext::{NoMemory, Text, TryCopy, refuse};
 use rfccase::Casemapping;
@@ -142,7 +142,19 @@ impl Mask {
         ensures within { (by : Casemapping) (text : List ℕ) → IsMatchBy by self.now text → length result ≤ length text }
         ensures short { length result ≤ 16 }
     {
-        self.pattern(Casemapping::Rfc1459).tail()
+        self.last_literals()
+    }
+
+    // The literals after the last special item. Most texts end with so many literals that they need not be parsed.
+    fn last_literals(&self) -> Tail
+        ensures { result ≡ tail_of (mask_items self.now) }
+    {
+        let text = self.text.as_bytes();
+        if ends_plainly(text) {
+            Tail::of_end(text, MOST_BYTES)
+        } else {
+            self.pattern(Casemapping::Rfc1459).tail()
+        }
     }
 
     /// Returns the pairs of adjacent literals that the mask needs. A text that the mask matches has each of them, by

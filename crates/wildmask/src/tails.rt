@@ -12,7 +12,7 @@ use std::hash::{Hash, Hasher};
 use std::marker::Model;
 
 // The most bytes that a tail has (our own choice).
-const MOST_BYTES: usize = 16;
+pub(crate) const MOST_BYTES: usize = 16;
 
 /// The lower cases of a text's last bytes, 16 at most, as a key of a map. A map keeps a mask under its tail
 /// ([`Mask::tail`](crate::Mask::tail)), and a look-up tries the ends of a text.

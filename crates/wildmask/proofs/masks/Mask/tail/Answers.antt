@@ -1,12 +1,12 @@
-use Rattle.std.proofs.Common.{◌≡◌, ◌≤◌, List, ℕ, length, subst, sym, ap, ◌∙◌, arith}
+use Rattle.std.proofs.Common.{◌≡◌, ◌≤◌, List, ℕ, length, subst, sym, arith}
 use Rattle.wildmask.specs.Masks.{mask_items}
-use Rattle.wildmask.specs.Tails.{end_key, tail_of}
+use Rattle.wildmask.specs.Tails.{end_key}
 use Rattle.wildmask.proofs.MatchLemmas.{Matches-wider}
-use Rattle.wildmask.proofs.TailLemmas.{tail_ends, tail_of-lower, length-tail_of}
+use Rattle.wildmask.proofs.TailLemmas.{tail_ends, length-tail_of}
 use Rattle.wildmask.proofs.masks.Mask.tail.Goals as goal
 
 pub returns-clause-value : goal.returns-clause-value
-returns-clause-value c = c.tail.ensures ∙ ap tail_of c.pattern.ensures ∙ tail_of-lower (mask_items c.args.self.now)
+returns-clause-value c = c.last_literals.ensures
 
 pub returns-clause-ends : goal.returns-clause-ends
 returns-clause-ends c = λ by text m. subst (λ (xs : List ℕ). xs
