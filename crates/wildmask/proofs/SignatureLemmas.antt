@@ -1,5 +1,5 @@
 -- What a mask needs is among what a text has that it matches.
-use Rattle.std.proofs.Common.{◌≡◌, ℕ, zero, suc, ◌<◌, ◌≤◌, true, get_or, List, [], ◌∷◌, length, take, drop, map, bit_and, bit_or, max, min, refl, sym, subst, ap, ◌==◌, ◌∙◌, arith}
+use Rattle.std.proofs.Common.{◌≡◌, ℕ, zero, suc, ◌<◌, ◌≤◌, true, get_or, Option, None, List, [], ◌∷◌, length, take, drop, map, bit_and, bit_or, max, min, refl, sym, subst, ap, ◌==◌, ◌∙◌, arith}
 use Rattle.std.proofs.lemmas.List.{drop_all}
 use Rattle.std.specs.Int.{bit_at}
 use Rattle.std.proofs.lemmas.Bool.{eq-eqb, eqb-true, and_from, and_parts}
@@ -9,7 +9,7 @@ use Rattle.wildmask.specs.declared.items.Item.{Item}
 use Rattle.wildmask.specs.declared.items.Item.TheVariants.{Literal, AnyByte, AnyText, NoSpace, Spaces}
 use Rattle.wildmask.specs.Codes.{lower, decoded, items_in}
 use Rattle.wildmask.specs.Matching.{Takes, Matches}
-use Rattle.wildmask.specs.Signatures.{Pairs, Sums, no_pairs, either, pair_if, pairs_of, needed, pairs_needed, items_signature, text_signature, every, is_within, same_pairs}
+use Rattle.wildmask.specs.Signatures.{Pairs, Sums, no_pairs, either, lower_literal, pair_if, pair_of, pairs_of, needed, pairs_needed, items_signature, text_signature, every, is_within, same_pairs}
 use Rattle.wildmask.specs.WideSignatures.{WidePairs, no_wide_pairs, is_low, is_high, wide_items_signature, wide_text_signature, is_wide_within}
 use Rattle.rfccase.proofs.SameLemmas.{low-low}
 use Rattle.rfccase.specs.declared.casemappings.Casemapping.TheVariants.{Rfc1459}
@@ -206,14 +206,37 @@ pub pairs_end : (sums : Sums) (pairs all : Pairs) (a : ℕ) (rest : List ℕ) (i
 pairs_end sums pairs all a rest i past h =
     sym (either-none pairs) ∙ ap (λ (xs : List ℕ). either pairs (pairs_of sums (a ∷ folded xs))) (sym (drop_all i rest past)) ∙ h
 
-pub codes_more : (sums : Sums) (pairs all : Pairs) (codes : List ℕ) → 2 ≤ length codes → either pairs (pairs_needed sums (items_in codes)) ≡ all
-    → either (either pairs (needed sums (decoded (get_or codes 0 0)) (decoded (get_or codes 1 0)))) (pairs_needed sums (items_in (drop 1 codes))) ≡ all
-codes_more sums pairs all [] some h = absurd (omega arith)
-codes_more sums pairs all (x ∷ []) some h = absurd (omega arith)
-codes_more sums pairs all (x ∷ y ∷ codes) some h = either-assoc pairs _ _ ∙ h
+-- the pairs that items need after a literal, if one stands before them
+abbrev pub pairs_after : Sums → Option ℕ → List Item → Pairs
+pairs_after sums before [] = no_pairs
+pairs_after sums before (y ∷ items) = either (pair_of sums before (lower_literal y)) (pairs_needed sums (y ∷ items))
 
-pub codes_end : (sums : Sums) (pairs all : Pairs) (codes : List ℕ) → length codes < 2
-    → either pairs (pairs_needed sums (items_in codes)) ≡ all → pairs ≡ all
-codes_end sums pairs all [] short h = sym (either-none pairs) ∙ h
-codes_end sums pairs all (x ∷ []) short h = sym (either-none pairs) ∙ h
-codes_end sums pairs all (x ∷ y ∷ codes) short h = absurd (omega arith)
+none-either : (a : Pairs) → either no_pairs a ≡ a
+none-either a = ap (λ n. halves n (bit_or 0 a.second)) (zero-or a.first) ∙ ap (halves a.first) (zero-or a.second)
+  where
+    zero-or : (a : ℕ) → bit_or 0 a ≡ a
+    zero-or a = same_from_bits (bit_or 0 a) a (λ i. let e : bit_at (bit_or 0 a) i ≡ max (bit_at 0 i) (bit_at a i) =
+        bit_at_or 0 a i in let z : bit_at 0 i ≡ 0 = bit_at-zero i in omega arith)
+
+pub pairs_after-none : (sums : Sums) (items : List Item) → either no_pairs (pairs_after sums None items) ≡ pairs_needed sums items
+pairs_after-none sums [] = none-either no_pairs
+pairs_after-none sums (y ∷ items) = none-either (either no_pairs (pairs_needed sums (y ∷ items))) ∙ none-either (pairs_needed sums (y ∷ items))
+
+pairs_after-item : (sums : Sums) (x : Item) (items : List Item) → pairs_needed sums (x ∷ items) ≡ pairs_after sums (lower_literal x) items
+pairs_after-item sums x [] = refl
+pairs_after-item sums x (y ∷ items) = refl
+
+pub literals_more : (sums : Sums) (pairs all : Pairs) (before : Option ℕ) (codes : List ℕ) (i : ℕ) → i < length codes
+    → either pairs (pairs_after sums before (items_in (drop i codes))) ≡ all
+    → either (either pairs (pair_of sums before (lower_literal (decoded (get_or codes i 0)))))
+    (pairs_after sums (lower_literal (decoded (get_or codes i 0))) (items_in (drop (suc i) codes))) ≡ all
+literals_more sums pairs all before [] i lt h = absurd (omega (arith, lt))
+literals_more sums pairs all before (x ∷ codes) zero lt h =
+    either-assoc pairs (pair_of sums before (lower_literal (decoded x))) _
+    ∙ ap (λ n. either pairs (either (pair_of sums before (lower_literal (decoded x))) n)) (sym (pairs_after-item sums (decoded x) (items_in codes))) ∙ h
+literals_more sums pairs all before (x ∷ codes) (suc i) lt h = literals_more sums pairs all before codes i (omega (arith, lt)) h
+
+pub literals_end : (sums : Sums) (pairs all : Pairs) (before : Option ℕ) (codes : List ℕ) (i : ℕ) → length codes ≤ i
+    → either pairs (pairs_after sums before (items_in (drop i codes))) ≡ all → pairs ≡ all
+literals_end sums pairs all before codes i past h =
+    sym (either-none pairs) ∙ ap (λ (xs : List ℕ). either pairs (pairs_after sums before (items_in xs))) (sym (drop_all i codes past)) ∙ h

@@ -1,5 +1,5 @@
 -- Which pairs of adjacent bytes a text has, and which a mask needs, as sets of 128 places (our own choice).
-use Rattle.std.specs.Prelude.{ℕ, ◌+◌, ◌-◌, ◌*◌, ◌%◌, ◌^◌, Bool, true, ◌==◌, ◌&&◌, nat_lt, if◌then◌else◌, List, [], ◌∷◌, bit_and, bit_or}
+use Rattle.std.specs.Prelude.{ℕ, ◌+◌, ◌-◌, ◌*◌, ◌%◌, ◌^◌, Bool, true, ◌==◌, ◌&&◌, nat_lt, if◌then◌else◌, Option, Some, None, List, [], ◌∷◌, bit_and, bit_or}
 use Rattle.rfccase.specs.Casemapping.{low, folded}
 use Rattle.wildmask.specs.declared.items.Item.{Item}
 use Rattle.wildmask.specs.declared.items.Item.TheVariants.{Literal, AnyByte, AnyText, NoSpace, Spaces}
@@ -47,17 +47,23 @@ pairs_of sums (a ∷ b ∷ text) = either (pair_if sums a b) (pairs_of sums (b �
 abbrev pub text_signature : List ℕ → Pairs
 text_signature text = pairs_of every (folded text)
 
+-- the lower case of a literal
+abbrev pub lower_literal : Item → Option ℕ
+lower_literal (Literal b) = Some (low b)
+lower_literal AnyByte = None
+lower_literal AnyText = None
+lower_literal NoSpace = None
+lower_literal Spaces = None
+
+-- the pair of two lower cases; without one of them, none
+abbrev pub pair_of : Sums → Option ℕ → Option ℕ → Pairs
+pair_of sums (Some a) (Some b) = pair_if sums a b
+pair_of sums (Some a) None = no_pairs
+pair_of sums None b = no_pairs
+
 -- the pair that two adjacent items need: that of two literals; with a special item, none
 abbrev pub needed : Sums → Item → Item → Pairs
-needed sums (Literal a) (Literal b) = pair_if sums (low a) (low b)
-needed sums (Literal a) AnyByte = no_pairs
-needed sums (Literal a) AnyText = no_pairs
-needed sums (Literal a) NoSpace = no_pairs
-needed sums (Literal a) Spaces = no_pairs
-needed sums AnyByte item = no_pairs
-needed sums AnyText item = no_pairs
-needed sums NoSpace item = no_pairs
-needed sums Spaces item = no_pairs
+needed sums a b = pair_of sums (lower_literal a) (lower_literal b)
 
 -- the pairs that a mask with these items needs
 abbrev pub pairs_needed : Sums → List Item → Pairs

@@ -1,8 +1,8 @@
 -- Which pairs of adjacent bytes a text has, and which a mask needs, as sets of 256 places (our own choice).
-use Rattle.std.specs.Prelude.{ℕ, ◌%◌, Bool, ◌&&◌, not, nat_lt, List}
+use Rattle.std.specs.Prelude.{ℕ, ◌%◌, Bool, ◌&&◌, not, nat_lt, List, Option}
 use Rattle.rfccase.specs.Casemapping.{folded}
 use Rattle.wildmask.specs.declared.items.Item.{Item}
-use Rattle.wildmask.specs.Signatures.{Pairs, Sums, no_pairs, either, pair_if, pairs_of, needed, pairs_needed, is_within}
+use Rattle.wildmask.specs.Signatures.{Pairs, Sums, no_pairs, either, pair_if, pair_of, pairs_of, pairs_needed, is_within}
 
 -- two sets of places: a pair is in one of them or in the other
 pub record WidePairs : Type 0 where
@@ -30,9 +30,9 @@ wide_pair a b = record { low = pair_if is_low a b; high = pair_if is_high a b }
 abbrev pub wide_text_signature : List ℕ → WidePairs
 wide_text_signature text = record { low = pairs_of is_low (folded text); high = pairs_of is_high (folded text) }
 
--- the pair that two adjacent items need
-abbrev pub wide_needed : Item → Item → WidePairs
-wide_needed a b = record { low = needed is_low a b; high = needed is_high a b }
+-- the pair of two lower cases; without one of them, none
+abbrev pub wide_pair_of_both : Option ℕ → Option ℕ → WidePairs
+wide_pair_of_both a b = record { low = pair_of is_low a b; high = pair_of is_high a b }
 
 -- the pairs that a mask with these items needs
 abbrev pub wide_items_signature : List Item → WidePairs

@@ -1,7 +1,7 @@
 // The pairs of adjacent bytes that a text has, and those that a mask needs.
 ghost use Rattle.std.specs.Prelude.{◌≡◌};
 ghost use Rattle.wildmask.specs.Codes.{decoded, items_in};
-ghost use Rattle.wildmask.specs.Signatures.{every, either, pair, needed, text_signature, items_signature, is_within};
+ghost use Rattle.wildmask.specs.Signatures.{every, either, lower_literal, pair, pair_of as pair_of_both, text_signature, items_signature, is_within};
 
 use crate::codes::item_of;
 use crate::items::Item;
@@ -64,10 +64,11 @@ impl Signature {
         ensures { result ≡ items_signature (items_in codes.now) }
     {
         let mut pairs = NONE;
-        let mut rest = codes;
-        while let [first, second, ..] = rest {
-            pairs = pairs.or(needed_pair(*first, *second));
-            rest = &rest[1..];
+        let mut before = None;
+        for code in codes {
+            let lower = lower_literal(*code);
+            pairs = pairs.or(pair_between(before, lower));
+            before = lower;
         }
         pairs
     }
@@ -83,17 +84,24 @@ impl Signature {
     }
 }
 
-// The pair that two adjacent items need: only two literals need one.
-fn needed_pair(first: u8, second: u8) -> Signature
-    ensures { result ≡ needed every (decoded first) (decoded second) }
+// The lower case of a literal, if the item of a code is one.
+pub(crate) fn lower_literal(code: u8) -> Option<u8>
+    ensures { result ≡ lower_literal (decoded code) }
 {
-    let Item::Literal(a) = item_of(first) else {
-        return NONE;
-    };
-    let Item::Literal(b) = item_of(second) else {
-        return NONE;
-    };
-    pair_of(fold(a), fold(b))
+    match item_of(code) {
+        Item::Literal(byte) => Some(fold(byte)),
+        Item::AnyByte | Item::AnyText | Item::NoSpace | Item::Spaces => None,
+    }
+}
+
+// The pair of the lower cases of two adjacent literals; without one of them, none.
+fn pair_between(first: Option<u8>, second: Option<u8>) -> Signature
+    ensures { result ≡ pair_of_both every first second }
+{
+    match (first, second) {
+        (Some(a), Some(b)) => pair_of(a, b),
+        _ => NONE,
+    }
 }
 
 // The pair of two lower cases.

@@ -1,11 +1,9 @@
 // The pairs of adjacent bytes that a long text has, and those that a bind's mask needs.
 ghost use Rattle.std.specs.Prelude.{◌≡◌};
-ghost use Rattle.wildmask.specs.Codes.{decoded, items_in};
-ghost use Rattle.wildmask.specs.WideSignatures.{wide_either, wide_pair, wide_needed, wide_text_signature, wide_items_signature, is_wide_within};
+ghost use Rattle.wildmask.specs.Codes.{items_in};
+ghost use Rattle.wildmask.specs.WideSignatures.{wide_either, wide_pair, wide_pair_of_both, wide_text_signature, wide_items_signature, is_wide_within};
 
-use crate::codes::item_of;
-use crate::items::Item;
-use crate::signatures::{NONE, Signature, pair_of};
+use crate::signatures::{NONE, Signature, lower_literal, pair_of};
 use rfccase::fold;
 use std::marker::Model;
 
@@ -64,10 +62,11 @@ impl WideSignature {
         ensures { result ≡ wide_items_signature (items_in codes.now) }
     {
         let mut pairs = NO_PAIRS;
-        let mut rest = codes;
-        while let [first, second, ..] = rest {
-            pairs = pairs.or(wide_needed_pair(*first, *second));
-            rest = &rest[1..];
+        let mut before = None;
+        for code in codes {
+            let lower = lower_literal(*code);
+            pairs = pairs.or(wide_pair_between(before, lower));
+            before = lower;
         }
         pairs
     }
@@ -83,17 +82,14 @@ impl WideSignature {
     }
 }
 
-// The pair that two adjacent items need: only two literals need one.
-fn wide_needed_pair(first: u8, second: u8) -> WideSignature
-    ensures { result ≡ wide_needed (decoded first) (decoded second) }
+// The pair of the lower cases of two adjacent literals; without one of them, none.
+fn wide_pair_between(first: Option<u8>, second: Option<u8>) -> WideSignature
+    ensures { result ≡ wide_pair_of_both first second }
 {
-    let Item::Literal(a) = item_of(first) else {
-        return NO_PAIRS;
-    };
-    let Item::Literal(b) = item_of(second) else {
-        return NO_PAIRS;
-    };
-    wide_pair_of(fold(a), fold(b))
+    match (first, second) {
+        (Some(a), Some(b)) => wide_pair_of(a, b),
+        _ => NO_PAIRS,
+    }
 }
 
 // The pair of two lower cases.
