@@ -181,6 +181,15 @@ position-above h (x ∷ us) n p at = by (is_same h x.handle) at (λ g. position-
     by true at rest = let same : n ≡ p = cc in omega (arith, same)
     by false at rest = omega (arith, rest at)
 
+pub position-below : (h : List ℕ) (us : List User) (n p : ℕ) → position_from (λ (x : User). is_same h x.handle) n us ≡ Some p → p < n + length us
+position-below h [] n p at = cc
+position-below h (x ∷ us) n p at = by (is_same h x.handle) at (λ g. position-below h us (n + 1) p g)
+  where
+    by : (b : Bool) → cond b (Some n) (position_from (λ (x : User). is_same h x.handle) (n + 1) us) ≡ Some p
+        → (position_from (λ (x : User). is_same h x.handle) (n + 1) us ≡ Some p → p < n + 1 + length us) → p < n + suc (length us)
+    by true at rest = let same : n ≡ p = cc in omega (arith, same)
+    by false at rest = omega (arith, rest at)
+
 pub position-none : (h : List ℕ) (us : List User) (n : ℕ) → position_from (λ (x : User). is_same h x.handle) n us ≡ None
     → list_any (λ (u : User). is_same h u.handle) us ≡ false
 position-none h [] n at = refl

@@ -15,16 +15,17 @@ use wildmask::{Signature, Tail};
 pub(crate) const TAIL_LENGTHS: usize = 17;
 
 // What the index has for a mask: the position of its user, and what decides whether the mask is worth a match. Masks
-// of one user that have the same tail, the same number of literals and the same pairs share one listing.
+// of one user that have the same tail, the same number of literals and the same pairs share one listing. A listing has
+// 24 bytes: look-ups go through many of them, so the position is a `u32`.
 #[derive(Clone, Copy)]
 pub(crate) struct Listing {
-    pub(crate) place: usize,
+    pub(crate) place: u32,
     pub(crate) literals: u8,
     pub(crate) pairs: Signature,
 }
 
 // The listing of a mask of the user at position `place`.
-pub(crate) fn listing_of(mask: &Hostmask, place: usize) -> Listing
+pub(crate) fn listing_of(mask: &Hostmask, place: u32) -> Listing
     ensures { result ≡ listing_of place mask.now }
 {
     Listing {
@@ -177,7 +178,7 @@ pub(crate) fn keep_masks(
 fn keep_listed(group: &mut Vec<Listing>, tail: &Tail, place: usize, masks: &[Hostmask])
     ensures { group.new.items ≡ filter (stays place masks.now tail.now) group.old.items }
 {
-    group.retain(|held| held.place != place || is_listed(tail, held, masks));
+    group.retain(|held| held.place as usize != place || is_listed(tail, held, masks));
 }
 
 // Whether any of these masks, those of a listing's user, has this tail and the listing.
@@ -216,7 +217,7 @@ fn leave_out(group: &mut Vec<Listing>, place: usize)
 fn drop_place(group: &mut Vec<Listing>, place: usize)
     ensures { group.new.items ≡ filter (λ x. not (x.place == place)) group.old.items }
 {
-    group.retain(|held| held.place != place);
+    group.retain(|held| held.place as usize != place);
 }
 
 fn move_up(group: &mut [Listing], place: usize)
@@ -231,7 +232,7 @@ fn moved_up(held: Listing, place: usize) -> Listing
     ensures { result ≡ moved_up place held }
 {
     Listing {
-        place: if held.place > place {
+        place: if held.place as usize > place {
             held.place - 1
         } else {
             held.place

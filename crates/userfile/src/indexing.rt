@@ -1,5 +1,5 @@
 // The map of the users and the index of their hostmasks, changed together.
-ghost use Rattle.std.specs.Prelude.{◌≡◌, ◌<◌, false, length, IfErr, IfOk, OnOk, OnErr, List, Some};
+ghost use Rattle.std.specs.Prelude.{◌≡◌, ◌<◌, ◌≤◌, false, length, IfErr, IfOk, OnOk, OnErr, List, Some};
 ghost use Rattle.std.specs.List.{position_from};
 ghost use Rattle.rfccase.specs.Casemapping.{is_same};
 ghost use Rattle.indexmap.specs.IndexMap.{values};
@@ -14,7 +14,7 @@ ghost use Rattle.userfile.specs.Together.{repeats_handle};
 use crate::entries::{edit_user, keep_other_users, push_mask};
 use crate::hostmask::Hostmask;
 use crate::index::{TailIndex, add_listing, keep_masks, listing_of, new_index, remove_user};
-use crate::limits::{MAX_HANDLE, MAX_MASKS};
+use crate::limits::{MAX_HANDLE, MAX_MASKS, MAX_USERS};
 use crate::user::User;
 use crate::user_edits::UserEdit;
 use bytetext::NoMemory;
@@ -42,6 +42,7 @@ pub(crate) fn add_host(
     mask: Hostmask,
 ) -> Result<(), NoMemory>
     requires keyed { IsKeyed users.old.entries }
+    requires few { length (values users.old) ≤ MAX_USERS }
     requires index { IsIndexOf index.old (values users.old) }
     ensures keyed { IsKeyed users.new.entries }
     ensures index { IsIndexOf index.new (values users.new) }
@@ -65,6 +66,7 @@ fn add_host_at(
     mask: Hostmask,
 ) -> Result<(), NoMemory>
     requires keyed { IsKeyed users.old.entries }
+    requires few { length (values users.old) ≤ MAX_USERS }
     requires place { position_from (λ u. is_same handle.now u.handle) 0 (values users.old) ≡ Some place }
     requires index { IsIndexOf index.old (values users.old) }
     ensures keyed { IsKeyed users.new.entries }
@@ -72,7 +74,7 @@ fn add_host_at(
     ensures ok { OnOk result (values users.new ≡ with_user handle.now (with_mask mask) (values users.old)) }
     ensures err { OnErr result (values users.new ≡ values users.old) }
 {
-    add_mask(index, alloc, &mask, place, usize::MAX)?;
+    add_mask(index, alloc, &mask, place as u32, usize::MAX)?;
     match push_mask(users, handle, mask) {
         Ok(()) => Ok(()),
         Err(NoMemory) => {
@@ -141,12 +143,13 @@ pub(crate) fn index_of(
     alloc: Global,
     users: &IndexMap<Vec<u8>, User>,
 ) -> Result<TailIndex, NoMemory>
+    requires { length (values users.now) ≤ MAX_USERS }
     ensures index { IfOk result (λ index. IsIndexOf index (values users.now)) }
     ensures memory { IfErr result (λ _. 0 < length (values users.now)) }
 {
     let mut index = new_index(alloc);
     for place in 0..users.len() {
-        add_masks(&mut index, alloc, masks_at(users, place), place)?;
+        add_masks(&mut index, alloc, masks_at(users, place), place as u32)?;
     }
     Ok(index)
 }
@@ -157,7 +160,7 @@ fn add_masks(
     index: &mut TailIndex,
     alloc: Global,
     masks: &[Hostmask],
-    place: usize,
+    place: u32,
 ) -> Result<(), NoMemory>
     ensures kept { Keeps index.old index.new }
     ensures names { (users : List user) → masks_at users place ≡ masks.now → Names index.old users → Names index.new users }
@@ -174,7 +177,7 @@ fn add_mask(
     index: &mut TailIndex,
     alloc: Global,
     mask: &Hostmask,
-    place: usize,
+    place: u32,
     recent: usize,
 ) -> Result<(), NoMemory>
     ensures kept { Keeps index.old index.new }

@@ -92,7 +92,7 @@ fn best_of_group(
         if may_win(listing, so_far, pairs) && has_match(mapping, users, listing, who) {
             so_far = Some(Winner {
                 literals: listing.literals,
-                place: listing.place,
+                place: listing.place as usize,
             });
         }
         rest = others;
@@ -121,7 +121,7 @@ fn from_first_within(group: &[Listing], pairs: Signature) -> &[Listing]
 fn may_win(listing: &Listing, best: Option<Winner>, pairs: Signature) -> bool
     ensures { (who : List ℕ) → pairs ≡ text_signature who → result ≡ may_win who listing.now best }
 {
-    listing.pairs.is_within(pairs) && is_better(listing.literals, listing.place, best)
+    listing.pairs.is_within(pairs) && is_better(listing.literals, listing.place as usize, best)
 }
 
 // Whether one of the masks of a listing matches the person.
@@ -133,7 +133,7 @@ fn has_match(
 ) -> bool
     ensures { result ≡ has_match mapping who.now listing.now (slice_get (values users.now) listing.now.place) }
 {
-    match users.get_index(listing.place) {
+    match users.get_index(listing.place as usize) {
         Some((_, user)) => one_matches(mapping, user.masks.as_slice(), listing, who),
         None => false,
     }

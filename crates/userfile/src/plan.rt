@@ -1,5 +1,5 @@
 // What an edit needs, made in advance, so that making the edit does not allocate.
-ghost use Rattle.std.specs.Prelude.{◌≡◌, ◌≢◌, None, true, false, IfOk, IfErr, OnErr};
+ghost use Rattle.std.specs.Prelude.{◌≡◌, ◌≢◌, ◌≤◌, None, true, false, length, IfOk, IfErr, OnErr};
 ghost use Rattle.std.specs.Map.{values_of};
 ghost use Rattle.bytetext.specs.declared.failure.Failure.TheVariants.{NoMemory as no_memory};
 ghost use Rattle.indexmap.specs.IndexMap.{values};
@@ -19,6 +19,7 @@ use crate::entries::{add_user, edit_user, find_user};
 use crate::error::ChangeError;
 use crate::index::TailIndex;
 use crate::indexing::{add_host, del_host, del_user};
+use crate::limits::MAX_USERS;
 use crate::user::User;
 use crate::user_edits::{UserEdit, hostmask_of};
 use bytetext::{NoMemory, Text, TryCopy};
@@ -49,6 +50,7 @@ pub(crate) fn plan_for(
     edit: &Edit,
 ) -> Result<Plan, ChangeError>
     requires keyed { IsKeyed users.old.entries }
+    requires few { length (values_of users.old.entries) ≤ MAX_USERS }
     requires index { IsIndexOf index.old (values_of users.old.entries) }
     requires taken { edit_refusal (records_of users.old.entries bans.old.items) edit.now ≡ None }
     ensures keyed { IsKeyed users.new.entries }

@@ -1,9 +1,13 @@
-use Rattle.std.proofs.Common.{sym, subst}
+use Rattle.std.proofs.Common.{arith, sym, subst}
 use Rattle.indexmap.specs.IndexMap.{values}
 use Rattle.userfile.specs.Index.{Covers, NamesBut, IsIndexOf}
-use Rattle.userfile.proofs.IndexLemmas.{Covers-keeps}
+use Rattle.userfile.proofs.IndexLemmas.{Covers-keeps, position-below}
 use Rattle.userfile.proofs.NameLemmas.{Names-groups, NamesBut-added, IsIndexOf-with_mask}
 use Rattle.userfile.proofs.indexing.add_host_at.Goals as goal
+
+pub overflow_cast-place : goal.overflow_cast-place
+overflow_cast-place c =
+    omega (arith, c.requires.few, position-below c.args.handle.now (values c.args.users.now) 0 c.args.place c.requires.place)
 
 pub returns-in_err-add_mask-clause-index : goal.returns-in_err-add_mask-clause-index
 returns-in_err-add_mask-clause-index c = record {
