@@ -1,12 +1,15 @@
 -- The index of hostmasks covers all users, before and after each change, and so a search through it finds who decides.
-use Rattle.std.proofs.Common.{◌≡◌, ℕ, zero, suc, ◌+◌, ◌<◌, ◌≤◌, ◌==◌, inl, inr, Bool, true, false, cond, not, ◌||◌, List, [], ◌∷◌}
+use Rattle.std.proofs.Common.{◌≡◌, ℕ, zero, suc, ◌+◌, ◌<◌, ◌≤◌, ◌==◌, nat_eq, inl, inr, Bool, true, false, cond, not, ◌&&◌, ◌||◌, List, [], ◌∷◌}
 use Rattle.std.proofs.Common.{◌++◌, filter, length, refl, sym, ap, subst, ◌∙◌, arith, None, Some, slice_get, slice_index}
 use Rattle.std.proofs.Common.{get_or, take}
 use Rattle.std.specs.List.{list_any, position_from}
-use Rattle.std.proofs.lemmas.Bool.{cases_lt}
+use Rattle.std.specs.Cmp.Lexicographic.{pointwise, bytes_decides}
+use Rattle.std.proofs.lemmas.Bool.{cases_lt, eqb-true}
 use Rattle.std.proofs.lemmas.List.{take_more}
 use Rattle.rfccase.specs.Casemapping.{is_same}
+use Rattle.wildmask.specs.Signatures.{same_pairs}
 use Rattle.wildmask.specs.Tails.{end_key}
+use Rattle.wildmask.proofs.SignatureLemmas.{same_pairs-same}
 use Rattle.userfile.specs.declared.user.User.{User}
 use Rattle.userfile.specs.declared.index.TailIndex.{TailIndex}
 use Rattle.userfile.specs.declared.index.Listing.{Listing}
@@ -16,10 +19,10 @@ use Rattle.userfile.specs.Held.{with_user, users_without}
 use Rattle.userfile.specs.Together.{repeats_handle}
 use Rattle.userfile.specs.Persons.{user_for}
 use Rattle.userfile.specs.Search.{after_listings, user_at}
-use Rattle.userfile.specs.Index.{listing_of, listings_at, masks_at, IsIn, IsUnder, AreUnder, Covers, Keeps, LeavesOut, asked_at, asked}
+use Rattle.userfile.specs.Index.{is_listed, is_of, listed, listing_of, listings_at, masks_at, IsIn, IsUnder, AreUnder, Covers, Keeps, LeavesOut, asked_at, asked}
 use Rattle.userfile.proofs.GroupLemmas.{IsIn-left, IsIn-right}
 use Rattle.userfile.proofs.MatchLemmas.{match_ends, tail_short}
-use Rattle.userfile.proofs.RepeatLemmas.{or_false, or_both}
+use Rattle.userfile.proofs.RepeatLemmas.{and_true, or_false, or_both}
 use Rattle.rfccase.proofs.SameLemmas.{is_same-left}
 use Rattle.userfile.proofs.SearchLemmas.{AreListed, UsersBeaten, user_beaten, claim-after_listings, best-user_for}
 use Rattle.rfccase.specs.declared.casemappings.Casemapping.{Casemapping}
@@ -93,6 +96,38 @@ AreUnder-filter index n p (m ∷ ms) h = by (p m) (AreUnder-filter index n p ms 
     by : (b : Bool) → AreUnder index n (filter p ms) → AreUnder index n (cond b (m ∷ filter p ms) (filter p ms))
     by true r = (h.0, r)
     by false r = r
+
+-- ---- a listing that a user has already
+
+-- a mask that has a listing has also the tail and the listing under which it stands
+module _ (index : TailIndex) (n : ℕ) (m : List ℕ) where
+  under_like : (k : List ℕ) → (is_of (listing_of n m) k && pointwise nat_eq (mask_tail m) (mask_tail k)) ≡ true → IsUnder index (mask_tail k) (listing_of n k)
+      → IsUnder index (mask_tail m) (listing_of n m)
+  under_like k e under =
+      let parts : (is_of (listing_of n m) k ≡ true) × (pointwise nat_eq (mask_tail m) (mask_tail k) ≡ true) = and_true e in
+      let same : ((literals k == literals m) ≡ true) × (same_pairs (mask_pairs k) (mask_pairs m) ≡ true) = and_true parts.0 in
+      let listing : listing_of n k ≡ listing_of n m =
+      ap (λ l. listed n l (mask_pairs k)) (eqb-true (literals k) (literals m) same.0)
+      ∙ ap (λ p. listed n (literals m) p) (same_pairs-same (mask_pairs k) (mask_pairs m) same.1) in
+      subst (λ t. IsUnder index t (listing_of n m)) (sym ((bytes_decides (mask_tail m) (mask_tail k)).0 parts.1))
+      (subst (IsUnder index (mask_tail k)) listing under)
+
+  pub AreUnder-listed : (ms : List (List ℕ)) → AreUnder index n ms → is_listed (mask_tail m) (listing_of n m) ms ≡ true → IsUnder index (mask_tail m) (listing_of n m)
+  AreUnder-listed [] h e = cc
+  AreUnder-listed (k ∷ ms) h e = by (is_of (listing_of n m) k && pointwise nat_eq (mask_tail m) (mask_tail k)) refl e (AreUnder-listed ms h.1)
+    where
+      by : (b : Bool) → (is_of (listing_of n m) k && pointwise nat_eq (mask_tail m) (mask_tail k)) ≡ b
+          → (b || is_listed (mask_tail m) (listing_of n m) ms) ≡ true
+          → (is_listed (mask_tail m) (listing_of n m) ms ≡ true → IsUnder index (mask_tail m) (listing_of n m)) → IsUnder index (mask_tail m) (listing_of n m)
+      by true f e rest = under_like k f h.0
+      by false f e rest = rest e
+
+-- the masks of one of the users
+pub Covers-at : (index : TailIndex) (us : List User) (n i : ℕ) → Covers index n us → AreUnder index (i + n) (masks_at us i)
+Covers-at index [] n i h = tt
+Covers-at index (u ∷ us) n zero h = let place : n ≡ 0 + n = omega arith in subst (λ k. AreUnder index k u.masks) place h.0
+Covers-at index (u ∷ us) n (suc i) h =
+    let place : i + suc n ≡ suc i + n = omega arith in subst (λ k. AreUnder index k (masks_at us i)) place (Covers-at index us (suc n) i h.1)
 
 -- ---- users added, edited and taken out
 

@@ -7,7 +7,6 @@ use Rattle.rfccase.specs.declared.casemappings.Casemapping.{Casemapping}
 use Rattle.rfccase.specs.declared.casemappings.Casemapping.TheVariants.{Rfc1459}
 use Rattle.rfccase.proofs.SameLemmas.{is_same_by-Decides, IsSame-from}
 use Rattle.userfile.specs.declared.user.User.{User}
-use Rattle.userfile.specs.declared.ban.Ban.{Ban}
 use Rattle.userfile.specs.Hostmasks.{is_match, literals}
 use Rattle.userfile.specs.Persons.{Claim, claim, claims_of, claims, is_most, decider, bars, returns_to}
 use Rattle.userfile.specs.Widening.{KnownIsWider, StrangersStay, BanIsWider, StickyIsWider}

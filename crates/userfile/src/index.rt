@@ -182,7 +182,7 @@ fn keep_listed(group: &mut Vec<Listing>, tail: &Tail, place: usize, masks: &[Hos
 }
 
 // Whether any of these masks, those of a listing's user, has this tail and the listing.
-fn is_listed(tail: &Tail, listing: &Listing, masks: &[Hostmask]) -> bool
+pub(crate) fn is_listed(tail: &Tail, listing: &Listing, masks: &[Hostmask]) -> bool
     ensures { result ≡ is_listed tail.now listing.now masks.now }
 {
     masks

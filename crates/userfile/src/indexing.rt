@@ -13,7 +13,9 @@ ghost use Rattle.userfile.specs.Together.{repeats_handle};
 
 use crate::entries::{edit_user, keep_other_users, push_mask};
 use crate::hostmask::Hostmask;
-use crate::index::{TailIndex, add_listing, keep_masks, listing_of, new_index, remove_user};
+use crate::index::{
+    TailIndex, add_listing, is_listed, keep_masks, listing_of, new_index, remove_user,
+};
 use crate::limits::{MAX_HANDLE, MAX_MASKS, MAX_USERS};
 use crate::user::User;
 use crate::user_edits::UserEdit;
@@ -74,7 +76,7 @@ fn add_host_at(
     ensures ok { OnOk result (values users.new ≡ with_user handle.now (with_mask mask) (values users.old)) }
     ensures err { OnErr result (values users.new ≡ values users.old) }
 {
-    add_mask(index, alloc, &mask, place as u32, usize::MAX)?;
+    add_mask_beside(index, alloc, &mask, place as u32, masks_at(users, place))?;
     match push_mask(users, handle, mask) {
         Ok(()) => Ok(()),
         Err(NoMemory) => {
@@ -82,6 +84,29 @@ fn add_host_at(
             Err(NoMemory)
         }
     }
+}
+
+// Adds a mask under its tail. `masks` are those that its user, at position `place`, has already. Their listings are in
+// the index, so only the masks are searched for one with the same listing, and not the group of the tail.
+fn add_mask_beside(
+    index: &mut TailIndex,
+    alloc: Global,
+    mask: &Hostmask,
+    place: u32,
+    masks: &[Hostmask],
+) -> Result<(), NoMemory>
+    requires { AreUnder index.old place masks.now }
+    ensures kept { Keeps index.old index.new }
+    ensures only { AddsOnly index.old.groups.entries index.new.groups.entries (mask_tail mask.now) (listing_of place mask.now) }
+    ensures ok { OnOk result (IsUnder index.new (mask_tail mask.now) (listing_of place mask.now)) }
+    ensures err { OnErr result (AddsNothing index.old.groups.entries index.new.groups.entries) }
+{
+    let tail = mask.tail();
+    let listing = listing_of(mask, place);
+    if is_listed(&tail, &listing, masks) {
+        return Ok(());
+    }
+    add_listing(index, alloc, tail, &listing, 0)
 }
 
 // Removes a hostmask from the user with the handle.
