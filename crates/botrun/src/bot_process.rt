@@ -165,6 +165,7 @@ where
 }
 
 // Ends the connections of a bot without records, and forgets its journal.
+#[cold]
 fn give_up<R: AllocGlobal + Files<File = File>, W: Watcher>(
     rt: &R,
     process: Process,
@@ -180,7 +181,9 @@ fn give_up<R: AllocGlobal + Files<File = File>, W: Watcher>(
     Ok(folder)
 }
 
-// Makes turns until the bot ends, or has to begin again. Serves the page and writes the log at the end of each turn.
+// Makes turns until the bot ends, or has to begin again. Serves the page and writes the log at the end of each turn. It
+// is not inlined, so that no start needs its room on the stack.
+#[inline(never)]
 fn make_turns<R, P: Promise, B: Run, W: Watcher>(
     rt: &R,
     log: &mut Log,
@@ -234,7 +237,9 @@ where
 }
 
 // Creates the process of the bot in a folder. It is not connected to anybody yet. If the folder holds no journal, a
-// leaf's requests are numbered above `last`. `leaves_bans` says whether the bot leaves recorded bans to its procs.
+// leaf's requests are numbered above `last`. `leaves_bans` says whether the bot leaves recorded bans to its procs. It is
+// not inlined, so that no turn needs its room on the stack.
+#[inline(never)]
 fn begin<R, W: Watcher>(
     rt: &R,
     watch: &Watch,
@@ -290,6 +295,7 @@ where
 
 // At a leaf, notes the changes of an earlier run that are out: they are answered before all that are asked for in this
 // one. A pump sends each of them again, and nothing else waits yet.
+#[inline(never)]
 fn look_back<P: Promise, B: Run, W: Watcher>(
     alloc: Global,
     process: &mut Process,

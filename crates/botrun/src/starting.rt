@@ -28,7 +28,9 @@ use watching::Watcher;
 pub(crate) const BAN_KEEPER: &[u8] = b"keepbans";
 
 // Opens the bot whose journal the folder holds, or creates it if there is none: then a leaf's requests are numbered above
-// `last`. `leaves_bans` says whether the bot leaves recorded bans to its procs.
+// `last`. `leaves_bans` says whether the bot leaves recorded bans to its procs. It is not inlined, nor what it calls, so
+// that each begins with little on the stack.
+#[inline(never)]
 pub(crate) fn bot_of<R: AllocGlobal + Files<File = File> + RandomSource + Clock, W: Watcher>(
     rt: &R,
     folder: &BotFolder,
@@ -53,6 +55,7 @@ pub(crate) fn bot_of<R: AllocGlobal + Files<File = File> + RandomSource + Clock,
 }
 
 // Opens the bot of an existing journal.
+#[inline(never)]
 fn found<W: Watcher>(
     alloc: Global,
     config: Config,
@@ -77,6 +80,7 @@ fn found<W: Watcher>(
 }
 
 // Creates a bot; a leaf's requests are numbered above `last`. Its journal is found from now on.
+#[inline(never)]
 fn made<R: AllocGlobal + Files<File = File>, W: Watcher>(
     rt: &R,
     folder: &BotFolder,

@@ -56,6 +56,7 @@ impl Display for AccountFault {
 ///
 /// # Errors
 /// `Account` if the bot cannot log in; `NoMemory` if an allocation fails.
+#[inline(never)]
 pub fn uplink_of<R: AllocGlobal + Files<File = File>>(
     rt: &R,
     settings: &Settings,

@@ -39,6 +39,7 @@ pub fn folder_of<R: AllocGlobal + Files<File = File> + Clock>(
 ///
 /// # Errors
 /// `Control` if the process cannot listen there; `Folder` and `NoMemory`, as [`RunError`] describes them.
+#[inline(never)]
 pub fn door_of<R>(rt: &R, watch: &Watch, folder: &BotFolder) -> Result<Admins, RunError>
 where
     R: AllocGlobal + Net + Files<File = File>,
@@ -56,6 +57,7 @@ where
 ///
 /// # Errors
 /// `Folder` and `NoMemory`, as [`RunError`] describes them.
+#[inline(never)]
 pub fn space_of<R: AllocGlobal + Files<File = File>>(
     rt: &R,
     folder: &BotFolder,

@@ -197,6 +197,7 @@ fn is_nets(secret: Option<Secret>) -> bool {
 ///
 /// # Errors
 /// `NoNet`, `NoMade`, `BadDoubt`, `BadParent`, `Book`, `Listen`, `Folder`, `System` and `NoMemory`, as [`RunError`] describes them.
+#[inline(never)]
 pub fn links_of<R: AllocGlobal + Net + Files<File = File> + RandomSource>(
     rt: &R,
     registry: &Registry,
