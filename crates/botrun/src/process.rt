@@ -133,7 +133,8 @@ impl Process {
             (IsAt P.promised store.now (station_of settings.now) W.may (W.past watcher.new) self.new.bot)) }
     {
         let now = seconds.wall;
-        self.uplink.wake(watch.tokens(), seconds.steady);
+        self.uplink
+            .wake(watch.tokens(), watch.endings(), seconds.steady);
         self.others.mail.links.wake(watch.tokens(), seconds.steady);
         let (uplink, links) = (&mut self.uplink, &mut self.others.mail.links);
         let registry = watch.registry();

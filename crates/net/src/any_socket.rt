@@ -81,10 +81,7 @@ impl Socket<AnyStream> {
         ensures tcp { is_at_path result.stream ≡ false }
     {
         let (stream, account) = socket.into_parts();
-        Socket {
-            stream: AnyStream::Tcp(stream),
-            account,
-        }
+        Socket::of_parts(AnyStream::Tcp(stream), account)
     }
 
     /// Returns `socket` as one of either kind, with the same account.
@@ -93,10 +90,7 @@ impl Socket<AnyStream> {
         ensures path { is_at_path result.stream ≡ true }
     {
         let (stream, account) = socket.into_parts();
-        Socket {
-            stream: AnyStream::Unix(stream),
-            account,
-        }
+        Socket::of_parts(AnyStream::Unix(stream), account)
     }
 
     /// Returns the port of this side of a connection over TCP, if the system reports it.

@@ -36,6 +36,10 @@
 //! wait. No contract says beforehand what a socket gives and takes; its account says what it gave and took. A dropped
 //! socket is closed, and no wait names it any more.
 //!
+//! A read that returns fewer bytes than it asked for has read all that had arrived. A socket that is told to trust such
+//! a read ([`trust_short_reads`](Socket::trust_short_reads)) stalls at the next call without a system call. It must not
+//! trust it after an event that told of an end ([`Watch::endings`]): no later event is sure to announce the end.
+//!
 //! # Buffers
 //!
 //! A [`Connection`] stands between a stream and a bot. [`read`](Connection::read) hears pieces of what the stream

@@ -14,9 +14,17 @@ use streams::{Account, Given, Obstacle, Stream, Taken, WriteFault, obstacle_of};
 /// A call that would block returns [`Given::Stall`] or [`Taken::Nothing`]. So does a call while the connection is still
 /// being made. An interrupted call is repeated. Each other error is a fault; if the connection is refused, the first
 /// call that learns of it returns the fault.
+///
+/// A socket can be told to trust short reads ([`trust_short_reads`](Socket::trust_short_reads)). Then it takes a read
+/// that returns fewer bytes than the buffer holds to have read all that had arrived, and the next read returns
+/// [`Given::Stall`] without a system call. This saves the system call that would only report that it would block.
 pub struct Socket<S> {
     pub(crate) stream: S,
     pub(crate) account: Account,
+    // Whether a short read is taken to have read all that there was.
+    pub(crate) trusts_short_reads: bool,
+    // Whether the last read was short and is trusted. The next call stalls.
+    pub(crate) is_drained: bool,
 }
 
 // By hand, so that this is proved once, and not in each crate in which a connection ends.
@@ -25,11 +33,30 @@ impl<S: Drop> Drop for Socket<S> {
         let Socket {
             stream: _,
             account: _,
+            trusts_short_reads: _,
+            is_drained: _,
         } = self;
     }
 }
 
 impl<S> Socket<S> {
+    ghost use Rattle.std.specs.Prelude.{false};
+
+    // A socket that trusts no short reads.
+    pub(crate) fn of_parts(stream: S, account: Account) -> Socket<S>
+        ensures stream { result.stream ≡ stream }
+        ensures account { result.account ≡ account }
+        ensures trusts { result.trusts_short_reads ≡ false }
+        ensures asks { result.is_drained ≡ false }
+    {
+        Socket {
+            stream,
+            account,
+            trusts_short_reads: false,
+            is_drained: false,
+        }
+    }
+
     // Watches `stream`, a socket of the system that was asked nothing yet, under `token`.
     pub(crate) fn watched(registry: &Registry, token: usize, stream: S) -> io::Result<Socket<S>>
     where
@@ -39,10 +66,7 @@ impl<S> Socket<S> {
         let mut stream = stream;
         let both = Interest::READABLE | Interest::WRITABLE;
         registry.register(&mut stream, Token(token), both)?;
-        Ok(Socket {
-            stream,
-            account: Account::new(),
-        })
+        Ok(Socket::of_parts(stream, Account::new()))
     }
 
     // The socket of the system, and the account of what it gave and took.
@@ -51,8 +75,33 @@ impl<S> Socket<S> {
         S: Drop,
         ensures { result ≡ (self.stream, self.account) }
     {
-        let Socket { stream, account } = self;
+        let Socket {
+            stream,
+            account,
+            trusts_short_reads: _,
+            is_drained: _,
+        } = self;
         (stream, account)
+    }
+
+    /// Sets whether the socket trusts short reads. A new socket does not. The next read asks the system in any case, so
+    /// call this after each event that names the socket.
+    ///
+    /// A read that returns fewer bytes than it asked for has read all that had arrived, and bytes that arrive later make
+    /// a new event (epoll(7)). An end makes a new event too, unless the last event already told of it. So pass `true` only
+    /// if [`Watch::endings`](crate::Watch::endings) does not have the socket's token. Otherwise pass `false`, and read
+    /// until the stream returns [`Given::End`] or [`Given::Fault`].
+    ///
+    /// Urgent data over TCP, and open files sent to a path, can cut a read short too. The bytes after them are then read
+    /// after the next event.
+    pub fn trust_short_reads(&mut self, on: bool)
+        ensures stream { self.new.stream ≡ self.old.stream }
+        ensures account { self.new.account ≡ self.old.account }
+        ensures trusts { self.new.trusts_short_reads ≡ on }
+        ensures asks { self.new.is_drained ≡ false }
+    {
+        self.trusts_short_reads = on;
+        self.is_drained = false;
     }
 
     // The socket of the system.
@@ -69,11 +118,20 @@ impl<S: Read + Write> Stream for Socket<S> {
 
     ghost sink = { λ socket. record { holds = None; past = socket.account.past.taking } };
 
+    // After a short read that is trusted, stalls without a system call.
     fn give(&mut self, buffer: &mut [u8]) -> Given {
+        if self.is_drained {
+            self.is_drained = false;
+            self.account.note_given(Given::Stall, buffer);
+            return Given::Stall;
+        }
         for _turn in 0..u64::MAX {
             let answer = match self.stream.read(buffer) {
                 Ok(0) => Given::End,
-                Ok(count) => Given::Bytes(count),
+                Ok(count) => {
+                    self.is_drained = self.trusts_short_reads && count < buffer.len();
+                    Given::Bytes(count)
+                }
                 Err(error) => match obstacle_of(error.kind()) {
                     Obstacle::Interruption => continue,
                     Obstacle::Wait => Given::Stall,

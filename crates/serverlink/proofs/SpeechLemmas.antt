@@ -9,7 +9,7 @@ use Rattle.serverlink.specs.declared.session.Session.{Session}
 use Rattle.ircline.specs.Said.{is_said}
 use Rattle.serverlink.specs.Cues.{cue_of, is_by}
 use Rattle.serverlink.specs.Regains.{Regaining, heard, is_free, is_left, lacks, regains, told}
-use Rattle.serverlink.specs.Waiting.{HasHeardMessage, message_noted, wants_in, wants_of}
+use Rattle.serverlink.specs.Waiting.{HasHeardMessage, message_noted, wants_in}
 
 -- the message with another command
 abbrev with_command : Message → List ℕ → Message

@@ -247,7 +247,12 @@ impl IrcConnection {
     /// Begins a turn at second `steady` of the monotonic clock, by which silence is measured. Notes that the connection
     /// may have something to read if `tokens`, those of a wait, name it. A token may be that of an earlier connection:
     /// then the next read would block.
-    pub fn wake(&mut self, tokens: &[usize], steady: u64)
+    ///
+    /// `endings` are the tokens of those events of the wait that tell of an end ([`Watch::endings`](net::Watch::endings)).
+    /// If they don't name the connection, a read that returns fewer bytes than it asks for is taken to have read all that
+    /// had arrived, and the system is not asked again before the next event. Otherwise the connection is read until it
+    /// ends.
+    pub fn wake(&mut self, tokens: &[usize], endings: &[usize], steady: u64)
         ensures woken { talk_in self.new.session
             ≡ woken (list_any (λ token. token == TOKEN) tokens.now) (talk_in self.old.session) }
         ensures steady { self.new.steady ≡ steady }
@@ -255,7 +260,11 @@ impl IrcConnection {
         self.steady = steady;
         if let Some(session) = &mut self.session {
             if tokens.contains(&TOKEN) {
-                session.wire.connection.is_ready = true;
+                let connection = &mut session.wire.connection;
+                connection
+                    .stream
+                    .trust_short_reads(!endings.contains(&TOKEN));
+                connection.is_ready = true;
             }
         }
     }

@@ -8,7 +8,7 @@
 //! ```text
 //! let mut irc = IrcConnection::new(alloc, settings, account)?;
 //! // each turn, at the second now of the bot's clock and the second steady of the monotonic clock
-//! irc.wake(watch.tokens(), steady);
+//! irc.wake(watch.tokens(), watch.endings(), steady);
 //! let connected = irc.connect(rt, log, watch.registry(), settings, now)?;
 //! irc.read()?;
 //! let bytes = irc.take_heard(alloc);
