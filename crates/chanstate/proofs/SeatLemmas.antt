@@ -1,5 +1,5 @@
 -- Seats and their index: what edits of both mean for those who sit there.
-use Rattle.std.proofs.Common.{◌≡◌, ◌≢◌, ◌⊎◌, inl, inr, ⊎_elim, ℕ, zero, suc, ◌+◌, ◌<◌, Bool, true, false, cond, ◌||◌, List, [], ◌∷◌, ◌++◌, length, get_or}
+use Rattle.std.proofs.Common.{◌≡◌, ◌≢◌, ◌⊎◌, inl, inr, ⊎_elim, ℕ, zero, suc, ◌+◌, ◌<◌, ◌≤◌, Bool, true, false, cond, ◌||◌, List, [], ◌∷◌, ◌++◌, length, get_or}
 use Rattle.std.proofs.Common.{set, take, map, nat_eq, eqb, refl, sym, ap, subst, ◌∙◌, Option, None, Some, is_some, Result, Ok, Err, IsOk, OnOk}
 use Rattle.std.proofs.Common.{true≢false, if◌then◌else◌, arith}
 use Rattle.std.specs.Prelude.{find}
@@ -551,6 +551,11 @@ length-last : (ps : Places) (o : Option Member) → length (ps ++ o ∷ []) ≡ 
 length-last [] o = refl
 length-last (p ∷ ps) o = let rest = length-last ps o in omega (arith, rest)
 
+-- the number of entries after a member is next
+next_len : (o : Option ℕ) (n k : ℕ) → k ≡ n + (if is_some o then 0 else 1) → o ≡ None → k ≡ n + 1
+next_len o n k is none = is ∙ ap (λ q. n + (if is_some q then 0 else 1)) none
+
+-- the index of indexed members has each of those who are taken so far
 pub made-next : (mapping : Casemapping) (ps : Places) (all : Entries) (i : ℕ) (d : Option Member) (es fs : Entries) (n k : ℕ) → AreIndexed mapping ps all → i < length ps
     → AreIndexed mapping (taken (take i ps)) es → n ≡ length (taken (take i ps)) → IsIndexedNext mapping (get_or ps i d) n es k fs
     → AreIndexed mapping (taken (take (i + 1) ps)) fs × (k ≡ length (taken (take (i + 1) ps)))
@@ -572,10 +577,11 @@ made-next mapping ps all i d es fs n k indexed less so_far count next = by (get_
         )
     by (Some m) is step =
         let whole : taken (take (i + 1) ps) ≡ before ++ Some m ∷ [] = ap taken (more ∙ ap (λ o. take i ps ++ o ∷ []) is) ∙ taken-some (take i ps) m in
-        let absent = none (place_under (folded_by mapping m.nick) es) refl m is in (
+        let absent = none (place_under (folded_by mapping m.nick) es) refl m is in
+        let total = next_len (place_under (folded_by mapping m.nick) es) n k step.1 absent in (
           subst (λ qs. AreIndexed mapping qs fs) (sym whole)
               (indexed-last mapping before es fs m so_far absent (subst (λ c. IsChanged (folded_by mapping m.nick) (Some c) es fs) count step.0)),
-          (let total = step.1 absent in let long = length-last before (Some m) in let same = ap length whole in omega (arith, total, long, same, count)),
+          (let long = length-last before (Some m) in let same = ap length whole in omega (arith, total, long, same, count)),
         )
       where
         none : (o : Option ℕ) → place_under (folded_by mapping m.nick) es ≡ o → (y : Member) → get_or ps i d ≡ Some y → o ≡ None
@@ -589,6 +595,42 @@ made-next mapping ps all i d es fs n k indexed less so_far count next = by (get_
             let same : somewhere.0 ≡ i = same_place somewhere.0 i (sym other ∙ ap (λ l. place_under l all) who.2 ∙ own) in
             let below : somewhere.0 < i = early.0 in
             absurd (omega (arith, same, below))
+
+-- at most one more entry comes; if the index has as many as there are members, it had as many before
+next_count : (o : Option ℕ) (n k size : ℕ) → k ≡ n + (if is_some o then 0 else 1) → n ≤ size → (k ≤ size + 1) × (k ≡ size + 1 → (o ≡ None) × (n ≡ size))
+next_count None n k size is within = let one : k ≡ n + 1 = is in (omega (arith, one, within), λ full. (refl, omega (arith, one, full)))
+next_count (Some j) n k size is within = let none : k ≡ n + 0 = is in (omega (arith, none, within), λ full. absurd (omega (arith, none, within, full)))
+
+-- an index with as many entries as there are members has each of them: its entries are no more than they are, and
+-- if so many, then the index had none of the nicks twice
+abbrev pub IsCounted : Casemapping → Places → ℕ → Entries → Type 0
+IsCounted mapping ps n es = (n ≤ length ps) × (n ≡ length ps → AreIndexed mapping ps es)
+
+pub counted-next : (mapping : Casemapping) (ps : Places) (i : ℕ) (d : Option Member) (es fs : Entries) (n k : ℕ) → i < length ps
+    → IsCounted mapping (taken (take i ps)) n es → IsIndexedNext mapping (get_or ps i d) n es k fs → IsCounted mapping (taken (take (i + 1) ps)) k fs
+counted-next mapping ps i d es fs n k less so_far next = by (get_or ps i d) refl next
+  where
+    before : Places
+    before = taken (take i ps)
+
+    more : take (i + 1) ps ≡ take i ps ++ get_or ps i d ∷ []
+    more = take_more ps i d less
+
+    by : (o : Option Member) → get_or ps i d ≡ o → IsIndexedNext mapping o n es k fs → IsCounted mapping (taken (take (i + 1) ps)) k fs
+    by None is step =
+        let whole : taken (take (i + 1) ps) ≡ before = ap taken (more ∙ ap (λ o. take i ps ++ o ∷ []) is) ∙ taken-none (take i ps) in
+        subst (λ qs. IsCounted mapping qs k fs) (sym whole)
+        (subst (λ gs. IsCounted mapping before k gs) (sym step.0) (subst (λ j. IsCounted mapping before j es) (sym step.1) so_far))
+    by (Some m) is step =
+        let whole : taken (take (i + 1) ps) ≡ before ++ Some m ∷ [] = ap taken (more ∙ ap (λ o. take i ps ++ o ∷ []) is) ∙ taken-some (take i ps) m in
+        let long = length-last before (Some m) in
+        let count = next_count (place_under (folded_by mapping m.nick) es) n k (length before) step.1 so_far.0 in
+        subst (λ qs. IsCounted mapping qs k fs) (sym whole) (
+          subst (λ l. k ≤ l) (sym long) count.0,
+          λ full.
+              let last = count.1 (full ∙ long) in
+              indexed-last mapping before es fs m (so_far.1 last.1) last.0 (subst (λ c. IsChanged (folded_by mapping m.nick) (Some c) es fs) last.1 step.0),
+        )
 
 -- edits as the code makes them: the seat at `at` is read as `o`, and the index is changed under `lower`
 
@@ -678,9 +720,6 @@ edited-seated mapping edit nick ps es at m n o read is made indexed place =
     let same : m ≡ who.0 = one_member m who.0 (sym is ∙ read ∙ SitsAt-get_or ps at who.0 o who.1) in
     seated-edited mapping nick (edited edit) ps at who.0 n who.1 (made ∙ ap (edited edit) same) (called-from mapping nick who.0 who.2)
     (only-from mapping nick ps es at indexed place)
-
-pub next_len : (o p : Option ℕ) (n k : ℕ) → k ≡ n + (if is_some o then 0 else 1) → o ≡ p → p ≡ None → k ≡ n + 1
-next_len o p n k is same none = is ∙ ap (λ q. n + (if is_some q then 0 else 1)) (same ∙ none)
 
 pub has-is : (mapping : Casemapping) (nick : List ℕ) (ps : Places) (es : Entries) (o : Option ℕ) → AreIndexed mapping ps es → o ≡ place_under (folded_by mapping nick) es → is_some o ≡ true
     → list_any (is_called mapping nick) (seated ps) ≡ true

@@ -1,5 +1,5 @@
 -- The seats of a channel, in the order in which people came, and the index that finds them by lower-case nick.
-use Rattle.std.specs.Prelude.{◌≡◌, ℕ, ◌+◌, zero, suc, Bool, true, false, nat_eq, List, [], ◌∷◌, Option, None, Some, is_some, filter}
+use Rattle.std.specs.Prelude.{◌≡◌, ℕ, ◌+◌, zero, suc, Bool, true, false, nat_eq, List, [], ◌∷◌, Option, None, Some, is_some, filter, if◌then◌else◌}
 use Rattle.std.specs.List.{filter_map}
 use Rattle.std.specs.Map.{lookup}
 use Rattle.std.specs.Cmp.Lexicographic.{pointwise}
@@ -52,12 +52,12 @@ pub record IsChanged (lower : List ℕ) (w : Option ℕ) (old new : Entries) : T
   pub own : place_under lower new ≡ w
   pub others : (other : List ℕ) → pointwise nat_eq other lower ≡ false → place_under other new ≡ place_under other old
 
--- The member at a place is next in the index, under the index's number of entries. If the place is empty, nothing
--- changes.
+-- The member at a place is next in the index, under the index's number of entries. There is one more entry, unless the
+-- index had this nick. If the place is empty, nothing changes.
 abbrev pub IsIndexedNext : Casemapping → Option Member → ℕ → Entries → ℕ → Entries → Type 0
 IsIndexedNext mapping None n old k new = (new ≡ old) × (k ≡ n)
 IsIndexedNext mapping (Some m) n old k new =
-    IsChanged (folded_by mapping m.nick) (Some n) old new × (place_under (folded_by mapping m.nick) old ≡ None → k ≡ n + 1)
+    IsChanged (folded_by mapping m.nick) (Some n) old new × (k ≡ n + (if is_some (place_under (folded_by mapping m.nick) old) then 0 else 1))
 
 -- whether someone of this nick sits there
 abbrev pub is_seat_of : Casemapping → List ℕ → Option Member → Bool

@@ -1,5 +1,5 @@
 // The members that a list of names shows.
-ghost use Rattle.std.specs.Prelude.{◌≡◌, ◌+◌, ◌<◌, ◌≤◌, ◌++◌, IfOk, OnOk, length};
+ghost use Rattle.std.specs.Prelude.{true, ◌≡◌, ◌+◌, ◌<◌, ◌≤◌, ◌++◌, IfOk, OnOk, length};
 ghost use Rattle.std.specs.Option.{option_to_list};
 ghost use Rattle.std.specs.Vec.{vec_len, vec_capacity};
 ghost use Rattle.std.specs.Map.{values_of};
@@ -62,8 +62,9 @@ fn list(seats: &mut Seats, key: Vec<u8>, one: Member)
     requires indexed { AreSeated seats.old }
     requires key { IsUnder seats.old.mapping key one }
     requires place { vec_len seats.old.places < vec_capacity seats.old.places }
-    requires entry { 0 < spare seats.old.index }
+    requires entry { seats.old.indexed ≡ true → 0 < spare seats.old.index }
     ensures indexed { AreSeated seats.new }
+    ensures by_index { seats.new.indexed ≡ seats.old.indexed }
     ensures mapping { seats.new.mapping ≡ seats.old.mapping }
     ensures listed { seated seats.new.places.items ≡ listed seats.old.mapping one (seated seats.old.places.items) }
     ensures len { vec_len seats.new.places ≤ vec_len seats.old.places + 1 }
@@ -81,7 +82,7 @@ pub(crate) fn list_each(seats: &mut Seats, ones: Vec<(Vec<u8>, Member)>)
     requires indexed { AreSeated seats.old }
     requires keys { AreUnder seats.old.mapping ones.items }
     requires places { vec_len seats.old.places + length ones.items ≤ vec_capacity seats.old.places }
-    requires entries { length ones.items ≤ spare seats.old.index }
+    requires entries { seats.old.indexed ≡ true → length ones.items ≤ spare seats.old.index }
     ensures indexed { AreSeated seats.new }
     ensures listed { seated seats.new.places.items ≡ listed_each seats.old.mapping (values_of ones.items) (seated seats.old.places.items) }
 {

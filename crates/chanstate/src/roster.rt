@@ -15,7 +15,7 @@ use crate::member::{Mark, Member};
 use crate::member_edit::MemberEdit;
 use crate::seating::Seating;
 use crate::seats::{
-    Seats, add, compare_by, edit_called, index_taken, is_one, make_room, member_of, vacate,
+    Seats, add, compare_by, edit_called, index_of_copy, is_one, make_room, member_of, vacate,
     walk_for,
 };
 use crate::support::Support;
@@ -28,8 +28,8 @@ use std::marker::Model;
 use std::mem;
 
 /// The members, on their seats. Contracts see the list of them. Each call that looks for a nick takes the casemapping by
-/// which nicks compare. A roster keeps its index for one casemapping; a call with another one finds nicks by a walk over
-/// the seats.
+/// which nicks compare. A roster of many members keeps an index for one casemapping. A call with another casemapping finds
+/// nicks by a walk over the seats, as does each call on a roster of few members, which has no index.
 #[derive(Debug, Drop)]
 pub struct Roster {
     pub(crate) seats: Seats,
@@ -48,7 +48,7 @@ impl Model for Roster {
 }
 
 impl Roster {
-    // Creates a roster of one member, whose nicks are indexed by `mapping`.
+    // Creates a roster of one member, whose nicks compare by `mapping`.
     pub(crate) fn one(
         alloc: Global,
         mapping: Casemapping,
@@ -215,7 +215,7 @@ impl Roster {
 
 impl TryCopy for Roster {
     fn copy(&self, alloc: Global) -> Result<Roster, NoMemory> {
-        let index = index_taken(alloc, &self.seats)?;
+        let index = index_of_copy(alloc, &self.seats)?;
         let members = copies_of(alloc, self.seats.places.as_slice())?;
         let places = seats_of(alloc, members)?;
         Ok(Roster {

@@ -1,5 +1,5 @@
 // What is done with the members of a channel, by calls that allocate nothing.
-ghost use Rattle.std.specs.Prelude.{◌≡◌, ◌+◌, ◌<◌, ◌≤◌};
+ghost use Rattle.std.specs.Prelude.{true, ◌≡◌, ◌+◌, ◌<◌, ◌≤◌};
 ghost use Rattle.std.specs.Vec.{vec_len, vec_capacity};
 ghost use Rattle.indexmap.specs.IndexMap.{spare};
 ghost use Rattle.chanstate.specs.Members.{arrived};
@@ -24,7 +24,7 @@ pub struct Seating {
 }
 
 impl Model for Seating {
-    ghost use Rattle.std.specs.Prelude.{◌+◌, ◌≤◌, List};
+    ghost use Rattle.std.specs.Prelude.{true, ◌≡◌, ◌+◌, ◌≤◌, List};
     ghost use Rattle.std.specs.Vec.{vec_len, vec_capacity};
     ghost use Rattle.indexmap.specs.IndexMap.{spare};
     ghost use Rattle.chanstate.specs.declared.member.Member.{Member};
@@ -36,7 +36,7 @@ impl Model for Seating {
     ghost view = { λ s. (seated s.seats.places.items, done_by s.seats.mapping s.task (seated s.seats.places.items)) };
 
     ghost invariant = { λ s. AreSeated s.seats × IsKeyed s.seats.mapping s.task
-        × (vec_len s.seats.places + places_for s.task ≤ vec_capacity s.seats.places) × (places_for s.task ≤ spare s.seats.index) };
+        × (vec_len s.seats.places + places_for s.task ≤ vec_capacity s.seats.places) × (s.seats.indexed ≡ true → places_for s.task ≤ spare s.seats.index) };
 }
 
 impl Seating {
@@ -57,7 +57,7 @@ fn carry_out(seats: &mut Seats, task: Task)
     requires indexed { AreSeated seats.old }
     requires keyed { IsKeyed seats.old.mapping task }
     requires places { vec_len seats.old.places + places_for task ≤ vec_capacity seats.old.places }
-    requires entries { places_for task ≤ spare seats.old.index }
+    requires entries { seats.old.indexed ≡ true → places_for task ≤ spare seats.old.index }
     ensures indexed { AreSeated seats.new }
     ensures done { seated seats.new.places.items ≡ done_by seats.old.mapping task (seated seats.old.places.items) }
 {
@@ -73,7 +73,7 @@ fn arrive(seats: &mut Seats, key: Vec<u8>, one: Member)
     requires indexed { AreSeated seats.old }
     requires key { IsUnder seats.old.mapping key one }
     requires place { vec_len seats.old.places < vec_capacity seats.old.places }
-    requires entry { 0 < spare seats.old.index }
+    requires entry { seats.old.indexed ≡ true → 0 < spare seats.old.index }
     ensures indexed { AreSeated seats.new }
     ensures arrived { seated seats.new.places.items ≡ arrived seats.old.mapping one (seated seats.old.places.items) }
 {

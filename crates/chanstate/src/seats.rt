@@ -1,5 +1,8 @@
-// The seats of a channel, in the order in which people came to it, and the index that finds them. A member who leaves
-// leaves an empty seat, so that no member after it has to move. Empty seats are removed when room is short.
+// The seats of a channel, in the order in which people came to it. A member who leaves leaves an empty seat, so that no
+// member after it has to move. Empty seats are removed when room is short.
+//
+// The members of a large channel are found by an index of their nicks. A channel of few members has no index, which would
+// cost about 90 bytes a member: a walk over its seats finds them. Members are indexed once the seats grow past `FEW`.
 ghost use Rattle.std.specs.Prelude.{true, false, ◌≡◌, ◌+◌, ◌<◌, ◌≤◌, ℕ, List, [], ◌∷◌, ◌++◌, None, Some, IfOk, OnOk, OnErr, find, length, is_some, position};
 ghost use Rattle.std.specs.List.{filter_map};
 ghost use Rattle.std.specs.Option.{option_copied};
@@ -23,10 +26,11 @@ use std::mem;
 /// The seats of members, by the lower case of their nicks.
 pub type Index = IndexMap<Vec<u8>, usize>;
 
-/// Seats and their index.
+/// Seats, and the index that finds members if `indexed`.
 #[derive(Debug, Drop)]
 pub struct Seats {
     pub places: Vec<Option<Member>>,
+    // Allocates nothing until the members are indexed.
     pub index: Index,
     // How nicks compare.
     pub mapping: Casemapping,
@@ -38,8 +42,12 @@ pub struct Seats {
 // a caller that makes its own messages; it is found by a walk over the seats.
 const LONGEST_KEY: usize = 512;
 
+// A roster that has to grow past this number of seats is indexed. A growth may make room for as many seats again, so a
+// roster without an index has at most twice as many seats, unless its casemapping was changed.
+const FEW: usize = 32;
+
 impl Seats {
-    // Creates an empty list of seats, whose nicks are indexed by `mapping`. Allocates nothing.
+    // Creates an empty list of seats, whose nicks compare by `mapping`, with no index. Allocates nothing.
     pub(crate) fn new(alloc: Global, mapping: Casemapping) -> Seats
         ensures indexed { AreSeated result }
         ensures mapping { result.mapping ≡ mapping }
@@ -49,7 +57,7 @@ impl Seats {
             places: Vec::new(alloc),
             index: IndexMap::new(alloc),
             mapping,
-            indexed: true,
+            indexed: false,
         }
     }
 }
@@ -160,6 +168,7 @@ pub(crate) fn edit_at(seats: &mut Seats, at: usize, edit: MemberEdit)
     requires { at < vec_len seats.old.places }
     ensures mapping { seats.new.mapping ≡ seats.old.mapping }
     ensures index { seats.new.index ≡ seats.old.index }
+    ensures by_index { seats.new.indexed ≡ seats.old.indexed }
     ensures indexed { AreSeated seats.old → AreSeated seats.new }
     ensures edited { (nick : List ℕ) → position (is_seat_of seats.old.mapping nick) seats.old.places.items ≡ Some at
         → seated seats.new.places.items ≡ first_changed (is_called seats.old.mapping nick) (edited edit) (seated seats.old.places.items) }
@@ -210,8 +219,9 @@ pub(crate) fn seat_last(seats: &mut Seats, key: Vec<u8>, one: Member)
     requires key { IsUnder seats.old.mapping key one }
     requires absent { position (is_seat_of seats.old.mapping one.nick) seats.old.places.items ≡ None }
     requires place { vec_len seats.old.places < vec_capacity seats.old.places }
-    requires entry { 0 < spare seats.old.index }
+    requires entry { seats.old.indexed ≡ true → 0 < spare seats.old.index }
     ensures indexed { AreSeated seats.new }
+    ensures by_index { seats.new.indexed ≡ seats.old.indexed }
     ensures mapping { seats.new.mapping ≡ seats.old.mapping }
     ensures seated { seated seats.new.places.items ≡ seated seats.old.places.items ++ one ∷ [] }
     ensures len { vec_len seats.new.places ≡ vec_len seats.old.places + 1 }
@@ -220,25 +230,51 @@ pub(crate) fn seat_last(seats: &mut Seats, key: Vec<u8>, one: Member)
 {
     let at = seats.places.len();
     seats.places.push_reserved(Some(one));
-    seats.index.insert(key, at).unwrap();
+    if seats.indexed {
+        seats.index.insert(key, at).unwrap();
+    }
 }
 
-// Makes room for `more` members. If room is short and more than half of the seats are empty, it first removes the empty
-// ones. A growth makes room for at least as many again.
+// Makes room for `more` members. If room is short, it first removes empty seats, and indexes a roster that grows past
+// `FEW` seats. A growth makes room for at least as many again.
 pub(crate) fn make_room(seats: &mut Seats, alloc: Global, more: usize) -> Result<(), NoMemory>
     requires { AreSeated seats.old }
     ensures indexed { AreSeated seats.new }
     ensures mapping { seats.new.mapping ≡ seats.old.mapping }
     ensures same { seated seats.new.places.items ≡ seated seats.old.places.items }
     ensures places { OnOk result (vec_len seats.new.places + more ≤ vec_capacity seats.new.places) }
-    ensures entries { OnOk result (more ≤ spare seats.new.index) }
+    ensures entries { OnOk result (seats.new.indexed ≡ true → more ≤ spare seats.new.index) }
 {
-    let held = seats.index.len();
-    if seats.places.capacity() - seats.places.len() < more && held < seats.places.len() / 2 {
-        drop_empty(seats, alloc)?;
+    if seats.places.capacity() - seats.places.len() < more {
+        tidy(seats, alloc, more)?;
     }
     reserve_places(&mut seats.places, more)?;
-    reserve_entries(&mut seats.index, more)?;
+    if seats.indexed {
+        reserve_entries(&mut seats.index, more)?;
+    }
+    Ok(())
+}
+
+// Removes empty seats before a growth by `more`. If the roster is indexed, it does so only if more than half of the seats
+// are empty, since the members are then indexed again. If it is not indexed, it always does so, and indexes the members
+// if the seats still have to grow, past `FEW`.
+fn tidy(seats: &mut Seats, alloc: Global, more: usize) -> Result<(), NoMemory>
+    requires { AreSeated seats.old }
+    ensures indexed { AreSeated seats.new }
+    ensures mapping { seats.new.mapping ≡ seats.old.mapping }
+    ensures same { seated seats.new.places.items ≡ seated seats.old.places.items }
+{
+    if seats.indexed {
+        if seats.index.len() < seats.places.len() / 2 {
+            index_anew(seats, alloc)?;
+        }
+        return Ok(());
+    }
+    keep_taken(&mut seats.places);
+    let len = seats.places.len();
+    if seats.places.capacity() - len < more && len.saturating_add(more) > FEW {
+        index_anew(seats, alloc)?;
+    }
     Ok(())
 }
 
@@ -262,30 +298,52 @@ fn reserve_entries(index: &mut Index, more: usize) -> Result<(), NoMemory>
     Ok(())
 }
 
-// Removes the empty seats.
-fn drop_empty(seats: &mut Seats, alloc: Global) -> Result<(), NoMemory>
+// Removes the empty seats, and indexes the members. A roster with no index gets none if two of its members have the same
+// nick by its casemapping.
+fn index_anew(seats: &mut Seats, alloc: Global) -> Result<(), NoMemory>
     requires { AreSeated seats.old }
     ensures indexed { AreSeated seats.new }
+    ensures by_index { seats.old.indexed ≡ true → seats.new.indexed ≡ true }
     ensures mapping { seats.new.mapping ≡ seats.old.mapping }
     ensures same { seated seats.new.places.items ≡ seated seats.old.places.items }
 {
     let index = index_taken(alloc, seats)?;
     keep_taken(&mut seats.places);
-    seats.index = index;
+    if index.len() == seats.places.len() {
+        seats.index = index;
+        seats.indexed = true;
+    }
     Ok(())
 }
 
+// Removes the empty seats.
 fn keep_taken(places: &mut Vec<Option<Member>>)
-    ensures { places.new.items ≡ taken places.old.items }
+    ensures taken { places.new.items ≡ taken places.old.items }
+    ensures same { seated places.new.items ≡ seated places.old.items }
 {
     places.retain(|place| place.is_some());
 }
 
-// Indexes the members by the seats that they have once the empty ones are removed.
-pub(crate) fn index_taken(alloc: Global, seats: &Seats) -> Result<Index, NoMemory>
+// Indexes the members by the seats that they have in a copy, if they are indexed.
+pub(crate) fn index_of_copy(alloc: Global, seats: &Seats) -> Result<Index, NoMemory>
     requires { AreSeated seats.now }
     ensures { IfOk result (λ index. seats.now.indexed ≡ true
         → AreIndexed seats.now.mapping (taken seats.now.places.items) index.entries) }
+{
+    if seats.indexed {
+        index_taken(alloc, seats)
+    } else {
+        Ok(IndexMap::new(alloc))
+    }
+}
+
+// Indexes the members by the seats that they have once the empty ones are removed. If all their nicks differ, as those of
+// an indexed roster do, the index has as many entries as there are members. It then finds each member.
+fn index_taken(alloc: Global, seats: &Seats) -> Result<Index, NoMemory>
+    requires { AreSeated seats.now }
+    ensures indexed { IfOk result (λ index. index_map_len index ≡ length (taken seats.now.places.items)
+        → AreIndexed seats.now.mapping (taken seats.now.places.items) index.entries) }
+    ensures all { IfOk result (λ index. seats.now.indexed ≡ true → index_map_len index ≡ length (taken seats.now.places.items)) }
 {
     let mut index = IndexMap::with_capacity(alloc, seats.index.len())?;
     for place in seats.places.as_slice() {
@@ -330,7 +388,7 @@ pub(crate) fn add(seats: &mut Seats, alloc: Global, one: Member) -> Result<(), N
 pub(crate) fn rename_in(seats: &mut Seats, old: &[u8], key: Vec<u8>, nick: Text)
     requires indexed { AreSeated seats.old }
     requires key { key.items ≡ folded_by seats.old.mapping nick }
-    requires entry { 0 < spare seats.old.index }
+    requires entry { seats.old.indexed ≡ true → 0 < spare seats.old.index }
     ensures indexed { AreSeated seats.new }
     ensures renamed { seated seats.new.places.items ≡ renamed seats.old.mapping old.now nick (seated seats.old.places.items) }
 {
@@ -350,7 +408,7 @@ pub(crate) fn rename_in(seats: &mut Seats, old: &[u8], key: Vec<u8>, nick: Text)
 fn respell(seats: &mut Seats, old: &[u8], key: Vec<u8>, nick: Text)
     requires indexed { AreSeated seats.old }
     requires key { key.items ≡ folded_by seats.old.mapping nick }
-    requires entry { 0 < spare seats.old.index }
+    requires entry { seats.old.indexed ≡ true → 0 < spare seats.old.index }
     requires apart { seats.old.indexed ≡ true → (i : ℕ) → place_under (folded_by seats.old.mapping nick) seats.old.index.entries ≡ Some i
         → is_same_by seats.old.mapping old.now nick ≡ true }
     ensures indexed { AreSeated seats.new }
@@ -365,5 +423,7 @@ fn respell(seats: &mut Seats, old: &[u8], key: Vec<u8>, nick: Text)
     let lower = lower_case(seats.mapping, mem::replace(&mut member.nick, nick));
     let _place = seats.index.swap_remove(lower.as_slice());
     seats.places[at] = Some(member);
-    seats.index.insert(key, at).unwrap();
+    if seats.indexed {
+        seats.index.insert(key, at).unwrap();
+    }
 }

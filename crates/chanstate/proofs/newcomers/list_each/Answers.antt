@@ -17,7 +17,7 @@ pub list-requires-clause-place : goal.list-requires-clause-place
 list-requires-clause-place c = let left = ap length c.in-Some.ensures.steps.0 in omega (arith, left, c.loop-key.invariant.places)
 
 pub list-requires-clause-entry : goal.list-requires-clause-entry
-list-requires-clause-entry c = let left = ap length c.in-Some.ensures.steps.0 in omega (arith, left, c.loop-key.invariant.entries)
+list-requires-clause-entry c = λ used. let left = ap length c.in-Some.ensures.steps.0 in omega (arith, left, c.loop-key.invariant.entries used)
 
 pub loop-key-preserved : goal.loop-key-preserved
 loop-key-preserved c =
@@ -29,7 +29,7 @@ loop-key-preserved c =
       len = omega (arith, left, at.invariant.len, c.in-Some.ensures.steps.1);
       keys = (subst (AreUnder c.args.seats.now.mapping) steps at.invariant.keys).1;
       places = omega (arith, left, at.invariant.places, c.list.ensures.len, c.list.ensures.capacity);
-      entries = omega (arith, left, at.invariant.entries, c.list.ensures.entries);
+      entries = λ used. omega (arith, left, at.invariant.entries (sym c.list.ensures.by_index ∙ used), c.list.ensures.entries);
       mapping = c.list.ensures.mapping ∙ at.invariant.mapping;
       indexed = c.list.ensures.indexed;
       listed = ap (listed_each c.args.seats.now.mapping (values_of rest))

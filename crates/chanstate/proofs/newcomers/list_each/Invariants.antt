@@ -1,4 +1,4 @@
-use Rattle.std.proofs.Common.{◌≡◌, ◌≤◌, ◌+◌, length, vec_len, vec_capacity}
+use Rattle.std.proofs.Common.{◌≡◌, ◌≤◌, ◌+◌, true, length, vec_len, vec_capacity}
 use Rattle.std.specs.Map.{values_of}
 use Rattle.std.specs.Vec.Iter.{into_iter_items, into_iter_len}
 use Rattle.indexmap.specs.IndexMap.{spare}
@@ -12,7 +12,7 @@ invariant-loop-key l = record {
   len : into_iter_len l.key-iterator ≡ length (into_iter_items l.key-iterator);
   keys : AreUnder l.initial.seats.mapping (into_iter_items l.key-iterator);
   places : vec_len l.seats.places + length (into_iter_items l.key-iterator) ≤ vec_capacity l.seats.places;
-  entries : length (into_iter_items l.key-iterator) ≤ spare l.seats.index;
+  entries : l.seats.indexed ≡ true → length (into_iter_items l.key-iterator) ≤ spare l.seats.index;
   mapping : l.seats.mapping ≡ l.initial.seats.mapping;
   indexed : AreSeated l.seats;
   listed : listed_each l.initial.seats.mapping (values_of (into_iter_items l.key-iterator)) (seated l.seats.places.items)

@@ -1,8 +1,8 @@
-use Rattle.std.proofs.Common.{◌∙◌, ap, sym, subst, Some}
+use Rattle.std.proofs.Common.{◌∙◌, ◌+◌, ap, sym, subst, Some, is_some, if◌then◌else◌}
 use Rattle.rfccase.specs.Casemapping.{folded_by}
 use Rattle.indexmap.specs.IndexMap.{index_map_len}
 use Rattle.chanstate.specs.Seats.{IsIndexedNext, IsChanged, place_under}
-use Rattle.chanstate.proofs.SeatLemmas.{changed-by, next_len}
+use Rattle.chanstate.proofs.SeatLemmas.{changed-by}
 use Rattle.chanstate.proofs.seats.index_next.Goals as goal
 
 pub returns-in_ok-insert : goal.returns-in_ok-insert
@@ -18,5 +18,5 @@ returns-in_ok-insert c =
     let change = changed-by key.items (Some c.len-at.result) es fs updates.1 updates.3 in
     subst (λ p. IsIndexedNext c.args.mapping p n es k fs) (sym c.in-Some.is) (
       subst (λ w. IsChanged (folded_by c.args.mapping m.nick) (Some w) es fs) c.len-at.ensures.len (subst (λ l. IsChanged l (Some c.len-at.result) es fs) key-is change),
-      λ none. next_len c.in_ok-insert.field-0 _ n k c.in_ok-insert.ensures.len c.in_ok-insert.ensures.old (ap (λ l. place_under l es) key-is ∙ none),
+      c.in_ok-insert.ensures.len ∙ ap (λ o. n + (if is_some o then 0 else 1)) (c.in_ok-insert.ensures.old ∙ ap (λ l. place_under l es) key-is),
     )

@@ -32,13 +32,13 @@ returns-in_default-take-clause-renamed c =
     absurd (vacant_seat c.args.seats.now.mapping c.args.old.now c.args.seats.now.places.items c.in-Some.at _
     (sym c.place_of.ensures ∙ c.in-Some.is) (sym c.index_mut.ensures.value ∙ sym c.take.ensures.value ∙ c.in_default-take.is))
 
-pub returns-clause-indexed : goal.returns-clause-indexed
-returns-clause-indexed c = λ used.
+pub returns-then-seats-clause-indexed : goal.returns-then-seats-clause-indexed
+returns-then-seats-clause-indexed c = λ used.
     let seats = c.args.seats.now in
     let m = c.in-Some-take.member in
     let removed = c.swap_remove-place.ensures.updates in
     let inserted = at_ok c.insert.result _
-    (c.insert.ensures.succeeds (omega (arith, c.requires.entry, c.swap_remove-place.ensures.room.0))) c.insert.ensures.updates in
+    (c.insert.ensures.succeeds (omega (arith, (c.requires.entry used), c.swap_remove-place.ensures.room.0))) c.insert.ensures.updates in
     let lower-is = c.as_slice.ensures.value ∙ c.lower_case-lower.ensures ∙ ap (folded_by seats.mapping) c.replace.ensures.value in
     (respelled seats.mapping c.args.old.now c.args.nick c.as_slice.result.now c.args.key seats.places.items seats.index.entries
     c.swap_remove-place.new.self.entries c.insert.new.self.entries
@@ -49,8 +49,16 @@ returns-clause-indexed c = λ used.
     c.take.ensures.after lower-is removed.1 removed.3 c.requires.key inserted.1 inserted.3 (c.requires.apart used)
     (ap (λ n. with_nick n m) c.replace.ensures.after)).0
 
-pub returns-clause-renamed : goal.returns-clause-renamed
-returns-clause-renamed c =
+pub returns-then-seats-clause-renamed : goal.returns-then-seats-clause-renamed
+returns-then-seats-clause-renamed c =
+    let seats = c.args.seats.now in
+    let m = c.in-Some-take.member in
+    ap seated (set-set seats.places.items c.in-Some.at c.take.new.self (Some (record m { nick = c.replace.new.dest })))
+    ∙ seat_edited seats.mapping c.args.old.now (with_nick c.args.nick) seats.places.items c.in-Some.at m _ _ (sym c.place_of.ensures ∙ c.in-Some.is)
+    (sym c.index_mut.ensures.value ∙ sym c.take.ensures.value ∙ c.in-Some-take.is) (ap (λ n. with_nick n m) c.replace.ensures.after)
+
+pub returns-else-seats-clause-renamed : goal.returns-else-seats-clause-renamed
+returns-else-seats-clause-renamed c =
     let seats = c.args.seats.now in
     let m = c.in-Some-take.member in
     ap seated (set-set seats.places.items c.in-Some.at c.take.new.self (Some (record m { nick = c.replace.new.dest })))
