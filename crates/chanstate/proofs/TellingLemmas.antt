@@ -1,5 +1,5 @@
 -- What is told of a nick on every channel.
-use Rattle.std.proofs.Common.{◌≡◌, ℕ, zero, suc, ◌≤◌, ◌+◌, Bool, true, false, cond, ◌||◌, ◌&&◌, Option, None, Some, List, [], ◌∷◌, ◌++◌, length, map, filter}
+use Rattle.std.proofs.Common.{◌≡◌, ℕ, suc, ◌≤◌, ◌+◌, Bool, true, false, cond, ◌||◌, ◌&&◌, None, Some, List, [], ◌∷◌, ◌++◌, length, map, filter}
 use Rattle.std.proofs.Common.{refl, sym, ap, subst, eqb, ◌∙◌, arith}
 use Rattle.std.specs.Prelude.{find}
 use Rattle.std.specs.List.{list_any, slice_split}
@@ -19,8 +19,8 @@ use Rattle.chanstate.specs.declared.telling.Telling.{Telling}
 use Rattle.chanstate.specs.Announced.{is_typed, with_join}
 use Rattle.chanstate.specs.Channels.{is_named, opened, with_members, on_channel, put_last, all_told}
 use Rattle.chanstate.specs.Firsts.{first_changed, first_removed}
-use Rattle.chanstate.specs.Members.{is_called, unmarked, arrived, with_detail, with_account}
-use Rattle.chanstate.specs.Items.{Item, Joined, Told, ToldAtJoin, Addressed, any_named, channels_in, channels_on, read_by}
+use Rattle.chanstate.specs.Members.{is_called, unmarked, arrived, with_detail}
+use Rattle.chanstate.specs.Items.{Item, Joined, Told, ToldAtJoin, Addressed, any_named, channels_in, channels_on}
 use Rattle.chanstate.specs.Memory.{adds, any_adds, join_adds, retells, tells, readdresses}
 use Rattle.chanstate.specs.Plans.{told, joined_if}
 use Rattle.chanstate.specs.Seen.{who_seen}
@@ -28,7 +28,7 @@ use Rattle.chanstate.specs.Steps.{step, each_step, steps}
 use Rattle.chanstate.specs.Takes.{on_place}
 use Rattle.chanstate.specs.Tellings.{told_on, told_each}
 use Rattle.chanstate.specs.Views.{mapping_of, member_in}
-use Rattle.chanstate.proofs.BoolLemmas.{or-parts, or-left, or-right}
+use Rattle.chanstate.proofs.BoolLemmas.{or-parts, or-left}
 use Rattle.chanstate.proofs.KeptLemmas.{same_text, readdressed, first_changed-kept, same_address, joins_none, adds-none, any_adds-joins}
 use Rattle.chanstate.proofs.StepLemmas.{steps-append}
 use Rattle.chanstate.proofs.TypedLemmas.{one_support}

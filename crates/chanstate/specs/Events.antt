@@ -1,9 +1,9 @@
 -- The events of a message, given the state of the channels before it (Eggdrop's Tcl commands, "bind").
-use Rattle.std.specs.Prelude.{ℕ, List, [], ◌∷◌, map, Option, Some, None, if◌then◌else◌, slice_get, codes}
+use Rattle.std.specs.Prelude.{ℕ, List, [], ◌∷◌, map, Option, None, if◌then◌else◌, slice_get, codes}
 use Rattle.std.specs.Option.{option_map}
 use Rattle.ircline.specs.declared.message.Message.{Message}
 use Rattle.std.specs.Prelude.{unwrap_or}
-use Rattle.ircline.specs.Sources.{Source, Nobody, Server, Person, source_of}
+use Rattle.ircline.specs.Sources.{Source, Person, source_of}
 use Rattle.chanstate.specs.declared.event.IrcEvent.{IrcEvent}
 use Rattle.chanstate.specs.declared.event.EventKind.TheVariants.{Raw}
 use Rattle.chanstate.specs.declared.state.ChanState.{ChanState}

@@ -12,7 +12,6 @@ use Rattle.rfccase.specs.Casemapping.{is_same_by}
 use Rattle.rfccase.specs.declared.casemappings.Casemapping.{Casemapping}
 use Rattle.chanstate.specs.declared.support.Support.{Support}
 use Rattle.chanstate.specs.Announced.{unannounced, welcomed, announced, with_join, with_joins_tell}
-use Rattle.chanstate.specs.declared.detail.Detail.{Detail}
 use Rattle.chanstate.specs.declared.detail.Detail.TheVariants.{Account, Address}
 use Rattle.chanstate.specs.Items.{Item, Welcomed, Announced, Joined, Left, Departed, Renamed, Marked, Titled, Listed, Addressed, Told, JoinsTell}
 use Rattle.chanstate.specs.Items.{read_by, items_of}

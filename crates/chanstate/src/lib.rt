@@ -24,9 +24,10 @@
 //! channel, and a list of names may have an address after each nick (userhost-in-names).
 //!
 //! Members are looked up by their nicks. A message costs a walk over the names of the held channels, and a look-up on
-//! each channel that it concerns (for QUIT and NICK on every held channel). This doesn't grow with the number of
-//! members, even when people leave and come back. Only making room for more members visits all seats of a channel, and
-//! it then makes room for as many again.
+//! each channel that it concerns (for QUIT and NICK on every held channel). A look-up on a channel of few members walks
+//! over its seats, at most 64. On a larger channel it uses an index of the nicks: there the cost doesn't grow with the
+//! number of members, even when people leave and come back. Only making room for more members visits all seats of a
+//! larger channel, and it then makes room for as many again.
 //!
 //! The server announces which modes have an argument, and which signs stand before a nick in a list of names
 //! (numeric 005, its tokens PREFIX and CHANMODES). Until it does, RFC 2812 applies. The state keeps this
@@ -96,6 +97,7 @@ mod names;
 mod newcomers;
 mod operations;
 mod renames;
+mod room;
 mod roster;
 mod seating;
 mod seats;

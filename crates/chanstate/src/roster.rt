@@ -13,11 +13,9 @@ use crate::copies::{copies_of, seats_of};
 use crate::detail::Detail;
 use crate::member::{Mark, Member};
 use crate::member_edit::MemberEdit;
+use crate::room::{index_of_copy, make_room};
 use crate::seating::Seating;
-use crate::seats::{
-    Seats, add, compare_by, edit_called, index_of_copy, is_one, make_room, member_of, vacate,
-    walk_for,
-};
+use crate::seats::{Seats, add, compare_by, edit_called, is_one, member_of, vacate, walk_for};
 use crate::support::Support;
 use crate::task::Task;
 use crate::words::{marks_of, split_entry, split_signs};

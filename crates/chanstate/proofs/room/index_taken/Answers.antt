@@ -2,7 +2,7 @@ use Rattle.std.proofs.Common.{◌<◌, ◌∙◌, ap, get_or, length, subst, ari
 use Rattle.indexmap.specs.IndexMap.{index_map_len}
 use Rattle.chanstate.specs.Seats.{IsIndexedNext}
 use Rattle.chanstate.proofs.SeatLemmas.{counted-next, made-next}
-use Rattle.chanstate.proofs.seats.index_taken.Goals as goal
+use Rattle.chanstate.proofs.room.index_taken.Goals as goal
 
 pub loop-place-preserved : goal.loop-place-preserved
 loop-place-preserved c =

@@ -2,7 +2,7 @@ use Rattle.std.proofs.Common.{◌≡◌, true, length, take}
 use Rattle.indexmap.specs.IndexMap.{index_map_len}
 use Rattle.chanstate.specs.Seats.{AreIndexed, taken}
 use Rattle.chanstate.proofs.SeatLemmas.{IsCounted}
-use Rattle.chanstate.proofs.seats.index_taken.Given as goal
+use Rattle.chanstate.proofs.room.index_taken.Given as goal
 
 -- the index has each member so far, if it has as many entries as there are members; and it has, if the seats are indexed
 abbrev pub invariant-loop-place : goal.invariant-loop-place

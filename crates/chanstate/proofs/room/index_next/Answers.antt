@@ -3,7 +3,7 @@ use Rattle.rfccase.specs.Casemapping.{folded_by}
 use Rattle.indexmap.specs.IndexMap.{index_map_len}
 use Rattle.chanstate.specs.Seats.{IsIndexedNext, IsChanged, place_under}
 use Rattle.chanstate.proofs.SeatLemmas.{changed-by}
-use Rattle.chanstate.proofs.seats.index_next.Goals as goal
+use Rattle.chanstate.proofs.room.index_next.Goals as goal
 
 pub returns-in_ok-insert : goal.returns-in_ok-insert
 returns-in_ok-insert c =

@@ -2,7 +2,7 @@ use Rattle.std.proofs.Common.{◌∙◌, ap, is_some, rules}
 use Rattle.std.proofs.lemmas.Fn.{filter_same}
 use Rattle.chanstate.specs.Seats.{seated}
 use Rattle.chanstate.proofs.SeatLemmas.{seated-taken}
-use Rattle.chanstate.proofs.seats.keep_taken.Goals as goal
+use Rattle.chanstate.proofs.room.keep_taken.Goals as goal
 
 pub returns-clause-taken : goal.returns-clause-taken
 returns-clause-taken c = filter_same _ is_some _ (λ x b f' k. search rules) _ _ c.retain.ensures.filtered
