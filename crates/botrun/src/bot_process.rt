@@ -16,7 +16,7 @@ use botcore::{BotEvent, End};
 use botfolder::BotFolder;
 use ircline::LineReader;
 use net::{Log, Timeline, Watch};
-use pageserver::PageServer;
+use page::PageServer;
 use peers::Secret;
 use procs::{ProcStore, Promise, Run};
 use recordsums::{KeptSum, Sums};

@@ -7,9 +7,8 @@ use disks::FileDisk;
 use net::{Log, Watch, Way};
 use page::{
     ChannelView, LinkView, LinksView, LogView, MAX_ROWS, OwnView, PageAnswer, PageRequest,
-    PageView, PageWant, PlaceView, ServerView, SessionView, answer_to,
+    PageServer, PageView, PageWant, PlaceView, ServerView, SessionView, answer_to,
 };
-use pageserver::PageServer;
 use peers::Links;
 use serverlink::IrcConnection;
 use settings::Settings;

@@ -1,7 +1,8 @@
-//! A read-only page that shows a bot: from the head of a request, and a view of the bot, to the bytes of an answer.
+//! A read-only page that shows a bot: from the head of a request, and a view of the bot, to the bytes of an answer; and
+//! the connections of its readers, served inside the one poll loop of a bot.
 //!
-//! [`PageRequest::read`] reads a request of HTTP/1.1 or HTTP/1.0 (RFC 9112), and [`answer_to`] answers it. No socket is
-//! used here: the caller hears the bytes, shows the bot as a [`PageView`], sends the answer, and closes the connection.
+//! [`PageRequest::read`] reads a request of HTTP/1.1 or HTTP/1.0 (RFC 9112), and [`answer_to`] answers it. Neither uses a
+//! socket: the caller hears the bytes, shows the bot as a [`PageView`], and sends the answer.
 //!
 //! ```text
 //! let site = PageSite::new(alloc, b"127.0.0.1", 8300)?;
@@ -33,6 +34,21 @@
 //! `~`, and none is `<`, `>`, `"` or `'` ([`law_of_page_texts`]): a character that HTML reads as markup, or one above `~`,
 //! becomes a reference, and a control character, or a byte that is not UTF-8, `\x` and two hexadecimal digits.
 //!
+//! # Readers
+//!
+//! A [`PageServer`] listens at an address. It accepts at most [`MAX_READERS`] connections at once, hears one request from
+//! each, and closes the connection after the answer, or [`LIMIT`] seconds after it came. Nothing in it blocks, and nothing
+//! returns an error: a connection for which an allocation fails is closed. So what readers do is no fault of the bot.
+//!
+//! ```text
+//! let mut server = PageServer::open(rt, watch.registry(), address, site)?;
+//! let came = server.read(rt, &watch, steady);                  // each turn
+//! if let Some(ask) = server.take_request(alloc) {              // at most one a turn
+//!     server.answer(ask.number, answer_to(alloc, &ask.request, &view));
+//! }
+//! let more = server.send(steady);
+//! ```
+//!
 //! # Costs
 //!
 //! An answer has at most [`MAX_ANSWER`] bytes. It shows at most [`MAX_ROWS`] rows, and begins no further one after 256
@@ -53,6 +69,8 @@ mod reading;
 mod records_page;
 mod refusals;
 mod request;
+mod seat;
+mod server;
 mod sheet;
 mod site;
 mod status;
@@ -64,6 +82,8 @@ pub use crate::answer::{MAX_ANSWER, PageAnswer, answer_to};
 pub use crate::layout::MAX_ROWS;
 pub use crate::marks::law_of_page_texts;
 pub use crate::request::{MAX_HEAD, PageRequest, PageWant};
+pub use crate::seat::LIMIT;
+pub use crate::server::{MAX_READERS, PageAsk, PageServer};
 pub use crate::sheet::MAX_PAGE;
 pub use crate::site::PageSite;
 pub use crate::status::PageStatus;

@@ -1,10 +1,12 @@
 // The door of a page, and the readers that are connected.
 ghost use Rattle.std.specs.Prelude.{◌≤◌, ◌<◌, IfSome, IsTrue, vec_len};
-ghost use Rattle.pageserver.specs.declared.server.TheConstants.{MAX_READERS};
+ghost use Rattle.page.specs.declared.server.TheConstants.{MAX_READERS};
 
+use crate::answer::PageAnswer;
+use crate::request::PageRequest;
 use crate::seat::Seat;
+use crate::site::PageSite;
 use net::{Arrival, DoorFault, Registry, TcpDoor, Watch};
-use page::{PageAnswer, PageRequest, PageSite};
 use std::alloc::Global;
 use std::net::{Net, SocketAddr};
 

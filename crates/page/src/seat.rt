@@ -1,7 +1,9 @@
 // The connection of one reader.
 
+use crate::answer::{MAX_ANSWER, PageAnswer};
+use crate::request::{MAX_HEAD, PageRequest};
+use crate::site::PageSite;
 use net::{Bounds, Connection, TcpSocket};
-use page::{MAX_ANSWER, MAX_HEAD, PageAnswer, PageRequest, PageSite};
 use std::alloc::Global;
 
 /// A connection is closed once so many seconds have passed since it came.
