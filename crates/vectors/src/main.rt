@@ -11,6 +11,8 @@
 //! | `mask bind\|host MASK TEXT` | `match` or `no match`, or the code of why the mask is refused |
 //! | `maskby MAPPING bind\|host MASK TEXT` | as `mask`, by the casemapping that a server names so |
 //! | `literals bind\|host MASK` | how many literals the mask has, or the code of why it is refused |
+//! | `tail bind\|host MASK` | the literals after the mask's last special item, 16 at most, or the code |
+//! | `seems bind\|host MASK TEXT` | whether the text seems to have the mask's pairs, `yes` or `no`: in 128 places, and in 256 |
 //! | `loose MASK` | the warning of a loose hostmask, or `not loose` |
 //! | `flags EXPR GLOBAL CHAN BOT` | `met` or `not met`, or the code of the first word that is refused |
 //! | `cron MASK MOMENT ZONE` | `match` or `no match`, or the code of a refusal |

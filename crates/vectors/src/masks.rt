@@ -4,7 +4,7 @@ use caselines::{BAD_WORDS, CaseError, Sink};
 use loosemask::looseness_of;
 use rfccase::Casemapping;
 use std::alloc::Global;
-use wildmask::{Mask, MaskError, MaskFault, bind_fault, host_fault};
+use wildmask::{Mask, MaskError, MaskFault, Signature, WideSignature, bind_fault, host_fault};
 
 /// Answers `mask bind|host MASK TEXT` on `out`: whether a copy of the mask matches the text, or the code of why the
 /// mask is refused.
@@ -56,6 +56,40 @@ pub fn literals(alloc: Global, words: &[Text], out: &mut Sink) -> Result<(), Cas
         Err(MaskError::NoMemory) => return Err(CaseError::NoMemory),
     }
     Ok(())
+}
+
+/// Answers `tail bind|host MASK` on `out`: the mask's tail, or the code of why it is refused.
+pub fn tail(alloc: Global, words: &[Text], out: &mut Sink) -> Result<(), CaseError> {
+    let [kind, mask] = words else {
+        return Err(BAD_WORDS);
+    };
+    match made(alloc, kind, mask) {
+        Ok(mask) => out.put(mask.tail().as_bytes()),
+        Err(MaskError::Refused(fault)) => out.put(fault.code().as_bytes()),
+        Err(MaskError::NoMemory) => return Err(CaseError::NoMemory),
+    }
+    Ok(())
+}
+
+/// Answers `seems bind|host MASK TEXT` on `out`: whether the text seems to have the mask's pairs in 128 places, and in
+/// 256, or the code of why the mask is refused.
+pub fn seems(alloc: Global, words: &[Text], out: &mut Sink) -> Result<(), CaseError> {
+    let [kind, mask, text] = words else {
+        return Err(BAD_WORDS);
+    };
+    match made(alloc, kind, mask) {
+        Ok(mask) => put_seems(&mask, text.as_bytes(), out),
+        Err(MaskError::Refused(fault)) => out.put(fault.code().as_bytes()),
+        Err(MaskError::NoMemory) => return Err(CaseError::NoMemory),
+    }
+    Ok(())
+}
+
+fn put_seems(mask: &Mask, text: &[u8], out: &mut Sink) {
+    let few = mask.signature().is_within(Signature::of(text));
+    let many = mask.wide_signature().is_within(WideSignature::of(text));
+    out.put(if few { b"yes " } else { b"no " });
+    out.put(if many { b"yes" } else { b"no" });
 }
 
 /// Answers `loose MASK` on `out`: the warning of a loose hostmask, or `not loose`.
