@@ -1,5 +1,5 @@
 // Connections over TCP.
-use crate::meeting::{guest_of, heard, hears};
+use crate::meeting::{ends, guest_of, heard, hears};
 use crate::seen::{Seen, yes};
 use crate::texts::{given, taken};
 use bytetext::Failure;
@@ -91,10 +91,30 @@ fn meet(seen: &mut Seen, watch: &mut Watch, door: &TcpDoor, caller: AnySocket) -
         "the caller hears it",
         yes(hears(watch, &mut caller, b"PONG :a\r\n")?),
     );
+    trust(seen, watch, &mut guest, caller)
+}
+
+// Has the guest trust short reads: the read after one asks nobody. Then the caller goes, and the watch tells of the end.
+fn trust(
+    seen: &mut Seen,
+    watch: &mut Watch,
+    guest: &mut TcpSocket,
+    caller: AnySocket,
+) -> io::Result<()> {
+    let mut caller = caller;
+    let mut piece = [0; 16];
+    guest.trust_short_reads(true);
+    seen.note("the caller tells more", taken(caller.take(b"more")));
+    seen.note("the guest hears it", yes(hears(watch, guest, b"more")?));
+    seen.note("and more again", taken(caller.take(b"again")));
+    seen.note("after the short read", given(guest.give(&mut piece)));
+    seen.note("the read after it", yes(hears(watch, guest, b"again")?));
     drop(caller);
+    seen.note("the watch tells of the end", yes(ends(watch)?));
+    guest.trust_short_reads(false);
     seen.note(
         "the caller is disconnected",
-        given(heard(watch, &mut guest, &mut piece)?),
+        given(heard(watch, guest, &mut piece)?),
     );
     Ok(())
 }

@@ -40,6 +40,17 @@ pub fn heard<S: Read + Write>(
     Ok(Given::Stall)
 }
 
+/// Waits until an event tells that the other side of the guest's connection sends no more. Returns whether one came.
+pub fn ends(watch: &mut Watch) -> io::Result<bool> {
+    for _turn in 0..TURNS {
+        watch.wait(TURN)?;
+        if watch.endings().contains(&GUEST) {
+            return Ok(true);
+        }
+    }
+    Ok(false)
+}
+
 /// Returns whether the next bytes that `socket` gives are just `text`.
 pub fn hears<S: Read + Write>(
     watch: &mut Watch,
