@@ -263,6 +263,9 @@ where
         HasBegun (station_of settings.now) (W.past watcher.old) (W.past watcher.new) process.bot) }
 {
     let uplink = uplink_of(rt, settings)?;
+    // Before the journal is read: so the room for counts lies apart from what that leaves free, and few of its pages are
+    // used.
+    let floods = FloodWatch::new(rt.alloc(), settings.floods)?;
     let bot = bot_of(rt, &folder, settings, last, leaves_bans, watcher)?;
     let links = links_of(
         rt,
@@ -280,7 +283,7 @@ where
         bot,
         lines: LineReader::new(rt.alloc()),
         uplink,
-        floods: FloodWatch::new(rt.alloc(), settings.floods)?,
+        floods,
         admins,
         others: Others::new(rt.alloc(), links),
         bases,
