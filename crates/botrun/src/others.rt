@@ -56,10 +56,11 @@ impl Others {
         self.hands_over() || self.mail.links.doubt().is_some()
     }
 
-    // Whether the bot is to pump at second `now`: never at a hub that accepts no change, so the changes that its procs asked
-    // for wait.
-    pub(crate) fn is_pump_due(&self, now: u64) -> bool {
-        !self.accepts_none() && self.mail.links.is_pump_due(now)
+    // Whether the bot, for which so many changes wait, is to pump at second `now`: at a hub only for these, and never if it
+    // accepts no change. Then the changes that its procs asked for wait.
+    pub(crate) fn is_pump_due(&self, waiting: usize, now: u64) -> bool {
+        let links = &self.mail.links;
+        !self.accepts_none() && links.is_pump_due(now) && (waiting > 0 || links.is_leaf())
     }
 }
 

@@ -68,7 +68,7 @@ impl Process {
         let said = !waiting.is_empty();
         let granted = taken_requests(waiting, hands_over);
         let packets = self.space.admit(alloc, granted);
-        let pumps = self.others.is_pump_due(now);
+        let pumps = self.others.is_pump_due(self.bot.ask_count(), now);
         let nick = nick_before(alloc, &self.bot, connected)?;
         let changes = Vec::new(alloc);
         let heard = Heard {
@@ -89,23 +89,24 @@ impl Process {
             rt, log, others, admins, uplink, settings, &told, pumps, now, watcher,
         )?;
         let first = outcome_of(told.reports.as_slice());
-        self.pump(rt, log, store, settings, first, now, watcher)?;
+        let more = is_settled(first) || !pumps;
+        self.pump(rt, log, store, settings, more, now, watcher)?;
         self.compact_if_due(rt, log, store, settings, now, watcher)?;
         self.space.look_if_full(log, now);
         // A proc may have had a leaf ask for a change. If this turn pumped and more is due at once, the link took
         // bytes, so the next turn comes at once too.
-        Ok(said || (!pumps && self.others.is_pump_due(now)))
+        Ok(said || (!pumps && self.others.is_pump_due(self.bot.ask_count(), now)))
     }
 
-    // Unless the bot is a leaf, or a hub that accepts no change, pumps until nothing waits, or the link refuses. `first` is the outcome
-    // of the turn before.
+    // Unless the bot is a leaf, or a hub that accepts no change, pumps until nothing waits, or the link refuses. `more` says
+    // whether a change may wait that the turn before did not take.
     fn pump<R: AllocGlobal, P: Promise, B: Run, W: Watcher>(
         &mut self,
         rt: &R,
         log: &mut Log,
         store: &ProcStore<P, B>,
         settings: &Settings,
-        first: ChangeOutcome,
+        more: bool,
         now: u64,
         watcher: &mut W,
     ) -> Result<(), RunError>
@@ -121,13 +122,14 @@ impl Process {
         } else {
             MAX_ASKS
         };
-        let mut outcome = first;
+        let mut more = more;
         for _ask in 0..most {
-            if !is_settled(outcome) {
+            if !more || self.bot.ask_count() == 0 {
                 return Ok(());
             }
             let changes = Vec::new(rt.alloc());
-            outcome = self.take(rt, log, store, settings, changes, false, now, watcher)?;
+            let outcome = self.take(rt, log, store, settings, changes, false, now, watcher)?;
+            more = is_settled(outcome);
         }
         Ok(())
     }
