@@ -12,14 +12,16 @@ use crate::page_view::serve;
 use crate::process::{Process, Turned};
 use crate::starting::{BAN_KEEPER, bind_all, bot_of};
 use administrators::{LogEntry, requests_in};
-use botcore::{BotEvent, End};
+use botcore::{Bot, BotEvent, End};
 use botfolder::BotFolder;
+use disks::FileDisk;
 use ircline::LineReader;
 use net::{Log, Timeline, Watch};
 use page::PageServer;
 use peers::Secret;
 use procs::{ProcStore, Promise, Run};
 use recordsums::{KeptSum, Sums};
+use serverlink::IrcConnection;
 use settings::Settings;
 use std::alloc::Global;
 use std::fs::File;
@@ -135,12 +137,7 @@ where
             store.holds(BAN_KEEPER),
             watcher,
         )?;
-        bind_all(rt.alloc(), &mut process.bot, store, settings, watcher)?;
-        let up = timeline.read_clocks(rt)?;
-        look_back(rt.alloc(), &mut process, store, up, watcher)?;
-        log.note(up, &LogEntry::Up(process.bot.version()));
-        process.space.tell_start(log, up);
-        match make_turns(
+        match live(
             rt,
             log,
             &mut watch,
@@ -179,6 +176,40 @@ fn give_up<R: AllocGlobal + Files<File = File>, W: Watcher>(
     let folder = process.into_folder();
     forget_journal(rt, &folder)?;
     Ok(folder)
+}
+
+// Binds the configured procs to a bot that has begun, logs that it is up, and makes its turns.
+#[inline(never)]
+fn live<R, P: Promise, B: Run, W: Watcher>(
+    rt: &R,
+    log: &mut Log,
+    watch: &mut Watch,
+    timeline: &mut Timeline,
+    page: &mut Option<PageServer>,
+    process: &mut Process,
+    store: &ProcStore<P, B>,
+    settings: &mut Settings,
+    watcher: &mut W,
+) -> Result<LifeEnd, RunError>
+where
+    R: AllocGlobal + Net + Clock + Files<File = File> + Print + RandomSource,
+    requires up { IsUp P.promised store.now (station_of settings.old) W.may (W.past watcher.old) process.old.bot
+        process.old.others.mail.account.told }
+    ensures station { settings.new.station ≡ settings.old.station }
+    ensures some { 0 < length settings.old.servers → 0 < length settings.new.servers }
+    ensures again { IfOk result (λ end. RenewsWithout end process.new.bot) }
+    ensures moves { IfOk result (λ end. LeavesAsTold end process.new.others.mail.links) }
+    ensures at { IfOk result (λ _.
+        IsAt P.promised store.now (station_of settings.new) W.may (W.past watcher.new) process.new.bot) }
+{
+    bind_all(rt.alloc(), &mut process.bot, store, settings, watcher)?;
+    let up = timeline.read_clocks(rt)?;
+    look_back(rt.alloc(), process, store, up, watcher)?;
+    log.note(up, &LogEntry::Up(process.bot.version()));
+    process.space.tell_start(log, up);
+    make_turns(
+        rt, log, watch, timeline, page, process, store, settings, watcher,
+    )
 }
 
 // Makes turns until the bot ends, or has to begin again. Serves the page and writes the log at the end of each turn. It
@@ -267,6 +298,31 @@ where
     // used.
     let floods = FloodWatch::new(rt.alloc(), settings.floods)?;
     let bot = bot_of(rt, &folder, settings, last, leaves_bans, watcher)?;
+    with_bot(
+        rt, watch, folder, settings, file, secret, uplink, floods, bot,
+    )
+}
+
+// The process of a bot that has begun.
+#[inline(never)]
+fn with_bot<R>(
+    rt: &R,
+    watch: &Watch,
+    folder: BotFolder,
+    settings: &Settings,
+    file: &str,
+    secret: Option<Secret>,
+    uplink: IrcConnection,
+    floods: FloodWatch,
+    bot: Bot<FileDisk>,
+) -> Result<Process, RunError>
+where
+    R: AllocGlobal + Net + Files<File = File> + RandomSource,
+    requires known { IsKnownWhereWanted settings.now.station secret }
+    ensures station { IfOk result (λ process. IsLinkedAs settings.now.station process.others.mail.links) }
+    ensures told { IfOk result (λ process. process.others.mail.account.told ≡ []) }
+    ensures bot { IfOk result (λ process. process.bot ≡ bot) }
+{
     let links = links_of(
         rt,
         watch.registry(),

@@ -1,6 +1,6 @@
 use Rattle.std.proofs.Common.{refl, subst, sym, ◌∙◌}
-use Rattle.watching.proofs.FollowingLemmas.{numbers_first, lawful_first, allows_begin, at_begun, at_watched, may_forget, forgets_lawful, numbers_again}
-use Rattle.watching.proofs.SendingLemmas.{up_begun, up_quiet, up_reported}
+use Rattle.watching.proofs.FollowingLemmas.{numbers_first, lawful_first, allows_begin, may_forget, forgets_lawful, numbers_again}
+use Rattle.watching.proofs.SendingLemmas.{up_begun}
 use Rattle.watching.specs.Acts.{Station}
 use Rattle.watching.specs.Following.{Allows}
 use Rattle.upkeep.specs.Stations.{IsKnownWhereWanted}
@@ -24,28 +24,11 @@ pub begin-requires-clause-lets : goal.begin-requires-clause-lets
 begin-requires-clause-lets g c =
     allows_begin g.P.Promise.promised c.args.store.now _ g.W.Watcher.may _ (at_station (λ (station : Station). Allows g.P.Promise.promised c.args.store.now station g.W.Watcher.may) _ _ c.loop-life.invariant.station c.requires.allows) c.loop-life.invariant.lawful
 
-pub bind_all-requires : goal.bind_all-requires
-bind_all-requires g c = record {
-  watched = at_watched _ _ _ _ _ _ (at_begun g.P.Promise.promised c.args.store.now _ g.W.Watcher.may _ _ _
-      (at_station (λ (station : Station). Allows g.P.Promise.promised c.args.store.now station g.W.Watcher.may) _ _ c.loop-life.invariant.station c.requires.allows) c.loop-life.invariant.lawful c.in_ok-process.ensures.begun);
+pub live-requires : goal.live-requires
+live-requires g c = record {
+  up = up_begun g.P.Promise.promised c.args.store.now _ g.W.Watcher.may _ _ _ _ (at_station (λ (station : Station). Allows g.P.Promise.promised c.args.store.now station g.W.Watcher.may) _ _ c.loop-life.invariant.station c.requires.allows)
+      c.loop-life.invariant.lawful c.in_ok-process.ensures.begun c.in_ok-process.ensures.told;
 }
-
-pub look_back-requires : goal.look_back-requires
-look_back-requires g c =
-    let begun = up_begun g.P.Promise.promised c.args.store.now _ g.W.Watcher.may _ _ _ _ (at_station (λ (station : Station). Allows g.P.Promise.promised c.args.store.now station g.W.Watcher.may) _ _ c.loop-life.invariant.station c.requires.allows)
-    c.loop-life.invariant.lawful c.in_ok-process.ensures.begun c.in_ok-process.ensures.told in
-    record {
-      watched = c.bind_all.ensures.quiet.watched;
-      settled = (up_quiet _ _ _ _ _ _ _ _ _ _ begun c.bind_all.ensures.quiet refl).even.settled;
-    }
-
-pub make_turns-requires : goal.make_turns-requires
-make_turns-requires g c =
-    let begun = up_begun g.P.Promise.promised c.args.store.now _ g.W.Watcher.may _ _ _ _ (at_station (λ (station : Station). Allows g.P.Promise.promised c.args.store.now station g.W.Watcher.may) _ _ c.loop-life.invariant.station c.requires.allows)
-    c.loop-life.invariant.lawful c.in_ok-process.ensures.begun c.in_ok-process.ensures.told in
-    record {
-      up = up_reported _ _ _ _ _ _ _ _ _ _ (up_quiet _ _ _ _ _ _ _ _ _ _ begun c.bind_all.ensures.quiet refl) c.in_ok-look_back.ensures;
-    }
 
 pub give_up-requires-clause-allowed : goal.give_up-requires-clause-allowed
 give_up-requires-clause-allowed g c =
