@@ -13,6 +13,7 @@ import random
 import socket
 import sys
 import tempfile
+import time
 from pathlib import Path
 
 sys.dont_write_bytecode = True
@@ -35,7 +36,8 @@ def ask(bot, line):
             if not came:
                 return None
             heard += came
-        return heard[:-2]
+    time.sleep(0.05)  # the bot counts who is connected: it is to see that this connection is over
+    return heard[:-2]
 
 
 def read(answer):
@@ -124,12 +126,14 @@ def server_lines(server, due):
 
 def stated(answer):
     """The lines of `status`, from its JSON."""
-    _, version, server, due, channels, links, asks, *counts = take(
-        read(answer), "bot", "version", "server", "due", "channels", "links", "asks", "lines", "admins", "answers")
+    _, version, server, due, channels, ignored, links, asks, *counts = take(
+        read(answer), "bot", "version", "server", "due", "channels", "ignored", "links", "asks", "lines", "admins", "answers")
     lines = [f"version {version}", *server_lines(server, due)]
     for it in channels:
         channel, is_on = take(it, "channel", "on")
         lines.append(f"channel {channel} {'on' if is_on is True else 'off'}")
+    for it in ignored:
+        lines.append("ignored {} for {}".format(*take(it, "key", "seconds")))
     lines += [*link_lines(links), *([] if asks is None else [f"asks {asks}"])]
     lines += [f"{name} {count}" for name, count in zip(("lines", "admins", "answers"), counts)]
     return "".join(f"{it}\n" for it in lines).encode("latin-1")

@@ -20,7 +20,7 @@ import time
 from pathlib import Path
 
 sys.dont_write_bytecode = True
-from bots import Bot, Tally, change_after, comes, counts_of, end_all, free_port, program_of, ran, records_at
+from bots import KINDS, Bot, Tally, change_after, comes, counts_of, end_all, free_port, program_of, ran, records_at
 from nets import SECRET
 from small_server import SmallServer
 
@@ -33,6 +33,7 @@ def write(bot, servers, channels, lines=(), nick="egg"):
     """Writes the bot's configuration."""
     said = [f"data {bot.folder}", f"nick {nick}", *(f"server {it.host} {it.port}" for it in servers)]
     said += [*(f"channel {it}" for it in channels), "bind pub - echo !echo", "log lines", *lines]
+    said += [f"flood-{kind} 0:0" for kind in KINDS]  # people say more lines here than the usual limits let them
     Path(bot.config).write_text("\n".join(said) + "\n", encoding="utf-8")
 
 
@@ -123,7 +124,7 @@ def is_refused_whole(tally, bot, server, side):
              "exclusive": ("nick ", "exclusive\nnick "), "listen": None, "bot": None}
     for word, pair in fixed.items():
         if pair:
-            Path(bot.config).write_text(good.replace(*pair), encoding="utf-8")
+            Path(bot.config).write_text(good.replace(*pair, 1), encoding="utf-8")
             reloads(tally, bot, f"another {word}", f"refused reload: '{word}' can't change while the bot runs: restart it\n")
     os.unlink(bot.config)
     out = bot.answers("reload")
