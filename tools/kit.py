@@ -68,8 +68,17 @@ def proved_libraries(names=()):
     return found
 
 
+def share_work():
+    """Has checks take what other checkouts on this machine kept of the same text, where rt can share it."""
+    if hasattr(rt, "share_work"):
+        rt.share_work(True)
+
+
 def take_kept(found):
-    """Gives crates, lowest first, what `rt ci` proved of the same text on this machine, and yields for each whether it could."""
+    """Gives crates, lowest first, what `rt ci` proved of the same text on this machine, and yields for each whether it could.
+    Some versions of rt keep nothing: then it yields nothing."""
+    if not hasattr(rt, "Kept"):
+        return
     rt.Crate.allowed = rt.handles_of(TOP)
     kept = rt.Kept(found)
     for crate in found:

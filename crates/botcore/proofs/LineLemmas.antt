@@ -1,6 +1,6 @@
 -- What a message leaves, by whether a raw proc has answered 1.
-use Rattle.std.proofs.Common.{◌≡◌, ◌∙◌, ℕ, Bool, true, false, ◌||◌, List, [], ◌++◌, append-nil, if◌then◌else◌, map, Option, ap, sym, subst}
-use Rattle.std.specs.Prelude.{unwrap_or}
+use Rattle.std.proofs.Common.{◌≡◌, ◌∙◌, ℕ, Bool, true, false, ◌||◌, List, [], ◌++◌, append-nil, if◌then◌else◌, map, Option, refl, ap, sym, subst}
+use Rattle.std.specs.Prelude.{codes, unwrap_or}
 use Rattle.bottimers.specs.Held.{Held}
 use Rattle.ircline.specs.declared.line.Line.{Line as ReadLine}
 use Rattle.ircline.specs.declared.line.Line.TheVariants.{Message as a_message}
@@ -126,3 +126,18 @@ module _ (old : Bot) (message : Message) (calls : List MadeCall) where
       ∙ ap (λ (own : List PutWish). before ++ put_faults manner (acting_after old calls).queues own)
       (lined ∙ ap (λ (w : Bool). automatic_lines old.config old.channels (link_records old.link).bans old.clock w message) known)
       ∙ ap (λ (fs : List StepFault). before ++ fs) (sym (taken_faults raw))
+
+-- ---- what somebody says, and no proc waits for
+
+or_false : (b : Bool) → b || false ≡ b
+or_false true = refl
+or_false false = refl
+
+module _ (old : Bot) (message : Message) (is : message.command ≡ codes "PRIVMSG") where
+  pub said_line : after_line old message [] ≡ old
+  said_line =
+      subst (λ (c : List ℕ). after_line old (record message { command = c }) [] ≡ old) (sym is)
+      (ap (λ (w : Bool). record old { welcomed = w }) (or_false old.welcomed))
+
+  pub said_faults : (finish_line old message []).faults ≡ []
+  said_faults = subst (λ (c : List ℕ). (finish_line old (record message { command = c }) []).faults ≡ []) (sym is) refl

@@ -63,6 +63,10 @@ impl<D: Disk> Bot<D> {
             Err(made) => return Report::cut_short(alloc, made.into_parts().0),
         };
         let (calls, unbound) = made.into_parts();
+        // Most messages are what somebody says, and call no proc. They do nothing more.
+        if message.is_said() && calls.is_empty() && unbound.as_slice().is_empty() {
+            return Report::done(alloc, None);
+        }
         let marks = self.marks();
         match self.act_on_message(alloc, calls.as_slice(), unbound, message) {
             Ok(told) => Report::told(None, calls, told.packets, told.lines, told.faults),

@@ -32,3 +32,10 @@ AreCopies copies = IsSettled (state_of copies.first) × IsSettled (state_of copi
 -- the device did not cut the journal short
 abbrev pub AreUncut : Stopped → Type 0
 AreUncut copies = is_cut_short copies.first.content copies.second.content ≡ false
+
+abbrev pub AreUncutDisks : Pair → Type 0
+AreUncutDisks disks = is_cut_short disks.first.mirror.content disks.second.mirror.content ≡ false
+
+abbrev pub IsUncut : Begun → Type 0
+IsUncut (Found disks) = AreUncutDisks disks
+IsUncut (Empty disks) = Unit {0}

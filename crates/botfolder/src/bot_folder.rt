@@ -2,7 +2,7 @@
 ghost use Rattle.std.specs.Prelude.{◌≡◌, ◌≢◌, ◌<◌, ◌↔◌, length, Err, IfOk};
 ghost use Rattle.bytetext.specs.declared.failure.Failure.TheVariants.{Refused};
 ghost use Rattle.botfolder.specs.declared.fault.FolderFault.TheVariants.{LongName};
-ghost use Rattle.botfolder.specs.Folders.{AreEmpty, AreReady, IsBegun, IsReady};
+ghost use Rattle.botfolder.specs.Folders.{AreEmpty, AreReady, IsBegun, IsReady, IsUncut};
 
 use crate::begun::Begun;
 use crate::fault::{FolderError, FolderFault, system_error};
@@ -100,11 +100,13 @@ impl BotFolder {
         &self,
         rt: &R,
     ) -> Result<Begun, FolderError>
-        ensures { IfOk result IsBegun }
+        ensures begun { IfOk result IsBegun }
+        // Its device did not cut a journal short that is found.
+        ensures uncut { IfOk result IsUncut }
     {
         if is_there(rt, self.path(), JOURNAL)? {
-            keep_uncut(rt, self.path())?;
             let disks = found_disks(rt, self.path())?;
+            keep_uncut(rt.alloc(), &disks)?;
             let _left = clear_new(rt, self.path());
             Ok(Begun::Found(disks))
         } else {

@@ -1,6 +1,6 @@
 // The journal of a bot that does not run.
-ghost use Rattle.std.specs.Prelude.{IfOk};
-ghost use Rattle.botfolder.specs.Folders.{AreCopies, AreUncut};
+ghost use Rattle.std.specs.Prelude.{IfOk, OnOk};
+ghost use Rattle.botfolder.specs.Folders.{AreCopies, AreUncut, AreUncutDisks};
 
 use crate::bot_folder::is_there;
 use crate::fault::{FolderError, FolderFault, system_error};
@@ -9,7 +9,7 @@ use crate::owner::check_owner;
 use crate::paths::{JOURNAL, below};
 use botjournal::{are_cut_short, is_cut_short};
 use bytetext::Failure;
-use disks::MemDisk;
+use disks::{Disk as _, MemDisk, Pair};
 use std::alloc::Global;
 use std::fs::{File, OpenOptions, TryLockError};
 use std::rt::Files;
@@ -55,21 +55,14 @@ pub fn read_stopped<R: AllocGlobal + Files<File = File>>(
     uncut_copies(rt.alloc(), first_bytes, second_bytes)
 }
 
-// Refuses the journal in `folder` if its device cut it short. Only this program writes it: it holds the folder's lock.
-pub(crate) fn keep_uncut<R: AllocGlobal + Files<File = File>>(
-    rt: &R,
-    folder: &str,
-) -> Result<(), FolderError> {
-    let first = found_file(rt, folder, FolderFile::First)?;
-    let second = found_file(rt, folder, FolderFile::Second)?;
-    let mut first_bytes = room_for(rt.alloc(), &first)?;
-    let mut second_bytes = room_for(rt.alloc(), &second)?;
-    read(&first, &mut first_bytes)?;
-    read(&second, &mut second_bytes)?;
-    // Closed before their bytes are looked at.
-    drop(first);
-    drop(second);
-    if are_cut_short(rt.alloc(), first_bytes, second_bytes)? {
+// Refuses the journal on these disks if their device cut it short.
+pub(crate) fn keep_uncut(alloc: Global, disks: &Pair) -> Result<(), FolderError>
+    ensures { OnOk result (AreUncutDisks disks.now) }
+{
+    let (Some(first), Some(second)) = (disks.first.held(), disks.second.held()) else {
+        return Err(Failure::Refused(FolderFault::DiskFails));
+    };
+    if are_cut_short(alloc, first, second)? {
         return Err(Failure::Refused(FolderFault::CutShort));
     }
     Ok(())

@@ -3,11 +3,11 @@ use Rattle.std.proofs.Common.{◌≡◌, ◌⊎◌, inl, inr, ◌-◌, ◌&&◌,
 use Rattle.std.proofs.lemmas.Bool.Decides.{nat_tests}
 use Rattle.bytejournal.specs.declared.ending.Counted.{Counted}
 use Rattle.bytejournal.specs.declared.ending.IfOpen.{IfOpen}
-use Rattle.bytejournal.specs.Ending.{ending_of}
+use Rattle.bytejournal.specs.Ending.{AreFew, HasFewAfter, ending_of}
 use Rattle.botjournal.specs.declared.TheConstants.{LAYOUT}
 use Rattle.botjournal.specs.declared.sums.Seal.{Seal}
 use Rattle.botjournal.specs.Sums.{start, through, AreCarried}
-use Rattle.botjournal.specs.CutShort.{carries_sums, is_more, is_cut_beside, is_cut, is_cut_short, HasSums, HasFewAfter, AreFew}
+use Rattle.botjournal.specs.CutShort.{carries_sums, is_more, is_cut_beside, is_cut, is_cut_short, HasSums}
 use Rattle.botjournal.proofs.SumLaws.{carried}
 
 -- ---- what was cut off carries its sums

@@ -2,7 +2,7 @@
 --
 -- A crash leaves at most one entry after the gate that ends a disk: the one that was being written. What it leaves of a
 -- base that was being written has no entry. So more than that was lost by the device, if it carries its sums.
-use Rattle.std.specs.Prelude.{◌≡◌, ◌⊎◌, ◌≤◌, ◌+◌, ◌-◌, ◌&&◌, ◌||◌, ◌==◌, ℕ, Bool, true, false, Option, None, Some, List, [], ◌∷◌, length, nat_le, nat_lt, Result, Ok, Err}
+use Rattle.std.specs.Prelude.{◌≡◌, ◌⊎◌, ◌-◌, ◌&&◌, ◌||◌, ◌==◌, ℕ, Bool, true, false, Option, None, Some, List, ◌∷◌, length, nat_le, nat_lt, Result, Ok, Err}
 use Rattle.std.specs.Option.{is_some}
 use Rattle.bytetext.specs.declared.failure.Failure.{Failure}
 use Rattle.bytetext.specs.declared.failure.Failure.TheVariants.{Refused, NoMemory}
@@ -47,16 +47,6 @@ is_cut_short first second = is_cut (ending_of second).counted (ending_of first) 
 -- the base and each entry end with their sums, of which each stands on the one before it
 abbrev pub HasSums : IfOpen → Type 0
 HasSums texts = (texts.layout ≡ LAYOUT) × AreCarried (start LAYOUT texts.generation) (texts.base ∷ texts.entries)
-
--- at most one entry more than those that count, and none if no entry counts because the first gate isn't open
-abbrev pub AreFew : Option Counted → Option IfOpen → Type 0
-AreFew counted None = Unit {0}
-AreFew None (Some texts) = texts.entries ≡ []
-AreFew (Some counted) (Some texts) = length texts.entries ≤ counted.entries + 1
-
--- after the gate that ends a disk stands what a crash may leave of an entry or of a base that was being written
-abbrev pub HasFewAfter : List ℕ → Type 0
-HasFewAfter bytes = AreFew (ending_of bytes).counted (ending_of bytes).if_open
 
 -- asking whether one was, by cases on the result
 abbrev pub TellsCut : State → State → Result Bool (Failure JournalFault) → State → State → Type 0

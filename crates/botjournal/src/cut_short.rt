@@ -6,8 +6,8 @@ ghost use Rattle.botjournal.specs.CutShort.{TellsCut, carries_sums, is_cut, is_c
 
 use crate::LAYOUT;
 use crate::sums::Seal;
-use bytejournal::{Counted, Ending, IfOpen, JournalError, ending_of, read_ending};
-use bytetext::NoMemory;
+use bytejournal::{Counted, Ending, IfOpen, JournalError, ending_of, has_few_after, read_ending};
+use bytetext::{NoMemory, bytes_of};
 use disks::Disk;
 use std::alloc::Global;
 
@@ -46,17 +46,22 @@ pub fn is_cut_short<D: Disk>(
     Ok(is_cut(b.counted, &a) || is_cut(a.counted, &b))
 }
 
-/// Whether [`is_cut_short`] is `true` of disks that hold the bytes `first` and `second`. It takes less memory and time
-/// than disks that hold them.
+/// Whether [`is_cut_short`] is `true` of disks that hold the bytes `first` and `second`. For most journals it takes no
+/// memory.
 ///
 /// # Errors
 /// `NoMemory` if it cannot allocate room for what the bytes hold; never if there is none.
-pub fn are_cut_short(alloc: Global, first: Vec<u8>, second: Vec<u8>) -> Result<bool, NoMemory>
-    ensures cut { IfOk result (λ cut. cut ≡ is_cut_short first.items second.items) }
-    ensures memory { IfErr result (λ _. 0 < length first.items + length second.items) }
+#[tactic(auto, using(crate::proofs::CutLaws::few_are_not_cut))]
+pub fn are_cut_short(alloc: Global, first: &[u8], second: &[u8]) -> Result<bool, NoMemory>
+    ensures cut { IfOk result (λ cut. cut ≡ is_cut_short first.now second.now) }
+    ensures memory { IfErr result (λ _. 0 < length first.now + length second.now) }
 {
-    let a = ending_of(alloc, first)?;
-    let b = ending_of(alloc, second)?;
+    // Most journals show it at once.
+    if has_few_after(first) && has_few_after(second) {
+        return Ok(false);
+    }
+    let a = ending_of(alloc, bytes_of(alloc, first)?)?;
+    let b = ending_of(alloc, bytes_of(alloc, second)?)?;
     Ok(is_cut(b.counted, &a) || is_cut(a.counted, &b))
 }
 

@@ -1,12 +1,12 @@
 // What spellings promise to those who store them, and the calls of a journal together, proved of the definitions.
 ghost use Rattle.std.specs.Prelude.{◌≡◌, ◌⊎◌, ◌∷◌, ℕ, List, Some, Result, Ok, true, false};
 ghost use Rattle.bytejournal.specs.declared.ending.IfOpen.{IfOpen};
-ghost use Rattle.bytejournal.specs.Ending.{ending_of};
+ghost use Rattle.bytejournal.specs.Ending.{HasFewAfter, ending_of};
 ghost use Rattle.bytejournal.specs.Meaning.{Contents as Texts};
 ghost use Rattle.botjournal.specs.declared.TheConstants.{LAYOUT};
 ghost use Rattle.botjournal.specs.Sums.{start, AreCarried};
 ghost use Rattle.botjournal.specs.Contents.{Contents, meaning};
-ghost use Rattle.botjournal.specs.CutShort.{HasFewAfter, HasSums, is_cut_short};
+ghost use Rattle.botjournal.specs.CutShort.{HasSums, is_cut_short};
 ghost use Rattle.bytejournal.specs.declared.journal.Journal.{Journal as OfTexts};
 ghost use Rattle.bytejournal.specs.declared.opening.Returned.{Returned};
 ghost use Rattle.bytejournal.specs.Journal.{first_disk, second_disk, Holds};

@@ -1,6 +1,7 @@
 // How a journal is created, opened and taken apart.
 ghost use Rattle.std.specs.Prelude.{◌≡◌, IfOk, IfSome, Some, false};
 ghost use Rattle.std.specs.List.{AllByRecursion};
+ghost use Rattle.std.specs.Option.{is_some};
 ghost use Rattle.disks.specs.State.{IsSettled};
 ghost use Rattle.bytetext.specs.declared.failure.Failure.TheVariants.{Refused};
 ghost use Rattle.bytejournal.specs.Journal.{first_disk, second_disk};
@@ -210,8 +211,20 @@ fn is_spelled(alloc: Global, older: &Option<Older>) -> Result<bool, NoMemory>
     if !is_base_by(alloc, layout, body_in(layout, older.base.as_bytes()))? {
         return Ok(false);
     }
-    let read = read_entries(alloc, layout, entries)?;
-    Ok(read.is_some())
+    are_entries(alloc, layout, entries)
+}
+
+// Whether these texts spell entries in a layout. It keeps none of them.
+fn are_entries(alloc: Global, layout: Layout, texts: &[Text]) -> Result<bool, NoMemory>
+    ensures { IfOk result (λ are. are ≡ is_some (entries_in layout texts.now)) }
+{
+    for text in texts {
+        match read_entry_by(alloc, layout, body_in(layout, text.as_bytes()))? {
+            Some(_) => {}
+            None => return Ok(false),
+        }
+    }
+    Ok(true)
 }
 
 // Reads the entries that these texts spell in a layout.
@@ -223,7 +236,7 @@ fn read_entries(
     ensures exact { IfOk result (λ read. read ≡ entries_in layout texts.now) }
     ensures good { IfOk result (λ read. IfSome read (λ entries. AllByRecursion IsGoodEntry entries)) }
 {
-    let mut entries = Vec::new(alloc);
+    let mut entries = Vec::with_capacity(alloc, texts.len())?;
     for text in texts {
         match read_entry_by(alloc, layout, body_in(layout, text.as_bytes()))? {
             Some(entry) => entries.push(entry)?,

@@ -6,6 +6,8 @@ use Rattle.procs.specs.Promises.{Promised}
 use Rattle.botcore.specs.Bots.{Bot}
 use Rattle.turns.specs.declared.turn.Heard.{Heard}
 use Rattle.turns.specs.declared.turn.Told.{Told}
+use Rattle.turns.specs.declared.turn.TurnEnd.TheVariants.{Done}
+use Rattle.turns.specs.Queues.{packets_in}
 use Rattle.turns.specs.Turns.{Turns}
 use Rattle.administrators.specs.declared.change_outcome.ChangeOutcome.{ChangeOutcome}
 use Rattle.peers.specs.declared.links.Links.{Links}
@@ -39,6 +41,10 @@ pub record TakesChanges (promised : Promised)
   pub compacted : heard.compact ≡ compacts
   pub pumped : heard.pump ≡ not compacts
   pub takes : TakesTurn promised names old held heard new after outcome talk new_talk
+
+-- all steps of a turn are made, and none of them reports anything for the other bots
+abbrev pub TellsNothing : Told → Type 0
+TellsNothing told = (told.end ≡ Done) × (packets_in told.reports ≡ [])
 
 -- ---- the turns of a bot, one after another
 

@@ -349,6 +349,8 @@ where
         until: None,
         reloading: Reloading::new(rt.alloc(), file)?,
         obeyed: None,
+        nick: Vec::new(rt.alloc()),
+        rested: None,
     })
 }
 

@@ -13,7 +13,8 @@
 //! [`run`] takes the bot's folder, opens or creates its journal, connects to the servers of its configuration in turn,
 //! and listens for admins at the socket `control` in the folder. Then it makes turns. A turn waits for sockets,
 //! reads the clocks, connects what is lost and due, reads, has the bot take the turn, executes up to 16 commands of
-//! each admin, writes, and closes the connections that are over.
+//! each admin, writes, and closes the connections that are over. Once such a turn has left nothing to do, a turn of the same
+//! second is short if the server alone may have something to read: it does the rest only if the bot's steps say something.
 //!
 //! [`turns::take_turn`] does what the bot itself does, and a bind of an admin is one step of it: nothing is decided
 //! here for the bot. [`serverlink`] keeps the connection to the server, and sends there what the process sends by
@@ -102,6 +103,7 @@ mod page_view;
 mod passing;
 mod proc_asks;
 mod process;
+mod quiet;
 mod rebinding;
 mod reloading;
 mod starting;

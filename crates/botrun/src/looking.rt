@@ -15,13 +15,13 @@ pub(crate) fn look_at_all<R: AllocGlobal>(
     log: &mut Log,
     uplink: &mut IrcConnection,
     settings: &Settings,
-    nick: Text,
+    nick: &[u8],
     lines: &[HeardLine],
     now: u64,
 ) -> Result<(), NoMemory>
     requires moment { now < MOMENTS_END }
 {
-    let mut nick = nick;
+    let mut nick = Text::from_slice(rt.alloc(), nick)?;
     for HeardLine { line, logged } in lines {
         if let Some(given) = uplink.look(rt, log, settings, line, *logged, nick.as_bytes(), now)? {
             nick = Text::from_slice(rt.alloc(), given)?;

@@ -8,6 +8,7 @@ ghost use Rattle.botrun.specs.Watched.{ByEnd, station_of};
 
 use crate::others::Others;
 use crate::own::tell_own;
+use crate::steps::Hearing;
 use crate::sum_logging::tell_sum;
 use administrators::{Admins, Seconds};
 use botcore::Bot;
@@ -52,6 +53,10 @@ pub(crate) struct Process {
     pub(crate) reloading: Reloading,
     // The number of the admin whose command is being executed, unless the answer comes later.
     pub(crate) obeyed: Option<u64>,
+    // The bot's nick before the lines of this turn.
+    pub(crate) nick: Vec<u8>,
+    // When the last whole turn was made, if it left nothing to do and nothing has happened since.
+    pub(crate) rested: Option<Seconds>,
 }
 
 // Written by hand, so that the drop is proved once, and not in each function that drops one.
@@ -72,6 +77,8 @@ impl Drop for Process {
             until: _,
             reloading: _,
             obeyed: _,
+            nick: _,
+            rested: _,
         } = self;
     }
 }
@@ -105,9 +112,7 @@ pub(crate) enum Turned {
 }
 
 impl Process {
-    // Makes a turn: connects what is lost and due, reads, steps, writes, closes the connections that are over, and logs
-    // the sum of the records if that is due. `watch` names the sockets that may have something to read. A leaf that has
-    // to begin again ends the turn once it has read, as one that leaves its net does.
+    // Makes a turn, a short one if that is enough. `watch` names the sockets that may have something to read.
     pub(crate) fn turn<R, P: Promise, B: Run, W: Watcher>(
         &mut self,
         rt: &R,
@@ -132,9 +137,87 @@ impl Process {
             self.new.others.mail.account.told)
             (IsAt P.promised store.now (station_of settings.now) W.may (W.past watcher.new) self.new.bot)) }
     {
-        let now = seconds.wall;
         self.uplink
             .wake(watch.tokens(), watch.endings(), seconds.steady);
+        if self.is_short(watch.tokens(), seconds) {
+            self.short_turn(rt, log, store, settings, seconds, watcher)
+        } else {
+            self.whole_turn(rt, log, watch, store, settings, seconds, watcher)
+        }
+    }
+
+    // Whether a turn need not look beyond the server: the server alone may have something to read, and by the clocks a
+    // whole turn in this second has left nothing to do.
+    fn is_short(&self, tokens: &[usize], seconds: Seconds) -> bool {
+        match self.rested {
+            Some(rested) => {
+                rested.wall == seconds.wall
+                    && rested.steady == seconds.steady
+                    && self.until.is_none()
+                    && IrcConnection::is_alone_in(tokens)
+            }
+            None => false,
+        }
+    }
+
+    // Makes a turn that reads the server alone. Most lines are what people say and no proc waits for: then there is nothing
+    // more to do.
+    fn short_turn<R, P: Promise, B: Run, W: Watcher>(
+        &mut self,
+        rt: &R,
+        log: &mut Log,
+        store: &ProcStore<P, B>,
+        settings: &Settings,
+        seconds: Seconds,
+        watcher: &mut W,
+    ) -> Result<Turned, RunError>
+    where
+        R: AllocGlobal + Net + Files<File = File> + Print + RandomSource,
+        requires moment { seconds.wall < MOMENTS_END }
+        requires even { IsEven P.promised store.now (station_of settings.now) W.may (W.past watcher.old) self.old.bot
+            self.old.others.mail.account.told }
+        ensures again { IfOk result (λ turned. BeginsWithout turned self.new.bot) }
+        ensures moves { IfOk result (λ turned. MovesAsTold turned self.new.others.mail.links) }
+        ensures up { IfOk result (λ turned. ByEnd turned
+            (IsUp P.promised store.now (station_of settings.now) W.may (W.past watcher.new) self.new.bot
+            self.new.others.mail.account.told)
+            (IsAt P.promised store.now (station_of settings.now) W.may (W.past watcher.new) self.new.bot)) }
+    {
+        let more = self.uplink.read()?;
+        let now = seconds.wall;
+        let heard = self.hear(rt, log, store, settings, false, true, now, watcher)?;
+        if heard.is_quiet && !heard.is_busy && !more && self.uplink.is_still() {
+            return Ok(Turned::Rests);
+        }
+        self.end_turn(rt, log, store, settings, heard, more, seconds, watcher)
+    }
+
+    // Makes a whole turn: connects what is lost and due, reads, steps, writes, closes the connections that are over, and logs
+    // the sum of the records if that is due. A leaf that has to begin again ends the turn once it has read, as one that
+    // leaves its net does.
+    fn whole_turn<R, P: Promise, B: Run, W: Watcher>(
+        &mut self,
+        rt: &R,
+        log: &mut Log,
+        watch: &Watch,
+        store: &ProcStore<P, B>,
+        settings: &Settings,
+        seconds: Seconds,
+        watcher: &mut W,
+    ) -> Result<Turned, RunError>
+    where
+        R: AllocGlobal + Net + Files<File = File> + Print + RandomSource,
+        requires moment { seconds.wall < MOMENTS_END }
+        requires even { IsEven P.promised store.now (station_of settings.now) W.may (W.past watcher.old) self.old.bot
+            self.old.others.mail.account.told }
+        ensures again { IfOk result (λ turned. BeginsWithout turned self.new.bot) }
+        ensures moves { IfOk result (λ turned. MovesAsTold turned self.new.others.mail.links) }
+        ensures up { IfOk result (λ turned. ByEnd turned
+            (IsUp P.promised store.now (station_of settings.now) W.may (W.past watcher.new) self.new.bot
+            self.new.others.mail.account.told)
+            (IsAt P.promised store.now (station_of settings.now) W.may (W.past watcher.new) self.new.bot)) }
+    {
+        let now = seconds.wall;
         self.others.mail.links.wake(watch.tokens(), seconds.steady);
         let (uplink, links) = (&mut self.uplink, &mut self.others.mail.links);
         let registry = watch.registry();
@@ -159,7 +242,37 @@ impl Process {
         keep_new_doubt(rt, log, &self.folder, &mut self.space, links, now)?;
         keep_new_net(rt, log, &self.folder, &mut self.space, links, now)?;
         enter_new_leaves(rt, log, &self.folder, &self.space, links, now)?;
-        is_busy |= self.hear(rt, log, store, settings, connected, now, watcher)?;
+        let heard = self.hear(rt, log, store, settings, connected, false, now, watcher)?;
+        self.end_turn(rt, log, store, settings, heard, is_busy, seconds, watcher)
+    }
+
+    // Ends a turn whose steps are made: executes the admins' commands, and writes. `is_busy` says whether what was read
+    // leaves more to do at once.
+    fn end_turn<R, P: Promise, B: Run, W: Watcher>(
+        &mut self,
+        rt: &R,
+        log: &mut Log,
+        store: &ProcStore<P, B>,
+        settings: &Settings,
+        heard: Hearing,
+        is_busy: bool,
+        seconds: Seconds,
+        watcher: &mut W,
+    ) -> Result<Turned, RunError>
+    where
+        R: AllocGlobal + Net + Files<File = File> + Print + RandomSource,
+        requires moment { seconds.wall < MOMENTS_END }
+        requires up { IsUp P.promised store.now (station_of settings.now) W.may (W.past watcher.old) self.old.bot
+            self.old.others.mail.account.told }
+        ensures again { IfOk result (λ turned. BeginsWithout turned self.new.bot) }
+        ensures moves { IfOk result (λ turned. MovesAsTold turned self.new.others.mail.links) }
+        ensures up { IfOk result (λ turned. ByEnd turned
+            (IsUp P.promised store.now (station_of settings.now) W.may (W.past watcher.new) self.new.bot
+            self.new.others.mail.account.told)
+            (IsAt P.promised store.now (station_of settings.now) W.may (W.past watcher.new) self.new.bot)) }
+    {
+        let now = seconds.wall;
+        let mut is_busy = is_busy || heard.is_busy;
         is_busy |= self.obey_all(rt, log, store, settings, now, watcher)?;
         self.hand_over(rt, log, settings, now)?;
         let (uplink, links) = (&mut self.uplink, &mut self.others.mail.links);
@@ -171,7 +284,12 @@ impl Process {
         if has_ended {
             return Ok(Turned::Ended);
         }
-        Ok(if is_busy { Turned::Busy } else { Turned::Rests })
+        if is_busy {
+            self.rested = None;
+            return Ok(Turned::Busy);
+        }
+        self.rested = if heard.is_quiet { Some(seconds) } else { None };
+        Ok(Turned::Rests)
     }
 
     // Unless the process is to end, returns the number above which a leaf without records has to begin again, if it has
@@ -209,6 +327,8 @@ impl Process {
             until: _,
             reloading: _,
             obeyed: _,
+            nick: _,
+            rested: _,
         } = self;
         folder
     }

@@ -1,39 +1,48 @@
 // The steps of a bot in one turn of its process.
-ghost use Rattle.std.specs.Prelude.{◌<◌, IfOk, OnOk, is_some};
+ghost use Rattle.std.specs.Prelude.{◌≡◌, ◌<◌, IfOk, OnOk, is_some, true};
 ghost use Rattle.bytetext.specs.declared.moment.TheConstants.{MOMENTS_END};
 ghost use Rattle.serverlink.specs.Tagging.{untagged_in};
 ghost use Rattle.serverlink.specs.Talks.{talk_in};
 ghost use Rattle.upkeep.specs.Flooding.{begun_with, heard_lines};
 ghost use Rattle.botrun.specs.Trusting.{trusts};
 ghost use Rattle.watching.specs.Following.{IsEven, IsUp};
-ghost use Rattle.botrun.specs.Taking.{GoesOn, Hears, TakesChanges};
+ghost use Rattle.botrun.specs.Taking.{GoesOn, Hears, TakesChanges, TellsNothing};
 ghost use Rattle.botrun.specs.Watched.{station_of};
 
 use crate::looking::look_at_all;
 use crate::outcome::outcome_of;
 use crate::passing::pass;
 use crate::process::Process;
+use crate::quiet::tells_nothing;
 use crate::trusting::sift;
 use administrators::{ChangeOutcome, LogEntry};
 use botcore::Bot;
-use bytetext::{NoMemory, Text, TryCopy};
+use bytetext::NoMemory;
 use disks::FileDisk;
 use net::Log;
 use procs::{ProcStore, Promise, Run};
 use settings::Settings;
 use sharelink::MAX_ASKS;
-use std::alloc::Global;
-use turns::{Heard, take_turn, watched_packets};
+use turns::{Heard, Told, take_turn, watched_packets};
 use upkeep::{RunError, taken_requests};
 use userfile::Change;
 use watching::Watcher;
+
+// What the steps of a turn leave to do.
+#[derive(Clone, Copy)]
+pub(crate) struct Hearing {
+    // Whether there may be more at once: another bot sent something, or a hello got due.
+    pub(crate) is_busy: bool,
+    // Whether the steps said nothing, and no change waits.
+    pub(crate) is_quiet: bool,
+}
 
 impl Process {
     // Has the bot take what its server and the other bots sent, in one turn. Then the connection to the server looks at
     // the server's lines, before the bot's lines are queued. Then the bot takes all that waits, and the journal is
     // rewritten if that is due. If there is no room, the bot takes nothing of the other bots; procs may still change
-    // records, so the journal is lent the space that is set aside. A hub that is being handed over takes no request. Returns whether there may be more at once: another bot
-    // sent something, or a hello got due.
+    // records, so the journal is lent the space that is set aside. A hub that is being handed over takes no request. In a
+    // `short` turn whose steps say nothing, nothing follows that first turn of the bot.
     pub(crate) fn hear<R: AllocGlobal, P: Promise, B: Run, W: Watcher>(
         &mut self,
         rt: &R,
@@ -41,9 +50,10 @@ impl Process {
         store: &ProcStore<P, B>,
         settings: &Settings,
         connected: bool,
+        short: bool,
         now: u64,
         watcher: &mut W,
-    ) -> Result<bool, RunError>
+    ) -> Result<Hearing, RunError>
         requires moment { now < MOMENTS_END }
         requires even { IsEven P.promised store.now (station_of settings.now) W.may (W.past watcher.old) self.old.bot
             self.old.others.mail.account.told }
@@ -69,7 +79,7 @@ impl Process {
         let granted = taken_requests(waiting, hands_over);
         let packets = self.space.admit(alloc, granted);
         let pumps = self.others.is_pump_due(self.bot.ask_count(), now);
-        let nick = nick_before(alloc, &self.bot, connected)?;
+        note_nick(&mut self.nick, &self.bot, connected)?;
         let changes = Vec::new(alloc);
         let heard = Heard {
             connected,
@@ -82,7 +92,16 @@ impl Process {
         };
         self.space.lend_if_full();
         let told = take_turn(alloc, &mut self.bot, store, &mut self.lines, heard, watcher);
+        let is_quiet = self.is_quiet(settings, &told);
+        if short && is_quiet {
+            self.space.look_if_full(log, now);
+            return Ok(Hearing {
+                is_busy: said,
+                is_quiet,
+            });
+        }
         let lines = told.lines.as_slice();
+        let nick = self.nick.as_slice();
         look_at_all(rt, log, &mut self.uplink, settings, nick, lines, now)?;
         let (others, admins, uplink) = (&mut self.others, &mut self.admins, &mut self.uplink);
         pass(
@@ -95,7 +114,16 @@ impl Process {
         self.space.look_if_full(log, now);
         // A proc may have had a leaf ask for a change. If this turn pumped and more is due at once, the link took
         // bytes, so the next turn comes at once too.
-        Ok(said || (!pumps && self.others.is_pump_due(self.bot.ask_count(), now)))
+        let is_busy = said || (!pumps && self.others.is_pump_due(self.bot.ask_count(), now));
+        Ok(Hearing { is_busy, is_quiet })
+    }
+
+    // Whether what was told of a turn leaves nothing to do: no step says anything, no change waits, and the lines are what
+    // people say, which means nothing to the connection, and which is not logged.
+    fn is_quiet(&self, settings: &Settings, told: &Told) -> bool
+        ensures { result ≡ true → TellsNothing told.now }
+    {
+        !settings.log_lines && self.bot.ask_count() == 0 && tells_nothing(told)
     }
 
     // Unless the bot is a leaf, or a hub that accepts no change, pumps until nothing waits, or the link refuses. `more` says
@@ -232,13 +260,16 @@ impl Process {
     }
 }
 
-// The nick of `bot` before the lines of a turn. On a new connection it is that of the configuration.
-fn nick_before(alloc: Global, bot: &Bot<FileDisk>, connected: bool) -> Result<Text, NoMemory> {
-    if connected {
-        bot.config().nick.copy(alloc)
+// Notes the nick of `bot` before the lines of a turn. On a new connection it is that of the configuration.
+fn note_nick(nick: &mut Vec<u8>, bot: &Bot<FileDisk>, connected: bool) -> Result<(), NoMemory> {
+    nick.clear();
+    let before = if connected {
+        bot.config().nick.as_bytes()
     } else {
-        Text::from_slice(alloc, bot.own_nick())
-    }
+        bot.own_nick()
+    };
+    nick.extend_from_slice(before)?;
+    Ok(())
 }
 
 // Whether a change was accepted or refused, so that another may wait.

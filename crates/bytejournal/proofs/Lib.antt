@@ -14,3 +14,4 @@ pub mod Creating
 pub mod Lasting
 pub mod Recovering
 pub mod UnmadeLemmas
+pub mod FewAfter

@@ -1,6 +1,6 @@
 -- How the bytes of a disk are gone through.
-use Rattle.std.proofs.Common.{◌≡◌, ◌<◌, ◌≤◌, ◌+◌, ℕ, None, Some, List, [], ◌∷◌, ◌++◌, length, get_or, take, drop, sym, ◌∙◌, ap, subst, arith, append_assoc, length-append, length-drop, take-append-drop}
-use Rattle.std.proofs.lemmas.List.{take_at, drop_more, length-take}
+use Rattle.std.proofs.Common.{◌≡◌, ◌<◌, ◌≤◌, ◌+◌, ◌-◌, ℕ, None, Some, List, [], ◌∷◌, ◌++◌, length, get_or, take, drop, sym, ◌∙◌, ap, subst, arith, append_assoc, length-append, length-drop, take-append-drop}
+use Rattle.std.proofs.lemmas.List.{take_at, take_all, drop_more, length-take}
 use Rattle.bytejournal.specs.Meaning.{sized, all_before, entries_of, AreEntries}
 use Rattle.bytejournal.proofs.Entries.{Spelled, sized_is, cut_entry}
 use Rattle.bytejournal.proofs.Fronts.{one_entry, more_entries}
@@ -49,3 +49,7 @@ module _ (bytes : List ℕ) (gate : ℕ) (texts : List (List ℕ)) (inside : gat
   pub entries_cut : sized (drop (gate + 1) bytes) ≡ None → entries_of bytes ≡ None
   entries_cut cut = ap entries_of (sym (take-append-drop gate bytes)) ∙ so_far (drop gate bytes)
       ∙ ap (all_before texts) (ap entries_of opened ∙ cut_entry (drop (gate + 1) bytes) cut)
+
+-- the range from a place on
+pub after_gate : (bytes : List ℕ) (gate : ℕ) → take (length bytes - (gate + 1)) (drop (gate + 1) bytes) ≡ drop (gate + 1) bytes
+after_gate bytes gate = take_all (length bytes - (gate + 1)) (drop (gate + 1) bytes) (omega (arith, length-drop (gate + 1) bytes))

@@ -30,13 +30,13 @@ module _ (bytes numbers sizes base rest : List ℕ) (layout generation : ℕ) (b
   is_number : Numbered numbers generation sizes
   is_number = numbered_is numbers generation sizes number
 
-  split : 1 ∷ bytes ≡ start layout (take 4 numbers) (take 4 sizes) base ++ rest
+  pub split : 1 ∷ bytes ≡ start layout (take 4 numbers) (take 4 sizes) base ++ rest
   split =
       ap (λ (l : List ℕ). 1 ∷ l) (begins ∙ ap (λ (l : List ℕ). letters ++ (layout ∷ l))
       (sym (take-append-drop 4 numbers) ∙ ap (λ (l : List ℕ). take 4 numbers ++ l) (is_number.rest_is ∙ spelled.split)
       ∙ sym (append_assoc (take 4 numbers) (take 4 sizes ++ base) rest)))
 
-  size : length (start layout (take 4 numbers) (take 4 sizes) base) ≡ 14 + length base
+  pub size : length (start layout (take 4 numbers) (take 4 sizes) base) ≡ 14 + length base
   size = omega (
     arith,
     length-take 4 numbers,

@@ -2,7 +2,7 @@
 --
 -- A crash closes the gate of the entry that was being written, and of no other one. So what more than that one entry
 -- stands after a closed gate wasn't left by a crash, if it is a journal's at all: the layers above can tell.
-use Rattle.std.specs.Prelude.{◌≡◌, ◌<◌, ℕ, ◌+◌, Option, None, Some, List, [], ◌∷◌, length, nat_lt, slice_set, if◌then◌else◌, Result, Ok, Err}
+use Rattle.std.specs.Prelude.{◌≡◌, ◌⊎◌, ◌≤◌, ◌<◌, ◌==◌, ℕ, ◌+◌, Bool, false, Option, None, Some, List, [], ◌∷◌, length, drop, nat_lt, slice_set, if◌then◌else◌, Result, Ok, Err}
 use Rattle.bytetext.specs.declared.failure.Failure.{Failure}
 use Rattle.bytetext.specs.declared.failure.Failure.TheVariants.{Refused, NoMemory}
 use Rattle.disks.specs.State.{State, Rose}
@@ -11,8 +11,9 @@ use Rattle.bytejournal.specs.declared.fault.JournalFault.TheVariants.{DiskFault,
 use Rattle.bytejournal.specs.declared.ending.Counted.{Counted}
 use Rattle.bytejournal.specs.declared.ending.IfOpen.{IfOpen}
 use Rattle.bytejournal.specs.declared.ending.Ending.{Ending}
-use Rattle.bytejournal.specs.Meaning.{Held, held}
+use Rattle.bytejournal.specs.Meaning.{Held, held, sized, entries_of}
 use Rattle.bytejournal.specs.Meaning.Held.{Shut, Broken, Open}
+use Rattle.bytejournal.specs.Reading.{EndAt}
 
 -- how many bytes these entries take, each with its gate and its length
 abbrev pub size_of : List (List ℕ) → ℕ
@@ -55,6 +56,30 @@ if_open (Open contents) = Some (record {
 -- what stands on a disk with these bytes before and after the gate that ends it
 abbrev pub ending_of : List ℕ → Ending
 ending_of bytes = record { counted = counted (held bytes); if_open = if_open (held_open bytes) }
+
+-- at most one entry more than those that count, and none if no entry counts because the first gate isn't open
+abbrev pub AreFew : Option Counted → Option IfOpen → Type 0
+AreFew counted None = Unit {0}
+AreFew None (Some texts) = texts.entries ≡ []
+AreFew (Some counted) (Some texts) = length texts.entries ≤ counted.entries + 1
+
+-- after the gate that ends a disk stands what a crash may leave of an entry or of a base that was being written
+abbrev pub HasFewAfter : List ℕ → Type 0
+HasFewAfter bytes = AreFew (ending_of bytes).counted (ending_of bytes).if_open
+
+-- an open gate stands first
+abbrev pub is_open : List ℕ → Bool
+is_open [] = false
+is_open (gate ∷ rest) = gate == 1
+
+-- what an open gate leaves of these bytes is no entry, or one before a gate that isn't open
+abbrev pub IsAtMostOne : List ℕ → Type 0
+IsAtMostOne bytes = (text more : List ℕ) → sized bytes ≡ Some (text, more) → is_open more ≡ false
+
+-- these entries are cut short, or after the gate that ends them stands at most one more
+abbrev pub HasFewMore : List ℕ → Type 0
+HasFewMore bytes =
+    (entries_of bytes ≡ None) ⊎ ((gate : ℕ) × EndAt bytes gate × (gate < length bytes → IsAtMostOne (drop (gate + 1) bytes)))
 
 -- reading what stands there, by cases on the result
 abbrev pub ReadsEnding : State → Result Ending (Failure JournalFault) → State → Type 0

@@ -13,7 +13,7 @@
 //! - A [`JournalFault`] says why a call is rejected. After a disk's fault the journal is spent: what was being written
 //!   may count or not, and opening the journal again shows which.
 //! - [`read_ending`] says what would count if a closed gate were open. A device may close a gate; what a crash may leave
-//!   after one, the layers above can tell from the texts.
+//!   after one, the layers above can tell from the texts. [`has_few_after`] often tells it from the gates alone.
 //! - [`laws_of_journals`]: through any number of calls and crashes, disks that `create` made and only this journal
 //!   wrote never yield `NotAJournal`. At each moment of each call, every image that a crash may leave means the
 //!   contents before the call or after it.
@@ -46,6 +46,7 @@
 
 mod ending;
 mod fault;
+mod few_after;
 mod gate;
 mod journal;
 mod opening;
@@ -57,6 +58,7 @@ mod writing;
 
 pub use crate::ending::{Counted, Ending, IfOpen, ending_of, read_ending};
 pub use crate::fault::{JournalError, JournalFault};
+pub use crate::few_after::has_few_after;
 pub use crate::journal::Journal;
 pub use crate::opening::{Disks, Older, Opened, Returned};
 pub use crate::recovery::laws_of_journals;

@@ -77,6 +77,9 @@ fn read_whole<D: Disk>(alloc: Global, disk: &mut D) -> Result<Reading, JournalEr
     if disk.len() == 0 {
         return Ok(Reading::Shut);
     }
+    if let Some(bytes) = disk.held() {
+        return Ok(read_disk(alloc, bytes)?);
+    }
     let mut bytes = vec![in alloc; 0; disk.len()]?;
     match disk.read(0, &mut bytes) {
         Ok(_) => {}

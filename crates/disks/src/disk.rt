@@ -1,5 +1,5 @@
 // A disk as a journal uses it.
-ghost use Rattle.std.specs.Prelude.{◌≡◌, ◌<◌, ◌≤◌, ◌+◌, ◌++◌, List, ℕ, length, take, drop, IfOk, OnOk};
+ghost use Rattle.std.specs.Prelude.{◌≡◌, ◌<◌, ◌≤◌, ◌+◌, ◌++◌, List, ℕ, length, take, drop, IfOk, IfSome, OnOk};
 ghost use Rattle.disks.specs.State.{State, IsSettled, may_leave};
 ghost use Rattle.disks.specs.Calls.{Holds, Tears, Elapses, HasCause, Spends, SameBytes, read_count};
 ghost use Rattle.disks.specs.Events.{openings};
@@ -27,6 +27,11 @@ pub trait Disk: Drop {
     /// Returns how often the disk has failed. The count stops at its greatest value.
     fn failures(&self) -> u64
         ensures { result ≡ (state self.now).failed };
+
+    /// Returns all bytes if the disk has them at hand, so that they need not be read: a read of the whole disk would give
+    /// the same.
+    fn held(&self) -> Option<&[u8]>
+        ensures { IfSome result (λ bytes. bytes.now ≡ (state self.now).seen) };
 
     /// Reads from the offset `at` into `buf`, and returns how many bytes it read: `buf` is filled, or read up to the
     /// disk's end.

@@ -1,5 +1,5 @@
 // A disk in a file, with a mirror in memory of what it holds.
-ghost use Rattle.std.specs.Prelude.{◌≡◌, ◌≤ℤ◌, pos, ◌≤◌, ◌<◌, ◌+◌, [], length, true, false, IsTrue, IfOk, OnOk, OnErr};
+ghost use Rattle.std.specs.Prelude.{◌≡◌, ◌≤ℤ◌, pos, ◌≤◌, ◌<◌, ◌+◌, [], length, true, false, IsTrue, IfOk, IfSome, OnOk, OnErr};
 ghost use Rattle.disks.specs.Events.{openings};
 ghost use Rattle.disks.specs.State.{IsSettled, may_leave};
 ghost use Rattle.disks.specs.Calls.{Holds, Tears, Elapses, HasCause, Spends, SameBytes};
@@ -163,6 +163,16 @@ impl Disk for FileDisk {
 
     fn failures(&self) -> u64 {
         self.mirror.failures()
+    }
+
+    /// Returns what the mirror holds; `None` after `end_reads`, or once the file has failed.
+    fn held(&self) -> Option<&[u8]>
+        ensures { IfSome result (λ bytes. bytes.now ≡ (state_of self.now.mirror).seen) }
+    {
+        if self.broken {
+            return None;
+        }
+        self.mirror.held()
     }
 
     fn read(&mut self, at: usize, buf: &mut [u8]) -> Result<usize, DiskFault> {

@@ -144,6 +144,11 @@ impl Disk for MemDisk {
         self.failures
     }
 
+    // Always none: each read counts as a call, at which a fault may be planned.
+    fn held(&self) -> Option<&[u8]> {
+        None
+    }
+
     /// A read fails exactly when that is planned.
     fn read(&mut self, at: usize, buf: &mut [u8]) -> Result<usize, DiskFault>
         ensures count { IfOk result (λ n. n ≡ read_count (state_of self.old).seen at (length buf.old)) }

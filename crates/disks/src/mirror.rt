@@ -94,6 +94,16 @@ impl Mirror {
         self.bytes = None;
     }
 
+    /// Returns the bytes, or `None` after `end_reads`.
+    pub(crate) fn held(&self) -> Option<&[u8]>
+        ensures { IfSome result (λ held. held.now ≡ self.now.content) }
+    {
+        match &self.bytes {
+            Some(bytes) => Some(bytes.as_slice()),
+            None => None,
+        }
+    }
+
     /// Returns the number of bytes.
     pub(crate) fn len(&self) -> usize
         ensures { result ≡ length self.now.content }

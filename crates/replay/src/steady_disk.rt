@@ -55,6 +55,10 @@ impl Disk for SteadyDisk {
         0
     }
 
+    fn held(&self) -> Option<&[u8]> {
+        None
+    }
+
     fn read(&mut self, at: usize, buf: &mut [u8]) -> Result<usize, DiskFault> {
         match self.disk.read(at, buf) {
             Ok(count) => Ok(count),

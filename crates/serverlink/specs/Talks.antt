@@ -1,5 +1,5 @@
 -- What each call does to a connection to a server.
-use Rattle.std.specs.Prelude.{◌≡◌, ◌&&◌, ◌∷◌, [], not, if◌then◌else◌, ℕ, Bool, true, false, List, Option, None, Some, codes, option_map}
+use Rattle.std.specs.Prelude.{◌≡◌, ◌&&◌, ◌==◌, ◌∷◌, [], length, not, if◌then◌else◌, ℕ, Bool, true, false, List, Option, None, Some, codes, option_map}
 use Rattle.net.specs.Connections.{Talk, Reads, ReadsFewer, SendsOn, named, with_bytes}
 use Rattle.serverlink.specs.Lines.{is_line}
 use Rattle.serverlink.specs.Told.{ended}
@@ -62,6 +62,11 @@ abbrev pub ReadsSome : Option Talk → Option Talk → Type 0
 ReadsSome None new = ⊥
 ReadsSome (Some old) None = ⊥
 ReadsSome (Some old) (Some new) = ReadsFewer PIECES MOST old new
+
+-- a server is connected, and nothing waits for it
+abbrev pub is_still_in : Option Talk → Bool
+is_still_in None = false
+is_still_in (Some talk) = (length talk.unsent == 0) && not talk.over
 
 -- whether its stream may have something to read
 abbrev pub may_give_in : Option Talk → Bool

@@ -68,7 +68,7 @@ impl Drop for IrcConnection {
 }
 
 impl IrcConnection {
-    ghost use Rattle.std.specs.Prelude.{◌≡◌, ◌==◌, true, Some, [], is_some, option_map, slice_get, IfOk, OnOk, MatchOption};
+    ghost use Rattle.std.specs.Prelude.{◌≡◌, ◌↔◌, ◌∷◌, ◌==◌, true, Some, [], IsTrue, is_some, option_map, slice_get, IfOk, OnOk, MatchOption};
     ghost use Rattle.std.specs.List.{list_any};
     ghost use Rattle.net.specs.Dials.{lost};
     ghost use Rattle.net.specs.Connections.{handed};
@@ -76,7 +76,7 @@ impl IrcConnection {
     ghost use Rattle.serverlink.specs.Logins.{BeginsIn};
     ghost use Rattle.serverlink.specs.Tagging.{tags_after, tags_in, untagged_in};
     ghost use Rattle.serverlink.specs.Waiting.{wants_in};
-    ghost use Rattle.serverlink.specs.Talks.{EndsSilence, MayReadAll, MaySend, ReadsSome, may_give_in, held, told, woken, talk_in};
+    ghost use Rattle.serverlink.specs.Talks.{EndsSilence, MayReadAll, MaySend, ReadsSome, is_still_in, may_give_in, held, told, woken, talk_in};
 
     /// Creates an uplink from `settings` without a connection; an attempt to connect is due at once. Each connection logs
     /// in to `account`, if there is one.
@@ -266,6 +266,30 @@ impl IrcConnection {
                     .trust_short_reads(!endings.contains(&TOKEN));
                 connection.is_ready = true;
             }
+        }
+    }
+
+    /// Whether `tokens`, those of a wait, name the connection and nothing else.
+    pub fn is_alone_in(tokens: &[usize]) -> bool
+        ensures { IsTrue result ↔ (tokens.now ≡ TOKEN ∷ []) }
+    {
+        match tokens {
+            [token] => *token == TOKEN,
+            _ => false,
+        }
+    }
+
+    /// Whether a server is connected, nothing is unsent, and the connection is not over: then neither
+    /// [`send`](IrcConnection::send) nor [`let_go`](IrcConnection::let_go) does anything.
+    pub fn is_still(&self) -> bool
+        ensures { result ≡ is_still_in (talk_in self.now.session) }
+    {
+        match &self.session {
+            Some(session) => {
+                let connection = &session.wire.connection;
+                connection.unsent.is_empty() && !connection.is_over
+            }
+            None => false,
         }
     }
 

@@ -23,6 +23,7 @@ enum Asked {
     CronArgs,
     Events,
     Feed,
+    Few,
     Flags,
     Fold,
     FoldBy,
@@ -61,7 +62,7 @@ enum Asked {
     Zone,
 }
 
-const ASKED: [(&[u8], Asked); 48] = [
+const ASKED: [(&[u8], Asked); 49] = [
     (b"ban", Asked::Ban),
     (b"banby", Asked::BanBy),
     (b"binds", Asked::Binds),
@@ -74,6 +75,7 @@ const ASKED: [(&[u8], Asked); 48] = [
     (b"cronargs", Asked::CronArgs),
     (b"events", Asked::Events),
     (b"feed", Asked::Feed),
+    (b"few", Asked::Few),
     (b"flags", Asked::Flags),
     (b"fold", Asked::Fold),
     (b"foldby", Asked::FoldBy),
@@ -142,6 +144,7 @@ fn answer_to(asked: Asked, alloc: Global, words: &[Text], out: &mut Sink) -> Res
         Asked::CronArgs => civil::civil(alloc, Form::CronArgs, words, out),
         Asked::Events => events::events(alloc, words, out),
         Asked::Feed => lines::feed(alloc, words, out),
+        Asked::Few => journals::few(words, out),
         Asked::Flags => flags::met(words, out),
         Asked::Fold => casemapping::fold(alloc, words, out),
         Asked::FoldBy => casemapping::fold_by(alloc, words, out),

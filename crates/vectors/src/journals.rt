@@ -4,7 +4,7 @@ ghost use Rattle.disks.specs.State.{IsSettled};
 ghost use Rattle.disks.specs.Memory.{state_of};
 ghost use Rattle.bytejournal.specs.Journal.{IsSound};
 
-use bytejournal::{Disks, Journal, JournalError, Opened, Returned};
+use bytejournal::{Disks, Journal, JournalError, Opened, Returned, has_few_after};
 use bytetext::Text;
 use caselines::{BAD_NUMBER, BAD_WORDS, CaseError, Sink, cut, number};
 use disks::{MemDisk, Tear};
@@ -23,6 +23,20 @@ pub fn journal(alloc: Global, words: &[Text], out: &mut Sink) -> Result<(), Case
             Some(journal) => journal,
             None => return Ok(()),
         };
+    }
+    Ok(())
+}
+
+/// Answers `few BYTES` on `out`: `few` if the gates show that after the one that ends these bytes of a disk stands no more
+/// than a crash may leave there, or else `more`.
+pub fn few(words: &[Text], out: &mut Sink) -> Result<(), CaseError> {
+    let [bytes] = words else {
+        return Err(BAD_WORDS);
+    };
+    if has_few_after(bytes.as_bytes()) {
+        out.put(b"few");
+    } else {
+        out.put(b"more");
     }
     Ok(())
 }

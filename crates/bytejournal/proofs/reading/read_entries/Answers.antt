@@ -1,12 +1,7 @@
-use Rattle.std.proofs.Common.{◌≡◌, Some, arith, drop, ◌+◌, ◌-◌, List, ℕ, [], ◌∷◌, ◌++◌, length, take, sym, ◌∙◌, ap, subst}
-use Rattle.std.proofs.lemmas.List.{take_all, length-drop}
+use Rattle.std.proofs.Common.{◌≡◌, Some, drop, ◌+◌, List, ℕ, [], ◌∷◌, ◌++◌, length, take, sym, ◌∙◌, ap, subst}
 use Rattle.bytejournal.specs.Meaning.{sized, AreEntries}
-use Rattle.bytejournal.proofs.Passing.{entry_inside, entries_go_on, entries_cut}
+use Rattle.bytejournal.proofs.Passing.{after_gate, entry_inside, entries_go_on, entries_cut}
 use Rattle.bytejournal.proofs.reading.read_entries.Goals as goal
-
--- the range from a place on
-after_gate : (bytes : List ℕ) (gate : ℕ) → take (length bytes - (gate + 1)) (drop (gate + 1) bytes) ≡ drop (gate + 1) bytes
-after_gate bytes gate = take_all (length bytes - (gate + 1)) (drop (gate + 1) bytes) (omega (arith, length-drop (gate + 1) bytes))
 
 pub loop-gate-preserved : goal.loop-gate-preserved
 loop-gate-preserved c =

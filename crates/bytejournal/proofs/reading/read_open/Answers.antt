@@ -1,7 +1,5 @@
-use Rattle.std.proofs.Common.{◌≡◌, ◌+◌, ℕ, List, ◌∷◌, ◌++◌, Some, length, sym, ◌∙◌, ap, subst, MatchOption, None}
-use Rattle.std.proofs.lemmas.Slice.Eq.{strip_prefix_is}
-use Rattle.std.proofs.lemmas.Bool.Decides.{Decides-eqb}
-use Rattle.bytejournal.specs.Meaning.{letters, entries_of}
+use Rattle.std.proofs.Common.{◌≡◌, ◌+◌, ℕ, List, ◌∷◌, length, sym, subst, MatchOption, None}
+use Rattle.bytejournal.specs.Meaning.{entries_of}
 use Rattle.bytejournal.specs.Reading.{HasEntries, IsFound}
 use Rattle.bytejournal.proofs.Starts.{is_found}
 use Rattle.bytejournal.proofs.reading.read_open.Goals as goal
@@ -17,13 +15,9 @@ copied bytes base copy layout generation size gate entries same long found =
 pub returns : goal.returns
 returns c =
     let bytes = c.args.bytes.now in
-    let layout = c.in-Some-split_first.layout.now in
-    let numbers = c.in-Some-split_first.rest.now in
-    let rest = c.in-Some-text_front.rest.now in
-    let begins : bytes ≡ letters ++ (layout ∷ numbers) = strip_prefix_is Decides-eqb bytes letters (Some c.in-Some.rest) c.in-Some.ensures.cases
-    ∙ ap (λ (l : List ℕ). letters ++ l) c.in-Some-split_first.ensures.cases.0 in
-    let has : HasEntries rest c.in-Some-2.found = subst (λ o. MatchOption o (entries_of rest ≡ None) (HasEntries rest)) c.in-Some-2.is c.in_ok-found.ensures in
-    copied (1 ∷ bytes) c.in-Some-text_front.base.now c.in_ok-base.base layout c.in-Some-number_front.generation c.len.result c.in-Some-2.found.gate
+    let front = c.in-Some.front in
+    let is = c.in-Some.ensures in
+    let has : HasEntries front.rest.now c.in-Some-2.found = subst (λ o. MatchOption o (entries_of front.rest.now ≡ None) (HasEntries front.rest.now)) c.in-Some-2.is c.in_ok-found.ensures in
+    copied (1 ∷ bytes) front.base.now c.in_ok-base.base front.layout front.generation c.len.result c.in-Some-2.found.gate
     c.in-Some-2.found.texts c.in_ok-base.ensures c.len.ensures
-    (is_found bytes numbers c.in-Some-number_front.rest.now c.in-Some-text_front.base.now rest layout c.in-Some-number_front.generation begins
-    c.in-Some-number_front.ensures c.in-Some-text_front.ensures c.in-Some-2.found has)
+    (is_found bytes is.numbers is.sizes front.base.now front.rest.now front.layout front.generation is.begins is.number is.text c.in-Some-2.found has)

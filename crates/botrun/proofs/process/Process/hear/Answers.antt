@@ -1,11 +1,13 @@
-use Rattle.std.proofs.Common.{◌∙◌, Bool, false, ap, refl, sym}
+use Rattle.std.proofs.Common.{◌∙◌, Bool, false, List, ap, refl, sym}
+use Rattle.sharelink.specs.declared.answer.Outgoing.{Outgoing}
+use Rattle.watching.specs.Following.{after_sends}
 use Rattle.peers.specs.Tells.{granted}
 use Rattle.upkeep.specs.Flooding.{begun_with, heard_lines}
 use Rattle.botrun.specs.Trusting.{trusts}
 use Rattle.upkeep.specs.Spaces.{admitted}
 use Rattle.watching.proofs.FollowingLemmas.{at_watched}
 use Rattle.watching.proofs.SendingLemmas.{even_heard, lets_all, up_sent}
-use Rattle.botrun.proofs.TakingLemmas.{all_admitted, all_taken, goes_on_from}
+use Rattle.botrun.proofs.TakingLemmas.{all_admitted, all_taken, goes_on_from, stays}
 use Rattle.botrun.proofs.process.Process.hear.Goals as goal
 
 pub watched_packets-requires : goal.watched_packets-requires
@@ -43,6 +45,44 @@ pump-requires g c =
           (even_heard _ _ _ _ _ _ _ _ _ c.requires.even packets.follows packets.watched packets.quiet packets.told)
           turn.follows turn.watched turn.queues.unsent_is (turn.queues.none passed.done) (turn.queues.ticked passed.done)
           passed.past refl passed.told;
+    }
+
+pub returns-then-is_quiet : goal.returns-then-is_quiet
+returns-then-is_quiet g c =
+    let packets = c.watched_packets.ensures in
+    let turn = c.take_turn-told.ensures in
+    let nothing = c.is_quiet-is_quiet.ensures c.if-is_quiet.true in
+    record {
+      hears = record {
+        heard = record {
+          connected = c.args.connected;
+          bytes = c.in_ok-bytes.bytes;
+          packets = c.admit-packets.result;
+          changes = c.new-changes.result;
+          now = c.args.now;
+          pump = c.is_pump_due-pumps.result;
+          compact = false;
+        };
+        same = c.in_ok-bytes.ensures
+            ∙ ap (heard_lines (trusts c.args.self.now.bot) c.args.now (begun_with c.args.settings.now.floods c.args.connected c.args.self.now.floods))
+            (c.as_slice-sent.ensures.value ∙ c.take_heard-heard.ensures.all);
+        left = c.watched_packets.new.mailbox.mail.links;
+        waiting = c.in_ok-waiting.waiting.items;
+        taken = c.in_ok-waiting.ensures.gives;
+        packets = c.admit-packets.ensures.packets
+            ∙ ap (admitted c.args.self.now.space.room) (c.taken_requests-granted.ensures.packets
+            ∙ ap (λ (b : Bool). granted b c.in_ok-waiting.waiting.items) c.hands_over-hands_over.ensures);
+        told = c.take_turn-told.result;
+        mid = c.take_turn-told.new.bot;
+        between = c.take_turn-told.new.lines;
+        turn = turn.turn;
+        rest = stays _ _ _ _;
+      };
+      up = up_sent _ _ _ _ _ _ _ _ _ _ _ _ _ _
+          (even_heard _ _ _ _ _ _ _ _ _ c.requires.even packets.follows packets.watched packets.quiet packets.told)
+          turn.follows turn.watched turn.queues.unsent_is (turn.queues.none nothing.0) (turn.queues.ticked nothing.0)
+          (ap (λ (ps : List Outgoing). after_sends ps (g.W.Watcher.past c.take_turn-told.new.watcher)) (sym nothing.1)) refl
+          (packets.told ∙ c.requires.even.settled.told_is ∙ sym packets.quiet.sent_is ∙ sym turn.queues.sent_is);
     }
 
 pub returns : goal.returns
