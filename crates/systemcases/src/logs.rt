@@ -1,36 +1,25 @@
 // The log of a process, over a file and over a pipe.
 use crate::seen::{Seen, yes};
 use net::{Log, MAX_LOG_LINE, MAX_LOG_WAITING};
-use std::fs::{File, OpenOptions};
+use std::fs::File;
 use std::io::{PipeReader, Read as _};
 use std::net::Net;
-use std::os::fd::{AsRawFd as _, IntoRawFd as _};
+use std::os::fd::AsRawFd as _;
 use std::rt::Files;
 use std::{fs, io};
 
 // How many of the longest lines may wait: more than a pipe of Linux takes, which has 16 pages.
 const MOST_LINES: usize = MAX_LOG_WAITING / (MAX_LOG_LINE + 1);
 
-/// Makes standard output a file, then a pipe, logs to them, and makes it again what it was. A new file must get the
-/// descriptor 0, so standard input must be closed.
+/// Makes standard output a file, then a pipe, and logs to them. Leaves it closed. A new file must get the descriptor 0, so
+/// standard input must be closed.
 pub fn logs<R: AllocGlobal + Files<File = File> + Net + Print>(
     rt: &R,
     seen: &mut Seen,
 ) -> io::Result<()> {
-    let output = opened(rt, "/dev/stdout")?.try_clone()?;
     libc::close(libc::STDOUT_FILENO);
     to_file(rt, seen)?;
-    to_pipe(rt, seen)?;
-    let name = format!(in rt.alloc(); "/proc/self/fd/{}", output.as_raw_fd())?;
-    let _descriptor_0 = opened(rt, &name)?;
-    opened(rt, &name)?.into_raw_fd();
-    Ok(())
-}
-
-fn opened<R: Files<File = File>>(rt: &R, name: &str) -> io::Result<File> {
-    let mut options = OpenOptions::new();
-    options.write(true);
-    options.open(rt, name)
+    to_pipe(rt, seen)
 }
 
 // Logs to a file, which can't be watched.

@@ -51,8 +51,9 @@ use crate::stops::stops;
 use crate::writes::writes;
 use std::fs::File;
 use std::io;
-use std::io::Write as _;
+use std::io::ErrorKind;
 use std::net::Net;
+use std::os::fd::{AsFd as _, AsRawFd as _, OwnedFd};
 use std::random::RandomSource;
 use std::rt::Files;
 use std::time::Clock;
@@ -66,9 +67,26 @@ fn main(rt: HostRuntime) -> anyhow::Result<()> {
     play(&rt, &mut seen);
     tidy(&rt);
     play_sockets(&rt, &mut seen)?;
+    // The cases of logs close standard output. It may be a pipe of another user, which can't be opened again by its name.
+    let output = rt.stdout().as_fd().try_clone_to_owned()?;
     logs(&rt, &mut seen)?;
     let text = seen.into_bytes()?;
-    io::writer(&rt).write_all(&text)?;
+    print(&output, &text)?;
+    Ok(())
+}
+
+// Writes all of a text.
+fn print(output: &OwnedFd, text: &[u8]) -> io::Result<()> {
+    let mut rest = text;
+    for _write in 0..text.len() {
+        if rest.is_empty() {
+            return Ok(());
+        }
+        match usize::try_from(libc::write(output.as_raw_fd(), rest)) {
+            Ok(count) if count <= rest.len() => rest = &rest[count..],
+            Ok(_) | Err(_) => return Err(io::Error::from(ErrorKind::WriteZero)),
+        }
+    }
     Ok(())
 }
 
