@@ -33,9 +33,11 @@ AreCopies copies = IsSettled (state_of copies.first) × IsSettled (state_of copi
 abbrev pub AreUncut : Stopped → Type 0
 AreUncut copies = is_cut_short copies.first.content copies.second.content ≡ false
 
+-- the same of two disks in files
 abbrev pub AreUncutDisks : Pair → Type 0
 AreUncutDisks disks = is_cut_short disks.first.mirror.content disks.second.mirror.content ≡ false
 
+-- the journal that is found was not cut short
 abbrev pub IsUncut : Begun → Type 0
 IsUncut (Found disks) = AreUncutDisks disks
 IsUncut (Empty disks) = Unit {0}

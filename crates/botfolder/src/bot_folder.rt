@@ -101,7 +101,7 @@ impl BotFolder {
         rt: &R,
     ) -> Result<Begun, FolderError>
         ensures begun { IfOk result IsBegun }
-        // Its device did not cut a journal short that is found.
+        // No device cut short the journal that is found.
         ensures uncut { IfOk result IsUncut }
     {
         if is_there(rt, self.path(), JOURNAL)? {

@@ -31,26 +31,7 @@ none_open zero bytes closed = refl
 none_open (suc limit) [] closed = refl
 none_open (suc limit) (gate ∷ rest) closed = rw closed refl
 
--- ---- the first gate isn't open
-
-module _ (gate : ℕ) (rest : List ℕ) (shut : gate ≢ 1) where
-  after_shut : (holds : Held) → from_letters rest ≡ holds → AreFew None (if_open holds) → HasFewAfter (gate ∷ rest)
-  after_shut holds is few =
-      let closed : eqb gate 1 ≡ false = eqb_not gate 1 shut in
-      let inside : ltb 0 (suc (length rest)) ≡ true = grind (arith, nat_tests) in
-      rw (closed, inside, is) few
-
-  pub shut_unread : from_letters rest ≡ Broken → HasFewAfter (gate ∷ rest)
-  shut_unread is = after_shut Broken is tt
-
-  pub shut_few : (front : Front) → HasFront rest front → is_open front.rest.now ≡ false → HasFewAfter (gate ∷ rest)
-  shut_few front is closed =
-      after_shut (extended (start_of front) (Some []))
-      (front_read rest front is ∙ ap (extended (start_of front)) (none_open (length front.rest.now) front.rest.now closed)) refl
-
--- ---- the first gate is open
-
-pub open_unread : (rest : List ℕ) → from_letters rest ≡ Broken → HasFewAfter (1 ∷ rest)
+open_unread : (rest : List ℕ) → from_letters rest ≡ Broken → HasFewAfter (1 ∷ rest)
 open_unread rest is = rw is tt
 
 -- what an open gate after the entries leaves of them

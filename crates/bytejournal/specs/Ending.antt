@@ -72,7 +72,7 @@ abbrev pub is_open : List ℕ → Bool
 is_open [] = false
 is_open (gate ∷ rest) = gate == 1
 
--- what an open gate leaves of these bytes is no entry, or one before a gate that isn't open
+-- after an open gate these bytes are read as no entry, or as one before a gate that isn't open
 abbrev pub IsAtMostOne : List ℕ → Type 0
 IsAtMostOne bytes = (text more : List ℕ) → sized bytes ≡ Some (text, more) → is_open more ≡ false
 

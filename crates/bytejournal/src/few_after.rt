@@ -4,9 +4,9 @@ ghost use Rattle.bytejournal.specs.Ending.{HasFewAfter, HasFewMore, is_open};
 
 use crate::reading::{end_of_entries, front_of, text_front};
 
-/// Whether after the gate that ends these bytes, a disk's, stands no more than a crash may leave there: at most one entry,
-/// or if the first gate isn't open, none. It takes no memory. If the answer is `false`, [`ending_of`](crate::ending_of)
-/// tells what stands there: a second entry that is cut short also makes the answer `false`.
+/// Whether the gates of these bytes of a disk show that a crash may have left them: after the gate that ends the disk stands
+/// at most one entry, or no entry if its first gate isn't open. It takes no memory. If the answer is `false`, a crash may
+/// still have left them, since a second entry may be cut short: ask [`ending_of`](crate::ending_of).
 pub fn has_few_after(bytes: &[u8]) -> bool
     ensures { result ≡ true → HasFewAfter bytes.now }
 {

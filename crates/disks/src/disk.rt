@@ -31,7 +31,7 @@ pub trait Disk: Drop {
     /// Returns all bytes if the disk has them at hand, so that they need not be read: a read of the whole disk would give
     /// the same.
     fn held(&self) -> Option<&[u8]>
-        ensures { IfSome result (λ bytes. bytes.now ≡ (state self.now).seen) };
+        ensures bytes { IfSome result (λ bytes. bytes.now ≡ (state self.now).seen) };
 
     /// Reads from the offset `at` into `buf`, and returns how many bytes it read: `buf` is filled, or read up to the
     /// disk's end.

@@ -1,5 +1,5 @@
 // A disk in a file, with a mirror in memory of what it holds.
-ghost use Rattle.std.specs.Prelude.{◌≡◌, ◌≤ℤ◌, pos, ◌≤◌, ◌<◌, ◌+◌, [], length, true, false, IsTrue, IfOk, IfSome, OnOk, OnErr};
+ghost use Rattle.std.specs.Prelude.{◌≡◌, ◌≤ℤ◌, pos, ◌≤◌, ◌<◌, ◌+◌, [], length, true, false, IsTrue, IfOk, IfSome, None, OnOk, OnErr};
 ghost use Rattle.disks.specs.Events.{openings};
 ghost use Rattle.disks.specs.State.{IsSettled, may_leave};
 ghost use Rattle.disks.specs.Calls.{Holds, Tears, Elapses, HasCause, Spends, SameBytes};
@@ -167,7 +167,9 @@ impl Disk for FileDisk {
 
     /// Returns what the mirror holds; `None` after `end_reads`, or once the file has failed.
     fn held(&self) -> Option<&[u8]>
-        ensures { IfSome result (λ bytes. bytes.now ≡ (state_of self.now.mirror).seen) }
+        ensures bytes { IfSome result (λ bytes. bytes.now ≡ (state_of self.now.mirror).seen) }
+
+        ensures broken { self.now.broken ≡ true → result ≡ None }
     {
         if self.broken {
             return None;

@@ -233,7 +233,7 @@ impl HubState {
     fn take_all(&mut self, alloc: Global, entries: Seq<Entry>) -> Result<(), StateError>
         ensures { TakesAll hub_record hub_folded self.old entries result self.new }
     {
-        // Nearly all entries are accepted changes.
+        // Room for all at once: nearly all entries are accepted changes.
         self.tail.reserve(entries.len())?;
         for entry in entries.into_vec() {
             match self.take(alloc, entry) {

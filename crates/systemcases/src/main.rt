@@ -75,7 +75,7 @@ fn main(rt: HostRuntime) -> anyhow::Result<()> {
     Ok(())
 }
 
-// Writes all of a text.
+// Writes all of a text. Each write takes a byte or more, so there are no more writes than bytes.
 fn print(output: &OwnedFd, text: &[u8]) -> io::Result<()> {
     let mut rest = text;
     for _write in 0..text.len() {
@@ -83,7 +83,7 @@ fn print(output: &OwnedFd, text: &[u8]) -> io::Result<()> {
             return Ok(());
         }
         match usize::try_from(libc::write(output.as_raw_fd(), rest)) {
-            Ok(count) if count <= rest.len() => rest = &rest[count..],
+            Ok(count) if 0 < count && count <= rest.len() => rest = &rest[count..],
             Ok(_) | Err(_) => return Err(io::Error::from(ErrorKind::WriteZero)),
         }
     }
