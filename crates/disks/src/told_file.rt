@@ -7,7 +7,7 @@ use crate::disk::DiskFault;
 use crate::file_fault::{FileDiskError, FileFault, error_of, not_kept};
 use crate::history::History;
 use bytetext::Failure;
-use std::alloc::Global;
+use std::alloc::{AllocError, Global};
 use std::fs::{File, TryLockError};
 use std::marker::Model;
 use std::os::fd::AsRawFd as _;
@@ -16,6 +16,9 @@ use std::snapshot::Snapshot;
 
 /// The first descriptor that belongs to none of the standard streams.
 const FIRST_OWN: i32 = 3;
+
+/// The largest block that the allocator is to keep once it is freed, in bytes.
+const LARGE: usize = 512 * 1_024;
 
 /// A locked file, and for contracts what was written to it.
 ///
@@ -150,11 +153,20 @@ fn read_file(alloc: Global, file: &File) -> Result<Vec<u8>, FileDiskError> {
         Ok(metadata) => metadata.len() as usize,
         Err(error) => return Err(error_of(error)),
     };
+    keep_large_blocks(alloc);
     let mut bytes = vec![in alloc; 0; len]?;
     match file.read_exact_at(&mut bytes, 0) {
         Ok(()) => Ok(bytes),
         Err(error) => Err(error_of(error)),
     }
+}
+
+/// Has the allocator keep what is freed of blocks of up to 512 KiB. The one of glibc gives each block of more than 128 KiB
+/// back to the system, until it has seen a larger one freed; then the memory of a file's content serves for what is read
+/// from it, and its pages need not be made anew. Nothing is written to the block here, so it takes no memory.
+fn keep_large_blocks(alloc: Global) {
+    let block: Result<Vec<u8>, AllocError> = Vec::with_capacity(alloc, LARGE);
+    drop(block);
 }
 
 /// Writes a file's content again, and syncs it to its device.

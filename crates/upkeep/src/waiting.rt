@@ -5,10 +5,18 @@ ghost use Rattle.bytetext.specs.declared.moment.TheConstants.{MOMENTS_END};
 use crate::ending::RunError;
 use administrators::Seconds;
 use net::{Timeline, Watch};
-use std::time::Clock;
+use serverlink::IrcConnection;
+use std::thread;
+use std::time::{Clock, Duration};
+
+// How long a process pauses, in milliseconds.
+const PAUSE: u64 = 10;
 
 /// Waits until there may be something to do: not at all unless the process `rests`, and at most until the next second.
 /// Returns what the clocks show after the wait.
+///
+/// If the last wait ended because of the server alone, pauses for 10 ms first, unless the second ends before that. So lines
+/// that come closely after one another share a turn, and a server has a process make at most some hundred turns a second.
 ///
 /// # Errors
 /// `System` if the system cannot wait or tell the time.
@@ -20,7 +28,11 @@ pub fn wait<R: Clock>(
 ) -> Result<Seconds, RunError>
     ensures moment { IfOk result (λ seconds. seconds.wall < MOMENTS_END) }
 {
-    let most = if rests { rest_of_second(rt)? } else { 0 };
+    let mut most = if rests { rest_of_second(rt)? } else { 0 };
+    if most > PAUSE && IrcConnection::is_alone_in(watch.tokens()) {
+        thread::sleep(rt, Duration::from_millis(PAUSE));
+        most -= PAUSE;
+    }
     watch.wait(most)?;
     let since_1970 = rt.since_1970()?.as_secs();
     let steady = rt.monotonic()?.as_secs();

@@ -1,15 +1,18 @@
 -- The items of a mask as codes: one more of them, their parts, and their lower cases.
 use Rattle.std.proofs.Common.{◌≡◌, ℕ, ◌+◌, ◌-◌, ◌<◌, ◌≤◌, List, [], ◌∷◌, ◌++◌, length, take, drop, map, set, refl, sym, subst, ap, ◌∙◌, arith}
-use Rattle.std.specs.Prelude.{count_by, cond}
+use Rattle.std.specs.Prelude.{cond, true, false}
+use Rattle.std.specs.Option.{is_some}
 use Rattle.std.specs.List.{fold}
 use Rattle.std.proofs.lemmas.List.{map-append, append_assoc, append-nil, take_more_set, drop-take, drop-map}
 use Rattle.wildmask.specs.declared.items.Item.{Item}
+use Rattle.wildmask.specs.declared.items.Item.TheVariants.{Literal, AnyByte, AnyText, NoSpace, Spaces}
+use Rattle.wildmask.specs.Signatures.{lower_literal}
 use Rattle.wildmask.specs.Items.{is_literal}
 use Rattle.wildmask.specs.Codes.{lower, decoded, items_in}
 use Rattle.wildmask.specs.Tails.{bytes_of, end_key, front_len, tail_of}
 use Rattle.wildmask.specs.Walks.{AllLower, AllOne}
 use Rattle.wildmask.proofs.RunLemmas.{AllLower-left, AllLower-right, items_in-split}
-use Rattle.wildmask.proofs.TailLemmas.{is_literal-lower, AllLiteral, AllOne-literal, last_literals, bytes_of-literals}
+use Rattle.wildmask.proofs.TailLemmas.{AllLiteral, AllOne-literal, last_literals, bytes_of-literals}
 use Rattle.rfccase.specs.declared.casemappings.Casemapping.{Casemapping}
 
 pub one_code_more : (mapping : Casemapping) (codes : List ℕ) (len code : ℕ) (item : Item) (rest others all : List Item) → len < length codes → decoded code ≡ lower mapping item
@@ -66,13 +69,23 @@ tail_is codes len front within is =
     ap bytes_of items ∙ bytes_of-literals (drop front (take len codes)) literals ∙ end in
     ap (λ xs. end_key 16 xs) (sym bytes)
 
--- ---- lower cases
+-- ---- literals
 
-count_from-lower : (mapping : Casemapping) (a : ℕ) (items : List Item) → fold (λ n item. n + cond (is_literal item) 1 0) a (map (lower mapping) items)
-    ≡ fold (λ n item. n + cond (is_literal item) 1 0) a items
-count_from-lower mapping a [] = refl
-count_from-lower mapping a (item ∷ items) = ap (λ b. fold (λ n i. n + cond (is_literal i) 1 0) (a + cond b 1 0) (map (lower mapping) items)) (is_literal-lower mapping item)
-    ∙ count_from-lower mapping (a + cond (is_literal item) 1 0) items
+-- so many literals, and those of these items
+abbrev pub counted_from : ℕ → List Item → ℕ
+counted_from n items = fold (λ n item. n + cond (is_literal item) 1 0) n items
 
-pub count-lower : (mapping : Casemapping) (items : List Item) → count_by is_literal (map (lower mapping) items) ≡ count_by is_literal items
-count-lower mapping items = count_from-lower mapping 0 items
+is_literal-some : (item : Item) → is_some (lower_literal item) ≡ is_literal item
+is_literal-some (Literal b) = refl
+is_literal-some AnyByte = refl
+is_literal-some AnyText = refl
+is_literal-some NoSpace = refl
+is_literal-some Spaces = refl
+
+-- a literal counts
+pub counted_one : (n : ℕ) (item : Item) (others : List Item) → is_some (lower_literal item) ≡ true → counted_from (n + 1) others ≡ counted_from n (item ∷ others)
+counted_one n item others is = ap (λ b. counted_from (n + cond b 1 0) others) (sym is ∙ is_literal-some item)
+
+-- and what is special doesn't
+pub counted_none : (n : ℕ) (item : Item) (others : List Item) → is_some (lower_literal item) ≡ false → counted_from n others ≡ counted_from n (item ∷ others)
+counted_none n item others is = ap (λ m. counted_from m others) (omega arith) ∙ ap (λ b. counted_from (n + cond b 1 0) others) (sym is ∙ is_literal-some item)

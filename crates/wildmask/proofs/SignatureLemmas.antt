@@ -146,9 +146,6 @@ pairs_needed-lower sums (x ∷ []) = refl
 pairs_needed-lower sums (x ∷ y ∷ items) = ap (λ n. either n (pairs_needed sums (map (lower Rfc1459) (y ∷ items)))) (needed-lower sums x y)
     ∙ ap (λ n. either (needed sums x y) n) (pairs_needed-lower sums (y ∷ items))
 
-pub items_signature-lower : (items : List Item) → items_signature (map (lower Rfc1459) items) ≡ items_signature items
-items_signature-lower = pairs_needed-lower every
-
 pub same_wide : (a b : WidePairs) → a.low ≡ b.low → a.high ≡ b.high → a ≡ b
 same_wide a b low high = ap (λ n. wide n a.high) low ∙ ap (wide b.low) high
   where
@@ -226,17 +223,27 @@ pairs_after-item : (sums : Sums) (x : Item) (items : List Item) → pairs_needed
 pairs_after-item sums x [] = refl
 pairs_after-item sums x (y ∷ items) = refl
 
+-- the next item's pair is told, and what is left are the items after it
+pub items_more : (sums : Sums) (pairs all : Pairs) (before : Option ℕ) (x : Item) (items : List Item)
+    → either pairs (pairs_after sums before (x ∷ items)) ≡ all
+    → either (either pairs (pair_of sums before (lower_literal x))) (pairs_after sums (lower_literal x) items) ≡ all
+items_more sums pairs all before x items h =
+    either-assoc pairs (pair_of sums before (lower_literal x)) _
+    ∙ ap (λ n. either pairs (either (pair_of sums before (lower_literal x)) n)) (sym (pairs_after-item sums x items)) ∙ h
+
+pub items_end : (sums : Sums) (pairs all : Pairs) (before : Option ℕ) (items : List Item) → items ≡ []
+    → either pairs (pairs_after sums before items) ≡ all → pairs ≡ all
+items_end sums pairs all before items none h =
+    sym (either-none pairs) ∙ ap (λ (xs : List Item). either pairs (pairs_after sums before xs)) (sym none) ∙ h
+
 pub literals_more : (sums : Sums) (pairs all : Pairs) (before : Option ℕ) (codes : List ℕ) (i : ℕ) → i < length codes
     → either pairs (pairs_after sums before (items_in (drop i codes))) ≡ all
     → either (either pairs (pair_of sums before (lower_literal (decoded (get_or codes i 0)))))
     (pairs_after sums (lower_literal (decoded (get_or codes i 0))) (items_in (drop (suc i) codes))) ≡ all
 literals_more sums pairs all before [] i lt h = absurd (omega (arith, lt))
-literals_more sums pairs all before (x ∷ codes) zero lt h =
-    either-assoc pairs (pair_of sums before (lower_literal (decoded x))) _
-    ∙ ap (λ n. either pairs (either (pair_of sums before (lower_literal (decoded x))) n)) (sym (pairs_after-item sums (decoded x) (items_in codes))) ∙ h
+literals_more sums pairs all before (x ∷ codes) zero lt h = items_more sums pairs all before (decoded x) (items_in codes) h
 literals_more sums pairs all before (x ∷ codes) (suc i) lt h = literals_more sums pairs all before codes i (omega (arith, lt)) h
 
 pub literals_end : (sums : Sums) (pairs all : Pairs) (before : Option ℕ) (codes : List ℕ) (i : ℕ) → length codes ≤ i
     → either pairs (pairs_after sums before (items_in (drop i codes))) ≡ all → pairs ≡ all
-literals_end sums pairs all before codes i past h =
-    sym (either-none pairs) ∙ ap (λ (xs : List ℕ). either pairs (pairs_after sums before (items_in xs))) (sym (drop_all i codes past)) ∙ h
+literals_end sums pairs all before codes i past h = items_end sums pairs all before (items_in (drop i codes)) (ap items_in (drop_all i codes past)) h

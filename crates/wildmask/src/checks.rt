@@ -1,6 +1,6 @@
 // Which texts are masks.
 ghost use Rattle.std.specs.Prelude.{◌≡◌, ◌==◌, nat_lt, position};
-ghost use Rattle.std.specs.List.{list_all};
+ghost use Rattle.std.specs.List.{list_all, list_any};
 ghost use Rattle.wildmask.specs.Masks.{fault_of, bind_fault, host_fault, is_hostmask, is_person_mask, is_account_mask, is_account_byte};
 
 use crate::faults::MaskFault;
@@ -52,7 +52,14 @@ fn is_person_mask(text: &[u8]) -> bool
     let Some(bang) = first_bang(text) else {
         return false;
     };
-    is_printable(text) && text[bang + 1..].contains(&b'@')
+    is_printable(text) && has_at(&text[bang + 1..])
+}
+
+// Whether a byte is an `@`. Most texts have one among their first bytes, so this looks at one byte at a time.
+fn has_at(text: &[u8]) -> bool
+    ensures { result ≡ list_any (λ b. b == 64) text.now }
+{
+    text.iter().any(|byte| *byte == b'@')
 }
 
 fn is_printable(text: &[u8]) -> bool

@@ -37,6 +37,7 @@ mod counts;
 mod faults;
 mod items;
 mod masks;
+mod needs;
 mod pattern;
 mod places;
 mod runs;

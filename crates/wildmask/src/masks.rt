@@ -4,6 +4,7 @@ use crate::checks::fault_of;
 use crate::counts::Count;
 use crate::faults::MaskError;
 use crate::items::{MaskKind, ends_plainly};
+use crate::needs::needs_of;
 use crate::pattern::Pattern;
 use crate::signatures::Signature;
 use crate::tails::{MOST_BYTES, Tail};
@@ -87,15 +88,13 @@ impl Mask {
         ensures { Makes kind text.now result }
     {
         refuse(fault_of(kind, text))?;
-        let pattern = Pattern::of(Casemapping::Rfc1459, kind, text);
-        let literals = pattern.literals();
-        let signature = pattern.signature();
+        let needs = needs_of(kind, text);
         let text = Text::from_slice(alloc, text)?;
         Ok(Mask {
             kind,
             text,
-            literals,
-            signature,
+            literals: needs.literals,
+            signature: needs.pairs,
         })
     }
 

@@ -1,9 +1,8 @@
 // The items of a mask, ready to match. They are apart from `Mask` so that one place ties its text to its items.
-ghost use Rattle.std.specs.Prelude.{◌≡◌, ◌↔◌, ◌+◌, ◌*◌, ◌≤◌, IsTrue, count_by, length, map};
+ghost use Rattle.std.specs.Prelude.{◌≡◌, ◌↔◌, ◌+◌, ◌*◌, ◌≤◌, IsTrue, length, map};
 ghost use Rattle.wildmask.specs.Codes.{items_in, lower};
-ghost use Rattle.wildmask.specs.Items.{items_of, is_literal};
+ghost use Rattle.wildmask.specs.Items.{items_of};
 ghost use Rattle.wildmask.specs.Matching.{Matches};
-ghost use Rattle.wildmask.specs.Signatures.{items_signature};
 ghost use Rattle.wildmask.specs.WideSignatures.{wide_items_signature};
 ghost use Rattle.wildmask.specs.Tails.{front_len, tail_of};
 ghost use Rattle.wildmask.specs.Walks.{AllLower};
@@ -12,7 +11,6 @@ use crate::codes::{code_of, is_literal};
 use crate::counts::Count;
 use crate::items::{MaskKind, next_item};
 use crate::runs::matches_end_first;
-use crate::signatures::Signature;
 use crate::tails::Tail;
 use crate::wide_signatures::WideSignature;
 use rfccase::Casemapping;
@@ -72,29 +70,11 @@ impl Pattern {
         matches_end_first(mapping, front, end, text, count)
     }
 
-    /// Returns the number of literals among the items.
-    pub fn literals(&self) -> u8
-        ensures { result ≡ count_by is_literal self.now }
-    {
-        let count = self.codes[..self.len]
-            .iter()
-            .filter(|code| is_literal(**code))
-            .count();
-        count as u8
-    }
-
     /// Returns the literals at the end, the last 16 at most.
     pub fn tail(&self) -> Tail
         ensures { result ≡ tail_of self.now }
     {
         Tail::of_end(&self.codes[self.front..self.len], MOST_ITEMS)
-    }
-
-    /// Returns the pairs that the items need.
-    pub fn signature(&self) -> Signature
-        ensures { result ≡ items_signature self.now }
-    {
-        Signature::needed_by(&self.codes[..self.len])
     }
 
     /// Returns the pairs that the items need, in 256 places.

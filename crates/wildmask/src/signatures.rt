@@ -1,9 +1,7 @@
 // The pairs of adjacent bytes that a text has, and those that a mask needs.
 ghost use Rattle.std.specs.Prelude.{◌≡◌};
-ghost use Rattle.wildmask.specs.Codes.{decoded, items_in};
-ghost use Rattle.wildmask.specs.Signatures.{every, either, lower_literal, pair, pair_of as pair_of_both, text_signature, items_signature, is_within};
+ghost use Rattle.wildmask.specs.Signatures.{every, either, lower_literal, pair, pair_of as pair_of_both, text_signature, is_within};
 
-use crate::codes::item_of;
 use crate::items::Item;
 use rfccase::fold;
 use std::marker::Model;
@@ -59,20 +57,6 @@ impl Signature {
         self.first & text.first == self.first && self.second & text.second == self.second
     }
 
-    // The pairs that a mask with these items needs.
-    pub(crate) fn needed_by(codes: &[u8]) -> Signature
-        ensures { result ≡ items_signature (items_in codes.now) }
-    {
-        let mut pairs = NONE;
-        let mut before = None;
-        for code in codes {
-            let lower = lower_literal(*code);
-            pairs = pairs.or(pair_between(before, lower));
-            before = lower;
-        }
-        pairs
-    }
-
     // The pairs of both.
     pub(crate) fn or(self, other: Signature) -> Signature
         ensures { result ≡ either self other }
@@ -84,18 +68,18 @@ impl Signature {
     }
 }
 
-// The lower case of a literal, if the item of a code is one.
-pub(crate) fn lower_literal(code: u8) -> Option<u8>
-    ensures { result ≡ lower_literal (decoded code) }
+// The lower case of a literal, if the item is one.
+pub(crate) fn lower_literal(item: Item) -> Option<u8>
+    ensures { result ≡ lower_literal item }
 {
-    match item_of(code) {
+    match item {
         Item::Literal(byte) => Some(fold(byte)),
         Item::AnyByte | Item::AnyText | Item::NoSpace | Item::Spaces => None,
     }
 }
 
 // The pair of the lower cases of two adjacent literals; without one of them, none.
-fn pair_between(first: Option<u8>, second: Option<u8>) -> Signature
+pub(crate) fn pair_between(first: Option<u8>, second: Option<u8>) -> Signature
     ensures { result ≡ pair_of_both every first second }
 {
     match (first, second) {
@@ -109,8 +93,10 @@ pub(crate) fn pair_of(a: u8, b: u8) -> Signature
     ensures { result ≡ pair a b }
 {
     let place = (u32::from(a) + u32::from(b) * 23) % 128;
+    let is_first = place < 64;
+    let bit = 1 << (if is_first { place } else { place - 64 });
     Signature {
-        first: if place < 64 { 1 << place } else { 0 },
-        second: if place < 64 { 0 } else { 1 << (place - 64) },
+        first: if is_first { bit } else { 0 },
+        second: if is_first { 0 } else { bit },
     }
 }

@@ -3,6 +3,7 @@ ghost use Rattle.std.specs.Prelude.{◌≡◌};
 ghost use Rattle.wildmask.specs.Codes.{items_in};
 ghost use Rattle.wildmask.specs.WideSignatures.{wide_either, wide_pair, wide_pair_of_both, wide_text_signature, wide_items_signature, is_wide_within};
 
+use crate::codes::item_of;
 use crate::signatures::{NONE, Signature, lower_literal, pair_of};
 use rfccase::fold;
 use std::marker::Model;
@@ -64,7 +65,7 @@ impl WideSignature {
         let mut pairs = NO_PAIRS;
         let mut before = None;
         for code in codes {
-            let lower = lower_literal(*code);
+            let lower = lower_literal(item_of(*code));
             pairs = pairs.or(wide_pair_between(before, lower));
             before = lower;
         }

@@ -1,14 +1,10 @@
 use Rattle.std.proofs.Common.{◌≡◌, List, ℕ, ap, ◌∙◌, sym, subst, refl, Option, Some, None, Ok}
-use Rattle.std.specs.Prelude.{count_by}
 use Rattle.bytetext.specs.Refusals.{refused_with}
 use Rattle.wildmask.specs.declared.faults.MaskFault.{MaskFault}
-use Rattle.wildmask.specs.Items.{is_literal, items_of, literals_of}
+use Rattle.wildmask.specs.Items.{items_of, literals_of}
 use Rattle.wildmask.specs.Masks.{fault_of}
 use Rattle.wildmask.specs.Signatures.{items_signature}
-use Rattle.wildmask.proofs.PatternLemmas.{count-lower}
-use Rattle.wildmask.proofs.SignatureLemmas.{items_signature-lower}
 use Rattle.wildmask.proofs.masks.Mask.of.Goals as goal
-use Rattle.rfccase.specs.declared.casemappings.Casemapping.TheVariants.{Rfc1459}
 
 not_refused : (fault : Option MaskFault) → refused_with fault ≡ Ok tt → fault ≡ None
 not_refused None ok = refl
@@ -18,8 +14,6 @@ pub invariant_of-result : goal.invariant_of-result
 invariant_of-result c = (
   subst (λ (text : List ℕ). fault_of c.args.kind text ≡ None) (sym c.in_ok-text.ensures) (sym c.fault_of.ensures
       ∙ not_refused c.fault_of.result (sym c.refuse.ensures ∙ c.in_ok-refuse.was)),
-  c.literals-literals.ensures ∙ ap (count_by is_literal) c.of-pattern.ensures ∙ count-lower Rfc1459 (items_of c.args.kind c.args.text.now)
-      ∙ ap (λ (text : List ℕ). literals_of c.args.kind text) (sym c.in_ok-text.ensures),
-  c.signature-signature.ensures ∙ ap items_signature c.of-pattern.ensures ∙ items_signature-lower (items_of c.args.kind c.args.text.now)
-      ∙ ap (λ (text : List ℕ). items_signature (items_of c.args.kind text)) (sym c.in_ok-text.ensures),
+  c.needs_of-needs.ensures.literals ∙ ap (λ (text : List ℕ). literals_of c.args.kind text) (sym c.in_ok-text.ensures),
+  c.needs_of-needs.ensures.pairs ∙ ap (λ (text : List ℕ). items_signature (items_of c.args.kind text)) (sym c.in_ok-text.ensures),
 )

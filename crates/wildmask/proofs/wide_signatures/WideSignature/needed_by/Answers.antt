@@ -9,7 +9,7 @@ loop-code-init c = (pairs_after-none is_low (items_in c.args.codes.now), pairs_a
 
 pub loop-code-preserved : goal.loop-code-preserved
 loop-code-preserved c =
-    rw (add-one, c.or-pairs.ensures, c.wide_pair_between.ensures, c.lower_literal-lower.ensures) (
+    rw (add-one, c.or-pairs.ensures, c.wide_pair_between.ensures, c.lower_literal-lower.ensures, c.item_of.ensures) (
       literals_more is_low c.loop-code.pairs.low _ c.loop-code.before _ c.loop-code.code-index c.loop-code-test.true c.loop-code.invariant.0,
       literals_more is_high c.loop-code.pairs.high _ c.loop-code.before _ c.loop-code.code-index c.loop-code-test.true c.loop-code.invariant.1,
     )
