@@ -78,11 +78,11 @@ pub fn same_by(mapping: Casemapping, a: &[u8], b: &[u8]) -> bool
     true
 }
 
-// Whether two bytes have the same lower case by a server's casemapping. Most that do are equal.
+// Whether two bytes have the same lower case by a server's casemapping. Most that do are equal; others are 32 apart.
 fn is_same_byte(mapping: Casemapping, a: u8, b: u8) -> bool
     ensures { result ≡ (low_by mapping a == low_by mapping b) }
 {
-    a == b || fold_by(mapping, a) == fold_by(mapping, b)
+    a == b || (a.abs_diff(b) == 32 && fold_by(mapping, a) == fold_by(mapping, b))
 }
 
 /// Puts the lower case of each byte by a server's casemapping in its place.
