@@ -15,7 +15,7 @@
 //! reads the clocks, connects what is lost and due, reads, has the bot take the turn, executes up to 16 commands of
 //! each admin, writes, and closes the connections that are over. Once such a turn has left nothing to do, a turn of the same
 //! second is short if the server alone may have something to read: it does the rest only if the bot's steps say something.
-//! After a turn that the server alone began, the process pauses for 10 ms, so that lines which come closely after one another
+//! The server alone begins a turn 10 ms after the last one at the earliest, so that lines which come closely after one another
 //! share a turn ([`upkeep::wait`]).
 //!
 //! [`turns::take_turn`] does what the bot itself does, and a bind of an admin is one step of it: nothing is decided

@@ -9,14 +9,15 @@ use serverlink::IrcConnection;
 use std::thread;
 use std::time::{Clock, Duration};
 
-// How long a process pauses, in milliseconds.
-const PAUSE: u64 = 10;
+// The server begins a turn at least this many milliseconds after the last one.
+const APART: u64 = 10;
 
 /// Waits until there may be something to do: not at all unless the process `rests`, and at most until the next second.
 /// Returns what the clocks show after the wait.
 ///
-/// If the last wait ended because of the server alone, pauses for 10 ms first, unless the second ends before that. So lines
-/// that come closely after one another share a turn, and a server has a process make at most some hundred turns a second.
+/// If the server alone ends the wait within 10 ms, pauses until 10 ms have passed since it began, unless the second ends
+/// before that. So lines that come closely after one another share a turn, and a server has a process make at most some
+/// hundred turns a second. A line that comes after a silence is heard at once.
 ///
 /// # Errors
 /// `System` if the system cannot wait or tell the time.
@@ -28,20 +29,34 @@ pub fn wait<R: Clock>(
 ) -> Result<Seconds, RunError>
     ensures moment { IfOk result (λ seconds. seconds.wall < MOMENTS_END) }
 {
-    let mut most = if rests { rest_of_second(rt)? } else { 0 };
-    if most > PAUSE && IrcConnection::is_alone_in(watch.tokens()) {
-        thread::sleep(rt, Duration::from_millis(PAUSE));
-        most -= PAUSE;
+    let left = if rests {
+        left_of_second(rt.since_1970()?)
+    } else {
+        0
+    };
+    watch.wait(left)?;
+    let mut since_1970 = rt.since_1970()?;
+    let pause = pause_after(left, left_of_second(since_1970));
+    if pause > 0 && IrcConnection::is_alone_in(watch.tokens()) {
+        thread::sleep(rt, Duration::from_millis(pause));
+        since_1970 = rt.since_1970()?;
     }
-    watch.wait(most)?;
-    let since_1970 = rt.since_1970()?.as_secs();
     let steady = rt.monotonic()?.as_secs();
-    let wall = timeline.read(since_1970, steady);
+    let wall = timeline.read(since_1970.as_secs(), steady);
     Ok(Seconds { wall, steady })
 }
 
 // The milliseconds that are left of this second, at least 1.
-fn rest_of_second<R: Clock>(rt: &R) -> Result<u64, RunError> {
-    let passed = u64::from(rt.since_1970()?.subsec_millis());
-    Ok(1_000u64.saturating_sub(passed).max(1))
+fn left_of_second(since_1970: Duration) -> u64 {
+    let passed = u64::from(since_1970.subsec_millis());
+    1_000u64.saturating_sub(passed).max(1)
+}
+
+// The milliseconds of a pause after a wait that began with `before` of them left of a second, and ended with `after`.
+fn pause_after(before: u64, after: u64) -> u64 {
+    if before > APART && before >= after {
+        APART.saturating_sub(before - after)
+    } else {
+        0
+    }
 }
