@@ -15,8 +15,8 @@
 //! reads the clocks, connects what is lost and due, reads, has the bot take the turn, executes up to 16 commands of
 //! each admin, writes, and closes the connections that are over. Once such a turn has left nothing to do, a turn of the same
 //! second is short if the server alone may have something to read: it does the rest only if the bot's steps say something.
-//! The server alone begins a turn 10 ms after the last one at the earliest, so that lines which come closely after one another
-//! share a turn ([`upkeep::wait`]).
+//! If the server alone ends the wait for a turn within 10 ms, the process pauses until they have passed, so that lines which
+//! come closely after one another share a turn ([`upkeep::wait`]).
 //!
 //! [`turns::take_turn`] does what the bot itself does, and a bind of an admin is one step of it: nothing is decided
 //! here for the bot. [`serverlink`] keeps the connection to the server, and sends there what the process sends by

@@ -88,8 +88,8 @@ impl Drop for Process {
 pub(crate) enum Turned {
     // There may be more to do at once.
     Busy,
-    // The process rests until an event names a socket, and at most until the next second. After an event of the server
-    // alone that came at once, it first pauses.
+    // The process rests until an event names a socket, and at most until the next second. If the server alone ends that
+    // rest within 10 ms, the next turn begins once they have passed.
     //
     // No event is lost. A wait names a socket once, when something arrives or when there is room for more. So the
     // process asks each named socket, in this turn or a busy one after it, until there is nothing left to ask for:

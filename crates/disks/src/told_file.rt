@@ -161,9 +161,9 @@ fn read_file(alloc: Global, file: &File) -> Result<Vec<u8>, FileDiskError> {
     }
 }
 
-/// Has the allocator keep what is freed of blocks of up to 512 KiB. The one of glibc gives each block of more than 128 KiB
-/// back to the system, until it has seen a larger one freed; then the memory of a file's content serves for what is read
-/// from it, and its pages need not be made anew. Nothing is written to the block here, so it takes no memory.
+/// Allocates a block of 512 KiB, writes nothing to it, and frees it. The allocator of glibc returns each freed block of more
+/// than 128 KiB to the system until it has freed a larger one; from then on it keeps blocks up to that size. So the memory of
+/// a file's content is used again for what is read from it. If the allocation fails, nothing is lost.
 fn keep_large_blocks(alloc: Global) {
     let block: Result<Vec<u8>, AllocError> = Vec::with_capacity(alloc, LARGE);
     drop(block);

@@ -9,15 +9,15 @@ use serverlink::IrcConnection;
 use std::thread;
 use std::time::{Clock, Duration};
 
-// The server begins a turn at least this many milliseconds after the last one.
+// A wait that the server alone ends lasts at least this many milliseconds, with its pause.
 const APART: u64 = 10;
 
 /// Waits until there may be something to do: not at all unless the process `rests`, and at most until the next second.
 /// Returns what the clocks show after the wait.
 ///
-/// If the server alone ends the wait within 10 ms, pauses until 10 ms have passed since it began, unless the second ends
-/// before that. So lines that come closely after one another share a turn, and a server has a process make at most some
-/// hundred turns a second. A line that comes after a silence is heard at once.
+/// If the process rests and the server alone ends the wait within 10 ms, the call pauses until 10 ms have passed since the
+/// wait began. It doesn't if less than 10 ms of the second were left then. So lines that come closely after one another
+/// share a turn, and a line that comes after a silence is heard at once.
 ///
 /// # Errors
 /// `System` if the system cannot wait or tell the time.
