@@ -1,13 +1,14 @@
 -- What it means that a journal was cut short.
-use Rattle.std.proofs.Common.{◌≡◌, ◌⊎◌, inl, inr, ◌-◌, ◌&&◌, ◌||◌, ℕ, Bool, true, false, Option, Some, None, is_some, List, ◌∷◌, length, refl, ap, arith, leb, eqb}
+use Rattle.std.proofs.Common.{◌≡◌, ◌⊎◌, inl, inr, ◌-◌, ◌≤◌, ◌&&◌, ◌||◌, ℕ, Bool, true, false, Option, Some, None, is_some, List, ◌∷◌, length, refl, ap, arith, leb, ltb, eqb}
 use Rattle.std.proofs.lemmas.Bool.Decides.{nat_tests}
 use Rattle.bytejournal.specs.declared.ending.Counted.{Counted}
 use Rattle.bytejournal.specs.declared.ending.IfOpen.{IfOpen}
-use Rattle.bytejournal.specs.Ending.{AreFew, HasFewAfter, ending_of}
+use Rattle.std.specs.Prelude.{nat_lt}
+use Rattle.bytejournal.specs.Ending.{AreFew, ending_of}
 use Rattle.botjournal.specs.declared.TheConstants.{LAYOUT}
 use Rattle.botjournal.specs.declared.sums.Seal.{Seal}
 use Rattle.botjournal.specs.Sums.{start, through, AreCarried}
-use Rattle.botjournal.specs.CutShort.{carries_sums, is_more, is_cut_beside, is_cut, is_cut_short, HasSums}
+use Rattle.botjournal.specs.CutShort.{ShowsUncut, carries_sums, is_more, is_cut_beside, is_cut, is_cut_short, HasSums}
 use Rattle.botjournal.proofs.SumLaws.{carried}
 
 -- ---- what was cut off carries its sums
@@ -59,6 +60,10 @@ neither : (a b : Bool) → a ≡ false → b ≡ false → a || b ≡ false
 neither false b is other = other
 neither true b is other = absurd cc
 
+second_false : (a b : Bool) → b ≡ false → a && b ≡ false
+second_false false b is = refl
+second_false true b is = is
+
 not_both : (a b : Bool) → a ≡ false → a && b ≡ false
 not_both false b is = refl
 not_both true b is = absurd cc
@@ -71,8 +76,23 @@ few_beside other (Some counted) (Some texts) few =
     not_both (is_more other (Some counted) texts) (carries_sums texts)
     (let less : leb 2 (length texts.entries - counted.entries) ≡ false = grind (arith, nat_tests, few) in less)
 
-pub few_are_not_cut : (first second : List ℕ) → HasFewAfter first → HasFewAfter second → is_cut_short first second ≡ false
-few_are_not_cut first second few other =
+-- ---- a disk that wouldn't count either with its first gate open
+
+behind : (shut counts entries : ℕ) (other counted : Option Counted) (found : Option IfOpen) → counted ≡ None
+    → ((texts : IfOpen) → found ≡ Some texts → texts.generation ≡ shut) → other ≡ Some (record { generation = counts; entries = entries })
+    → shut ≤ counts → is_cut_beside other counted found ≡ false
+behind shut counts entries other counted None none is there fits = refl
+behind shut counts entries other counted (Some texts) none is there fits = rw none (rw there
+    (not_both (nat_lt 0 (length texts.entries) && nat_lt counts texts.generation) (carries_sums texts)
+    (second_false (nat_lt 0 (length texts.entries)) (nat_lt counts texts.generation)
+    (let same = is texts refl in let less : ltb counts texts.generation ≡ false = grind (arith, nat_tests, same, fits) in less))))
+
+shown : (bytes other : List ℕ) → ShowsUncut bytes other → is_cut (ending_of other).counted (ending_of bytes) ≡ false
+shown bytes other (inl few) = few_beside (ending_of other).counted (ending_of bytes).counted (ending_of bytes).if_open few
+shown bytes other (inr is) =
+    behind is.0 is.1 is.3.0 (ending_of other).counted (ending_of bytes).counted (ending_of bytes).if_open is.2.0 is.2.1 is.3.1 is.4
+
+pub uncut : (first second : List ℕ) → ShowsUncut first second → ShowsUncut second first → is_cut_short first second ≡ false
+uncut first second one other =
     neither (is_cut (ending_of second).counted (ending_of first)) (is_cut (ending_of first).counted (ending_of second))
-    (few_beside (ending_of second).counted (ending_of first).counted (ending_of first).if_open few)
-    (few_beside (ending_of first).counted (ending_of second).counted (ending_of second).if_open other)
+    (shown first second one) (shown second first other)

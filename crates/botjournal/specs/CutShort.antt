@@ -12,7 +12,7 @@ use Rattle.bytejournal.specs.declared.fault.JournalFault.TheVariants.{DiskFault,
 use Rattle.bytejournal.specs.declared.ending.Counted.{Counted}
 use Rattle.bytejournal.specs.declared.ending.IfOpen.{IfOpen}
 use Rattle.bytejournal.specs.declared.ending.Ending.{Ending}
-use Rattle.bytejournal.specs.Ending.{ending_of}
+use Rattle.bytejournal.specs.Ending.{HasFewAfter, IsBehind, ending_of}
 use Rattle.bytejournal.specs.Opening.{HoldByte}
 use Rattle.botjournal.specs.declared.TheConstants.{LAYOUT}
 use Rattle.botjournal.specs.Sums.{start, through, AreCarried}
@@ -43,6 +43,11 @@ is_cut other ending = is_cut_beside other ending.counted ending.if_open
 -- one of two disks with these bytes was cut short
 abbrev pub is_cut_short : List ℕ → List ℕ → Bool
 is_cut_short first second = is_cut (ending_of second).counted (ending_of first) || is_cut (ending_of first).counted (ending_of second)
+
+-- The gates of a disk show that it wasn't cut short, beside another one: after the gate that ends it stands what a crash
+-- leaves, or it wouldn't count with its first gate open.
+abbrev pub ShowsUncut : List ℕ → List ℕ → Type 0
+ShowsUncut bytes other = HasFewAfter bytes ⊎ IsBehind bytes other
 
 -- the base and each entry end with their sums, of which each stands on the one before it
 abbrev pub HasSums : IfOpen → Type 0

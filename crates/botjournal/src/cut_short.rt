@@ -1,12 +1,14 @@
 // Journals that a device cut short.
-ghost use Rattle.std.specs.Prelude.{◌≡◌, ◌<◌, ◌+◌, IfErr, IfOk, length};
+ghost use Rattle.std.specs.Prelude.{◌≡◌, ◌<◌, ◌+◌, true, IfErr, IfOk, length};
 ghost use Rattle.disks.specs.State.{IsSettled};
 ghost use Rattle.bytejournal.specs.Opening.{Untouched};
-ghost use Rattle.botjournal.specs.CutShort.{TellsCut, carries_sums, is_cut, is_cut_short, is_more, would_count};
+ghost use Rattle.botjournal.specs.CutShort.{ShowsUncut, TellsCut, carries_sums, is_cut, is_cut_short, is_more, would_count};
 
 use crate::LAYOUT;
 use crate::sums::Seal;
-use bytejournal::{Counted, Ending, IfOpen, JournalError, ending_of, has_few_after, read_ending};
+use bytejournal::{
+    Counted, Ending, IfOpen, JournalError, ending_of, has_few_after, is_behind, read_ending,
+};
 use bytetext::{NoMemory, bytes_of};
 use disks::Disk;
 use std::alloc::Global;
@@ -51,18 +53,25 @@ pub fn is_cut_short<D: Disk>(
 ///
 /// # Errors
 /// `NoMemory` if it cannot allocate room for what the bytes hold; never if there is none.
-#[tactic(auto, using(crate::proofs::CutLaws::few_are_not_cut))]
+#[tactic(auto, using(crate::proofs::CutLaws::uncut))]
 pub fn are_cut_short(alloc: Global, first: &[u8], second: &[u8]) -> Result<bool, NoMemory>
     ensures cut { IfOk result (λ cut. cut ≡ is_cut_short first.now second.now) }
     ensures memory { IfErr result (λ _. 0 < length first.now + length second.now) }
 {
     // Most journals show it at once.
-    if has_few_after(first) && has_few_after(second) {
+    if shows_uncut(first, second) && shows_uncut(second, first) {
         return Ok(false);
     }
     let a = ending_of(alloc, bytes_of(alloc, first)?)?;
     let b = ending_of(alloc, bytes_of(alloc, second)?)?;
     Ok(is_cut(b.counted, &a) || is_cut(a.counted, &b))
+}
+
+// Whether the gates of a disk show that it wasn't cut short, beside another one.
+fn shows_uncut(bytes: &[u8], other: &[u8]) -> bool
+    ensures { result ≡ true → ShowsUncut bytes.now other.now }
+{
+    has_few_after(bytes) || is_behind(bytes, other)
 }
 
 // Whether the disk with this ending was cut short, beside another one.

@@ -1,12 +1,12 @@
 // What spellings promise to those who store them, and the calls of a journal together, proved of the definitions.
 ghost use Rattle.std.specs.Prelude.{◌≡◌, ◌⊎◌, ◌∷◌, ℕ, List, Some, Result, Ok, true, false};
 ghost use Rattle.bytejournal.specs.declared.ending.IfOpen.{IfOpen};
-ghost use Rattle.bytejournal.specs.Ending.{HasFewAfter, ending_of};
+ghost use Rattle.bytejournal.specs.Ending.{ending_of};
 ghost use Rattle.bytejournal.specs.Meaning.{Contents as Texts};
 ghost use Rattle.botjournal.specs.declared.TheConstants.{LAYOUT};
 ghost use Rattle.botjournal.specs.Sums.{start, AreCarried};
 ghost use Rattle.botjournal.specs.Contents.{Contents, meaning};
-ghost use Rattle.botjournal.specs.CutShort.{HasSums, is_cut_short};
+ghost use Rattle.botjournal.specs.CutShort.{HasSums, ShowsUncut, is_cut_short};
 ghost use Rattle.bytejournal.specs.declared.journal.Journal.{Journal as OfTexts};
 ghost use Rattle.bytejournal.specs.declared.opening.Returned.{Returned};
 ghost use Rattle.bytejournal.specs.Journal.{first_disk, second_disk, Holds};
@@ -59,8 +59,9 @@ pub fn laws_of_cuts()
     // were open, end with their sums.
     ensures carried { (first second : List ℕ) → is_cut_short first second ≡ true → (texts : IfOpen)
         × (((ending_of first).if_open ≡ Some texts) ⊎ ((ending_of second).if_open ≡ Some texts)) × HasSums texts }
-    // One entry more than those that count doesn't say so, nor a base alone: this is what a crash leaves.
-    ensures few { (first second : List ℕ) → HasFewAfter first → HasFewAfter second
+    // One entry more than those that count doesn't say so, nor a base alone: this is what a crash leaves. Nor do the
+    // entries of a disk that wouldn't count with its first gate open: this is what an append leaves of an older base.
+    ensures few { (first second : List ℕ) → ShowsUncut first second → ShowsUncut second first
         → is_cut_short first second ≡ false }
 {}
 

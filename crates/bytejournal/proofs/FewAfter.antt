@@ -1,6 +1,5 @@
 -- Disks after whose last gate stands what a crash may leave.
-use Rattle.std.proofs.Common.{◌≡◌, ◌≢◌, inl, inr, ◌<◌, ◌+◌, Bool, true, false, if◌then◌else◌, ℕ, zero, suc, Option, None, Some, List, [], ◌∷◌, ◌++◌, length, take, drop, set, refl, sym, ◌∙◌, ap, subst, arith, length-append, take-append-drop, eqb, ltb, ltb-true}
-use Rattle.std.proofs.lemmas.Bool.Decides.{nat_tests}
+use Rattle.std.proofs.Common.{◌≡◌, inl, inr, ◌<◌, ◌+◌, Bool, true, false, if◌then◌else◌, ℕ, zero, suc, Option, None, Some, List, [], ◌∷◌, ◌++◌, length, take, drop, set, refl, sym, ◌∙◌, ap, subst, arith, length-append, take-append-drop, ltb, ltb-true}
 use Rattle.std.proofs.lemmas.List.{take-set, drop-set}
 use Rattle.std.proofs.Math.Seq.{drop-append-add}
 use Rattle.std.specs.Prelude.{slice_set}
@@ -8,9 +7,8 @@ use Rattle.bytejournal.specs.declared.reading.Front.{Front}
 use Rattle.bytejournal.specs.declared.reading.Found.{Found}
 use Rattle.bytejournal.specs.Meaning.{Contents, Held, sized, entries_from, entries_within, entries_of, extended, from_base, from_generation, from_letters, held}
 use Rattle.bytejournal.specs.Meaning.Held.{Broken, Open}
-use Rattle.bytejournal.specs.Reading.{HasEntries, HasFront, IsFound}
-use Rattle.bytejournal.specs.Ending.{AreFew, HasFewAfter, HasFewMore, IsAtMostOne, counted, end_gate, if_open, is_open, with_open, size_of}
-use Rattle.bytejournal.proofs.Entries.{eqb_not}
+use Rattle.bytejournal.specs.Reading.{EndAt, HasEntries, HasFront, IsFound}
+use Rattle.bytejournal.specs.Ending.{AreFew, CountsAt, HasFewAfter, HasFewMore, IsAtMostOne, counted, end_gate, if_open, is_open, with_open, size_of}
 use Rattle.bytejournal.proofs.Fronts.{start}
 use Rattle.bytejournal.proofs.Starts.{is_found, size, split}
 use Rattle.bytejournal.proofs.Choosing.{found_contents, found_held}
@@ -105,6 +103,21 @@ module _ (rest : List ℕ) (front : Front) (is : HasFront rest front) where
         subst (λ (h : Held). AreFew (counted h) (if_open (with_open bytes (end_gate h)))) (sym holds)
         (subst (λ (n : ℕ). AreFew (counted (Open (found_contents found))) (if_open (with_open bytes (Some n)))) ends
         (with_gate (ltb found.gate (length bytes)) refl))
+
+-- what counts where the entries end at a gate
+pub open_counts : (rest : List ℕ) (front : Front) (gate : ℕ) → HasFront rest front → EndAt front.rest.now gate → CountsAt (1 ∷ rest) front.generation
+open_counts rest front gate is has =
+    let found : Found = record {
+      layout = front.layout;
+      generation = front.generation;
+      base = front.base.now;
+      entries = has.0;
+      gate = 14 + length front.base.now + gate;
+    } in
+    let holds : held (1 ∷ rest) ≡ Open (found_contents found) = found_held (1 ∷ rest) found
+    (is_found rest is.numbers is.sizes front.base.now front.rest.now front.layout front.generation is.begins is.number is.text
+    (record { texts = has.0; gate = gate }) has.1) in
+    (length has.0, ap counted holds)
 
 -- where the entries are cut short, or at most one more stands after them
 pub open_more : (rest : List ℕ) (front : Front) → HasFront rest front → HasFewMore front.rest.now → HasFewAfter (1 ∷ rest)

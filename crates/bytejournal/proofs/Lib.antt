@@ -6,6 +6,7 @@ pub mod Passing
 pub mod Starts
 pub mod Images
 pub mod Pairs
+pub mod Closing
 pub mod Appending
 pub mod Rebasing
 pub mod Choosing

@@ -28,6 +28,14 @@ then_same first second third P one same = record {
       (same.time.nothing_else t image (omega (arith, le, one.later)) left);
 }
 
+-- a run whose images have more in common than is asked
+pub loosened : (old new : State) (P Q : List ℕ → Type 0) → LeavesOnly old new P → ((image : List ℕ) → P image → Q image) → LeavesOnly old new Q
+loosened old new P Q run holds = record {
+  later = run.later;
+  each = λ image left. holds image (run.each image left);
+  before = λ t image le left. ⊎_elim (λ earlier. inl earlier) (λ p. inr (holds image p)) (run.before t image le left);
+}
+
 -- a call that changes nothing
 pub kept : (old new : State) → IsSettled old → SameBytes old new → LeavesOnly old new (λ image. image ≡ old.seen)
 kept old new settled same = record {

@@ -91,6 +91,13 @@ module _ {D : Type 0} (state : D → State) where
     each = λ x y left right. subst (R x) (sym (untouched idle settled y right)) (holds x (run.each x left));
   }
 
+  -- both disks are written
+  pub both_written : (active idle active' idle' : D) (Q S : List ℕ → Type 0) (R : List ℕ → List ℕ → Type 0)
+      → LeavesOnly (state active) (state active') Q → LeavesOnly (state idle) (state idle') S → ((x y : List ℕ) → Q x → S y → R x y)
+      → EachMoment (state active) (state idle) (state active') (state idle') R
+  both_written active idle active' idle' Q S R run other holds =
+      record { first_later = run.later; second_later = other.later; each = λ x y left right. holds x y (run.each x left) (other.each y right) }
+
   -- nothing is written
   pub none_written : (active idle : D) (R : List ℕ → List ℕ → Type 0) → IsSettled (state active)
       → IsSettled (state idle) → R (state active).seen (state idle).seen → EachMoment (state active) (state idle) (state active) (state idle) R

@@ -1,5 +1,5 @@
 -- Another base, whatever crash comes.
-use Rattle.std.proofs.Common.{◌≡◌, ◌≢◌, ◌⊎◌, inl, inr, ⊎_elim, ◌<◌, ◌+◌, ◌^◌, ℕ, Bool, true, false, Some, List, [], ◌∷◌, ◌++◌, length, get_or, take, drop, refl, sym, ◌∙◌, ap, subst, arith, append_assoc, length-append, take-append-drop}
+use Rattle.std.proofs.Common.{◌≡◌, ◌⊎◌, inl, inr, ⊎_elim, ◌<◌, ◌+◌, ◌^◌, ℕ, Bool, true, Some, List, [], ◌∷◌, ◌++◌, length, get_or, take, drop, refl, sym, ◌∙◌, ap, subst, arith, append_assoc, length-append, take-append-drop}
 use Rattle.std.specs.Prelude.{option_map}
 use Rattle.std.specs.Int.{w32, to_be_bytes}
 use Rattle.std.proofs.lemmas.List.{take_at}
@@ -8,43 +8,21 @@ use Rattle.std.proofs.lemmas.Nat.{from_be_bytes-to_be_bytes_4}
 use Rattle.std.proofs.Math.Seq.{get_or-append_seam}
 use Rattle.disks.specs.State.{State, IsSettled, LeavesOnly}
 use Rattle.bytejournal.specs.declared.journal.Journal.{Journal}
-use Rattle.bytejournal.specs.Gates.{with_gate, with_first, closed_first, IsHalfWritten, IsHalfReplaced}
+use Rattle.bytejournal.specs.Gates.{with_gate, closed_first, IsHalfWritten, IsHalfReplaced}
 use Rattle.bytejournal.specs.Meaning.{Contents, Held, rebased, held, chosen, meaning, IsFront, IsWhole}
 use Rattle.bytejournal.specs.Meaning.Held.{Shut, Open}
 use Rattle.bytejournal.specs.Journal.{IdleIs, IsEither, HoldsOne, EachMoment, contents_of, IsAtRest}
 use Rattle.bytejournal.proofs.Fronts.{front_start}
 use Rattle.bytejournal.proofs.Images.{Means, means_open, means_shut, base_bytes}
 use Rattle.bytejournal.proofs.Pairs.{newer, chosen_comm, meaning_comm, either_comm, flipped, one_written}
+use Rattle.bytejournal.proofs.Closing.{IsClosed, is_closed, HoldsNoOther, shut_holds_none, while_closing}
 use Rattle.bytejournal.proofs.Appending.{beside, open_contents, active_means, contents_are}
-
--- a disk that holds a journal begins with an open gate
-first_open : (file : List ℕ) (contents : Contents) → held file ≡ Open contents → file ≡ with_first file 1
-first_open [] contents is = absurd (cc is)
-first_open (gate ∷ rest) contents is = elim (cases_eq gate 1) [
-  | inl is_one ↦ ap (λ (g : ℕ). g ∷ rest) is_one
-  | inr shut ↦ let both : Shut ≡ Open contents = sym (means_shut gate rest (gate ∷ rest) shut refl).held_is ∙ is in absurd (cc both)
-]
-
-pub record IsClosed (file : List ℕ) : Type 0 where
-  pub inside : 0 < length file
-  pub shut : get_or file 0 0 ≢ 1
-
-is_closed : (is_open : Bool) (generation : ℕ) (file : List ℕ) → IdleIs is_open generation file → IsClosed (closed_first is_open file)
-is_closed false generation file is = record { inside = is.0; shut = is.1 }
-is_closed true generation file is = record { inside = omega arith; shut = λ is_one. let both : 0 ≡ 1 = is_one in absurd (omega arith) }
 
 -- an image with the same closed first gate
 same_first : (file image : List ℕ) → IsClosed file → take 1 image ≡ take 1 file → Means image Shut
 same_first [] image closed same = absurd (omega (arith, closed.inside))
 same_first (gate ∷ rest) image closed same = means_shut gate (drop 1 image) image closed.shut (sym (take-append-drop 1 image)
     ∙ ap (λ (l : List ℕ). l ++ drop 1 image) same)
-
--- an image holds nothing, or what the file holds
-abbrev HoldsNoOther : List ℕ → List ℕ → Type 0
-HoldsNoOther file image = (contents : Contents) → held image ≡ Open contents → held file ≡ Open contents
-
-shut_holds_none : (file image : List ℕ) → Means image Shut → HoldsNoOther file image
-shut_holds_none file image m contents h = let both : Shut ≡ Open contents = sym m.held_is ∙ h in absurd (cc both)
 
 module _ (contents : Contents) (layout : ℕ) (base : List ℕ) (small : length base < 2 ^ 32) (left : contents.generation + 1 < 2 ^ 32) where
   text : List ℕ
@@ -84,15 +62,9 @@ module _ (contents : Contents) (layout : ℕ) (base : List ℕ) (small : length 
   pub while_replacing : (is_open : Bool) (file image : List ℕ) → IdleIs is_open contents.generation file → IsWhole file
       → IsHalfReplaced is_open file (base_bytes layout (contents.generation + 1) base ++ (0 ∷ [])) image
       → (IsWhole image × (chosen (Open contents) (held image) ≡ Some contents) × HoldsNoOther file image) ⊎ Means image (Open (rebased layout base contents))
-  while_replacing false file image idle whole (inl torn) = absurd (cc (torn.1))
-  while_replacing true file image idle whole (inl torn) = elim (cases_eq torn.0 1) [
-    | inl is_one ↦
-        let same : image ≡ file = torn.2 ∙ ap (λ (g : ℕ). with_first file g) is_one ∙ sym (first_open file idle.0 idle.1) in
-        inl (subst (λ (l : List ℕ). IsWhole l × (chosen (Open contents) (held l) ≡ Some contents) × HoldsNoOther file l) (sym same)
-        (whole, beside true contents file idle, λ c h. h))
-    | inr shut ↦ let m = means_shut torn.0 (drop 1 file) image shut torn.2 in
-        inl (m.whole, ap (chosen (Open contents)) m.held_is, shut_holds_none file image m)
-  ]
+  while_replacing is_open file image idle whole (inl torn) =
+      let is = while_closing contents.generation file is_open image idle whole (inr torn) in
+      inl (is.whole, beside is.is_open contents image is.idle, is.no_other)
   while_replacing is_open file image idle whole (inr half) =
       ⊎_elim (λ m. inl (m.whole, ap (chosen (Open contents)) m.held_is, shut_holds_none file image m)) (λ m. inr m)
       (torn_start (closed_first is_open file) (is_closed is_open contents.generation file idle) image half)

@@ -67,6 +67,19 @@ AreFew (Some counted) (Some texts) = length texts.entries ≤ counted.entries + 
 abbrev pub HasFewAfter : List ℕ → Type 0
 HasFewAfter bytes = AreFew (ending_of bytes).counted (ending_of bytes).if_open
 
+-- the first gate isn't open, and after it stands a journal of this generation, if it is one's
+abbrev pub IsShutAt : List ℕ → ℕ → Type 0
+IsShutAt bytes generation = ((ending_of bytes).counted ≡ None)
+    × ((texts : IfOpen) → (ending_of bytes).if_open ≡ Some texts → texts.generation ≡ generation)
+
+-- a journal of this generation stands on the disk
+abbrev pub CountsAt : List ℕ → ℕ → Type 0
+CountsAt bytes generation = (entries : ℕ) × ((ending_of bytes).counted ≡ Some (record { generation = generation; entries = entries }))
+
+-- with its first gate open the disk wouldn't count either, beside another one of these bytes
+abbrev pub IsBehind : List ℕ → List ℕ → Type 0
+IsBehind bytes other = (shut counts : ℕ) × IsShutAt bytes shut × CountsAt other counts × (shut ≤ counts)
+
 -- an open gate stands first
 abbrev pub is_open : List ℕ → Bool
 is_open [] = false

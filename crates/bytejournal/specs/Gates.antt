@@ -15,9 +15,13 @@ IsHalfWritten file at text image = (take (at + 1) image ≡ take (at + 1) file) 
 abbrev pub with_first : List ℕ → ℕ → List ℕ
 with_first file gate = gate ∷ drop 1 file
 
--- the file with its first gate closed, if it was open
+-- the file with its first gate closed, if it is to be
 abbrev pub closed_first : Bool → List ℕ → List ℕ
-closed_first is_open file = if is_open then with_first file 0 else file
+closed_first closes file = if closes then with_first file 0 else file
+
+-- what a crash may leave while the first gate is closed, if it is to be: the file, or the file with another first gate
+abbrev pub IsHalfClosed : Bool → List ℕ → List ℕ → Type 0
+IsHalfClosed closes file image = (image ≡ file) ⊎ ((gate : ℕ) × (closes ≡ true) × (image ≡ with_first file gate))
 
 -- what a crash may leave while a file is replaced: either the old file with another first gate, if the gate was open,
 -- or the file with that gate closed and the text half written

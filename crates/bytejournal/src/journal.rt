@@ -1,10 +1,11 @@
 // A journal on two disks.
-ghost use Rattle.std.specs.Prelude.{◌≡◌, ◌<◌, ◌^◌, ◌-◌, ◌↔◌, IsTrue, false, length, option_map};
-ghost use Rattle.bytejournal.specs.Meaning.{added, rebased};
+ghost use Rattle.std.specs.Prelude.{◌≡◌, ◌<◌, ◌^◌, ◌-◌, ◌↔◌, ◌&&◌, not, IsTrue, OnOk, true, false, length, option_map};
+ghost use Rattle.bytejournal.specs.Meaning.{added, held, rebased};
+ghost use Rattle.bytejournal.specs.Meaning.Held.{Shut};
 ghost use Rattle.bytejournal.specs.Journal.{IsSound, AnyMoment, IsEither, HoldsOne, Appends, Rebases, contents_of};
 
 use crate::fault::{JournalError, JournalFault};
-use crate::gate::write_after_gate;
+use crate::gate::write_and_close;
 use crate::spelling::{base_text, entry_text};
 use crate::writing::{end_after, replace};
 use bytetext::Failure;
@@ -33,7 +34,8 @@ pub struct Journal<D: Disk> {
 
 impl<D: Disk> Journal<D> {
     /// Appends `entry`, which is spelled by the journal's layout. At `Ok` the entry is acknowledged: from then on each
-    /// crash leaves it.
+    /// crash leaves it. Before that it closes the idle disk's first gate, if that is open and the disk is one that
+    /// [shuts when it is idle](Disk::shuts_when_idle).
     ///
     /// # Errors
     /// `Spent` if a disk failed before. `NoMemory` if it cannot allocate room: nothing was written. `DiskFault` if a
@@ -43,6 +45,8 @@ impl<D: Disk> Journal<D> {
         requires small { length entry.now < 2 ^ 32 }
         ensures sound { IsSound D.state self.new }
         ensures row { Appends D.state self.old entry.now result self.new }
+        // Of the other disk nothing is read, if it shuts when it is idle.
+        ensures shut { OnOk result (D.shuts self.old.idle ≡ true → held (D.state self.new.idle).seen ≡ Shut) }
         ensures any_moment { self.old.spent ≡ false → AnyMoment D.state self.old self.new
             (IsEither (HoldsOne D.state self.old) (contents_of D.state self.old)
             (option_map (added entry.now) (contents_of D.state self.old))) }
@@ -59,8 +63,14 @@ impl<D: Disk> Journal<D> {
             Ok(()) => {}
             Err(_) => return Err(Failure::NoMemory),
         }
-        match write_after_gate(&mut self.active, self.gate, &text) {
+        let shuts = self.shuts_idle();
+        match self.idle.reserve(1, 2 * shuts as usize) {
+            Ok(()) => {}
+            Err(_) => return Err(Failure::NoMemory),
+        }
+        match write_and_close(&mut self.active, self.gate, &text, &mut self.idle, shuts) {
             Ok(()) => {
+                self.idle_open = is_still_open(self.idle_open, shuts);
                 self.gate += text.len();
                 Ok(())
             }
@@ -69,6 +79,13 @@ impl<D: Disk> Journal<D> {
                 Err(Failure::Refused(JournalFault::DiskFault))
             }
         }
+    }
+
+    // Whether the idle disk's first gate is open, and is to be closed.
+    fn shuts_idle(&self) -> bool
+        ensures { result ≡ self.now.idle_open && D.shuts self.now.idle }
+    {
+        self.idle_open && self.idle.shuts_when_idle()
     }
 
     /// Replaces the base and its entries by `base`, spelled by `layout`, in the next generation. At `Ok` the base is
@@ -135,4 +152,11 @@ impl<D: Disk> Journal<D> {
     {
         self.layout
     }
+}
+
+// Whether a gate is open after it was closed, or not.
+fn is_still_open(is_open: bool, closes: bool) -> bool
+    ensures { result ≡ is_open && not closes }
+{
+    is_open && !closes
 }

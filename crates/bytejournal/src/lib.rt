@@ -6,14 +6,17 @@
 //! the layers above say what a layout means. A gate is one byte, open when it is 1; what stands after a closed gate
 //! doesn't count. An append writes the entry after the closed gate that ends the others, waits until it is kept, and
 //! then opens the gate by a write of its own. A rebase does the same on the other disk, in the next generation, after
-//! it closed that disk's first gate if that was open.
+//! it closed that disk's first gate if that was open. The first append after a rebase shuts the disk that counts no
+//! more, if it is one that [shuts when it is idle](disks::Disk::shuts_when_idle): it closes that disk's first gate, and
+//! an opening reads the texts of one disk alone.
 //!
 //! - [`Journal`] is created on two disks or opened from them; [`Opened`] is what an opening finds. A failed call hands
 //!   the [`Disks`] back in a [`Returned`].
 //! - A [`JournalFault`] says why a call is rejected. After a disk's fault the journal is spent: what was being written
 //!   may count or not, and opening the journal again shows which.
 //! - [`read_ending`] says what would count if a closed gate were open. A device may close a gate; what a crash may leave
-//!   after one, the layers above can tell from the texts. [`has_few_after`] often tells it from the gates alone.
+//!   after one, the layers above can tell from the texts. [`has_few_after`] and [`is_behind`] often tell it from the gates
+//!   alone.
 //! - [`laws_of_journals`]: through any number of calls and crashes, disks that `create` made and only this journal
 //!   wrote never yield `NotAJournal`. At each moment of each call, every image that a crash may leave means the
 //!   contents before the call or after it.
@@ -44,6 +47,7 @@
 //! - `Recovery`: a journal over many calls and crashes. `Unmade`: what a stopped `create` leaves.
 #![tactic(auto)]
 
+mod behind;
 mod ending;
 mod fault;
 mod few_after;
@@ -56,6 +60,7 @@ mod spelling;
 mod unmade;
 mod writing;
 
+pub use crate::behind::is_behind;
 pub use crate::ending::{Counted, Ending, IfOpen, ending_of, read_ending};
 pub use crate::fault::{JournalError, JournalFault};
 pub use crate::few_after::has_few_after;

@@ -1,5 +1,5 @@
 // A disk as a journal uses it.
-ghost use Rattle.std.specs.Prelude.{◌≡◌, ◌<◌, ◌≤◌, ◌+◌, ◌++◌, List, ℕ, length, take, drop, IfOk, IfSome, OnOk};
+ghost use Rattle.std.specs.Prelude.{◌≡◌, ◌<◌, ◌≤◌, ◌+◌, ◌++◌, Bool, List, ℕ, length, take, drop, IfOk, IfSome, OnOk};
 ghost use Rattle.disks.specs.State.{State, IsSettled, may_leave};
 ghost use Rattle.disks.specs.Calls.{Holds, Tears, Elapses, HasCause, Spends, SameBytes, read_count};
 ghost use Rattle.disks.specs.Events.{openings};
@@ -20,6 +20,9 @@ pub trait Disk: Drop {
     /// What a read gives, what a crash may leave according to the disk's history, and how often the disk has failed.
     ghost state: { Self → State };
 
+    /// Whether a journal shuts this disk once it is idle.
+    ghost shuts: { Self → Bool };
+
     /// Returns the number of bytes.
     fn len(&self) -> usize
         ensures { result ≡ length (state self.now).seen };
@@ -32,6 +35,11 @@ pub trait Disk: Drop {
     /// the same.
     fn held(&self) -> Option<&[u8]>
         ensures bytes { IfSome result (λ bytes. bytes.now ≡ (state self.now).seen) };
+
+    /// Returns whether a journal shuts this disk, by one more write and sync, once the other disk counts in its place: an
+    /// opening then reads none of its texts.
+    fn shuts_when_idle(&self) -> bool
+        ensures { result ≡ shuts self.now };
 
     /// Reads from the offset `at` into `buf`, and returns how many bytes it read: `buf` is filled, or read up to the
     /// disk's end.

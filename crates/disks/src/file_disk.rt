@@ -157,6 +157,8 @@ fn sync_or_break_off(file: &mut ToldFile, broken: &mut bool)
 impl Disk for FileDisk {
     ghost state = { λ disk. state_of disk.mirror };
 
+    ghost shuts = { λ disk. true };
+
     fn len(&self) -> usize {
         self.mirror.len()
     }
@@ -175,6 +177,11 @@ impl Disk for FileDisk {
             return None;
         }
         self.mirror.held()
+    }
+
+    /// Always: the texts of a file are long to read.
+    fn shuts_when_idle(&self) -> bool {
+        true
     }
 
     fn read(&mut self, at: usize, buf: &mut [u8]) -> Result<usize, DiskFault> {

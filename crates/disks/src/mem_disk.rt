@@ -1,5 +1,5 @@
 // A disk in memory, whose faults and crashes can be planned.
-ghost use Rattle.std.specs.Prelude.{◌≡◌, ◌<◌, ◌≤◌, ◌+◌, ◌++◌, ◌↔◌, [], length, take, drop, vec_len, IfOk, IfErr, OnOk, OnErr, IsErr};
+ghost use Rattle.std.specs.Prelude.{◌≡◌, ◌<◌, ◌≤◌, ◌+◌, ◌++◌, ◌↔◌, false, [], length, take, drop, vec_len, IfOk, IfErr, OnOk, OnErr, IsErr};
 ghost use Rattle.disks.specs.Events.{openings};
 ghost use Rattle.disks.specs.State.{IsSettled, may_leave};
 ghost use Rattle.disks.specs.Calls.{Holds, Tears, Elapses, HasCause, Spends, SameBytes, read_count};
@@ -136,6 +136,8 @@ impl MemDisk {
 impl Disk for MemDisk {
     ghost state = { state_of };
 
+    ghost shuts = { λ disk. false };
+
     fn len(&self) -> usize {
         self.content.len()
     }
@@ -147,6 +149,11 @@ impl Disk for MemDisk {
     // Always none: each read counts as a call, at which a fault may be planned.
     fn held(&self) -> Option<&[u8]> {
         None
+    }
+
+    // Never: each write and sync counts as a call, at which a fault may be planned.
+    fn shuts_when_idle(&self) -> bool {
+        false
     }
 
     /// A read fails exactly when that is planned.

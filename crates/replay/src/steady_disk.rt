@@ -1,5 +1,5 @@
 // A disk in memory that never fails.
-ghost use Rattle.std.specs.Prelude.{◌≡◌, ◌<◌, ◌≤◌, ◌+◌, ◌++◌, length, take, drop, IfOk, OnOk};
+ghost use Rattle.std.specs.Prelude.{◌≡◌, ◌<◌, ◌≤◌, ◌+◌, ◌++◌, false, length, take, drop, IfOk, OnOk};
 ghost use Rattle.disks.specs.Events.{openings};
 ghost use Rattle.disks.specs.State.{IsSettled, may_leave};
 ghost use Rattle.disks.specs.Calls.{Holds, Tears, Elapses, HasCause, Spends, SameBytes, read_count};
@@ -47,6 +47,8 @@ impl SteadyDisk {
 impl Disk for SteadyDisk {
     ghost state = { steady_state };
 
+    ghost shuts = { λ disk. false };
+
     fn len(&self) -> usize {
         self.disk.len()
     }
@@ -57,6 +59,10 @@ impl Disk for SteadyDisk {
 
     fn held(&self) -> Option<&[u8]> {
         None
+    }
+
+    fn shuts_when_idle(&self) -> bool {
+        false
     }
 
     fn read(&mut self, at: usize, buf: &mut [u8]) -> Result<usize, DiskFault> {

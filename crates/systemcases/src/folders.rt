@@ -3,9 +3,10 @@ ghost use Rattle.std.specs.Prelude.{◌≡◌, []};
 
 use crate::LAYOUT;
 use crate::names::{is_mode, pair_opened};
-use crate::seen::{Seen, word_of, yes};
+use crate::seen::{Seen, done, word_of, yes};
 use bytejournal::Journal;
 use disks::{FileDisk, Pair, make_folder, rename_folder};
+use std::fs;
 use std::fs::File;
 use std::rt::Files;
 
@@ -22,6 +23,7 @@ pub fn whole_folder<R: AllocGlobal + Files<File = File>>(rt: &R, seen: &mut Seen
     seen.note("another folder", word_of(&make_folder(rt, "bot/new")));
     seen.note("it is named so too", named(rt));
     seen.note("the journal is as it was made", yes(is_found(rt)));
+    idle_file(rt, seen);
 }
 
 // Makes the journal, and names its folder while the journal is in use.
@@ -58,5 +60,38 @@ fn is_found<R: AllocGlobal + Files<File = File>>(rt: &R) -> bool {
             Err(_) => false,
         },
         Err(_) => false,
+    }
+}
+
+// Writes another base and an entry to the journal, and looks at the first gates of its files.
+fn idle_file<R: AllocGlobal + Files<File = File>>(rt: &R, seen: &mut Seen) {
+    let Ok(pair) = Pair::open(rt, "bot/journal/first", "bot/journal/second") else {
+        return seen.note("its files", "refused");
+    };
+    match Journal::open(rt.alloc(), pair.first, pair.second) {
+        Ok(opened) if opened.whole => {
+            let mut journal = opened.journal;
+            let is_based = journal.rebase(rt.alloc(), LAYOUT, b"another base").is_ok();
+            seen.note("another base", done(is_based));
+            gates(rt, seen);
+            let is_appended = journal.append(rt.alloc(), b"an entry").is_ok();
+            seen.note("an entry", done(is_appended));
+            gates(rt, seen);
+        }
+        _ => seen.note("its journal", "refused"),
+    }
+}
+
+fn gates<R: AllocGlobal + Files<File = File>>(rt: &R, seen: &mut Seen) {
+    seen.note("its first file", gate(rt, "bot/journal/first"));
+    seen.note("its second file", gate(rt, "bot/journal/second"));
+}
+
+// What a journal's file begins with.
+fn gate<R: AllocGlobal + Files<File = File>>(rt: &R, path: &str) -> &'static str {
+    match fs::read(rt, path) {
+        Ok(bytes) if bytes.first() == Some(&1) => "an open gate",
+        Ok(_) => "a closed gate",
+        Err(_) => "no file",
     }
 }

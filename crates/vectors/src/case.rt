@@ -13,6 +13,7 @@ use std::alloc::Global;
 enum Asked {
     Ban,
     BanBy,
+    Behind,
     Binds,
     Chan,
     Change,
@@ -62,9 +63,10 @@ enum Asked {
     Zone,
 }
 
-const ASKED: [(&[u8], Asked); 49] = [
+const ASKED: [(&[u8], Asked); 50] = [
     (b"ban", Asked::Ban),
     (b"banby", Asked::BanBy),
+    (b"behind", Asked::Behind),
     (b"binds", Asked::Binds),
     (b"chan", Asked::Chan),
     (b"change", Asked::Change),
@@ -134,6 +136,7 @@ fn answer_to(asked: Asked, alloc: Global, words: &[Text], out: &mut Sink) -> Res
     match asked {
         Asked::Ban => persons::ban(alloc, words, out),
         Asked::BanBy => persons::ban_by(alloc, words, out),
+        Asked::Behind => journals::behind(words, out),
         Asked::Binds => binds::binds(alloc, words, out),
         Asked::Chan => channels::chan(alloc, words, out),
         Asked::Change => spellings::change(alloc, words, out),

@@ -4,7 +4,7 @@ ghost use Rattle.disks.specs.State.{IsSettled};
 ghost use Rattle.disks.specs.Memory.{state_of};
 ghost use Rattle.bytejournal.specs.Journal.{IsSound};
 
-use bytejournal::{Disks, Journal, JournalError, Opened, Returned, has_few_after};
+use bytejournal::{Disks, Journal, JournalError, Opened, Returned, has_few_after, is_behind};
 use bytetext::Text;
 use caselines::{BAD_NUMBER, BAD_WORDS, CaseError, Sink, cut, number};
 use disks::{MemDisk, Tear};
@@ -37,6 +37,20 @@ pub fn few(words: &[Text], out: &mut Sink) -> Result<(), CaseError> {
         out.put(b"few");
     } else {
         out.put(b"more");
+    }
+    Ok(())
+}
+
+/// Answers `behind BYTES OTHER` on `out`: `behind` if the gates show that the entries of a disk with these bytes wouldn't
+/// count with its first gate open, beside a disk with the bytes OTHER, or else `unknown`.
+pub fn behind(words: &[Text], out: &mut Sink) -> Result<(), CaseError> {
+    let [bytes, other] = words else {
+        return Err(BAD_WORDS);
+    };
+    if is_behind(bytes.as_bytes(), other.as_bytes()) {
+        out.put(b"behind");
+    } else {
+        out.put(b"unknown");
     }
     Ok(())
 }

@@ -25,6 +25,7 @@
 //! | `queues STEP..` | what each step answers |
 //! | `journal STEP..` | what each step answers |
 //! | `few BYTES` | `few` if the gates of a disk with these bytes show that a crash may have left it, or `more` |
+//! | `behind BYTES OTHER` | `behind` if a disk of these bytes wouldn't count beside the other with its first gate open, or `unknown` |
 //! | `binds STEP..` | what each step answers |
 //! | `spell CHANGE` | the bytes that spell the change, or the code of what is wrong with its shape |
 //! | `change BYTES`, `record BYTES` | how many bytes spell a change or record, and what they spell, or the code |
