@@ -19,6 +19,6 @@ pub const MAX_AT_ONCE: usize = 5;
 /// choice): the server reads them within forty seconds.
 pub const SHARE: usize = 20;
 
-/// How many bytes a MODE has at most that is made of several (our own choice; Eggdrop's `mode-buf-length`): a server tells
-/// a channel of no more in one line.
+/// How many bytes a MODE has at most that is made of several (our own choice, as Eggdrop's `mode-buf-length`): some
+/// servers tell a channel of no more in one line.
 pub const MAX_JOINED: usize = 200;

@@ -31,7 +31,7 @@
 //! - the lines `perform`, once after each welcome;
 //! - a JOIN for each channel, at once after each welcome, and then each minute while the bot is not on it; after a KICK
 //!   or a PART in the bot's name, or if the server does not let the bot in, the JOIN comes after a growing wait instead,
-//!   and five seconds after an invitation at the latest ([`Seat`]);
+//!   or five seconds after an invitation, if that is sooner ([`Seat`]);
 //! - a WHO for the members of each channel, once after each JOIN of the bot's own, at a server that announces WHOX
 //!   and says when somebody logs in or out ([`WhoQuestions`]);
 //! - an ISON each minute while the bot has another nick than that of the configuration, and a MONITOR with it at a server

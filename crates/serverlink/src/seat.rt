@@ -21,9 +21,9 @@ pub const INVITED: u64 = 5;
 ///
 /// The process asks as soon as the server has welcomed the bot, and then each minute while the bot is not on the
 /// channel. After a KICK, after a PART in the bot's name, and each time that the server does not let the bot in, it asks
-/// after a wait instead. That wait grows from 2 to 300 seconds, until the bot has stayed for two minutes. Five seconds after
-/// somebody has invited the bot, the process asks at the latest. The process asks nothing before the server has welcomed
-/// the bot.
+/// after a wait instead. That wait grows from 2 to 300 seconds, until the bot has stayed for two minutes. An invitation
+/// shortens the wait that it comes in to five seconds; a refusal after it begins the next wait. The process asks nothing
+/// before the server has welcomed the bot.
 ///
 /// The process itself leaves a channel only if the bot is no longer to be there, and then the channel has no seat. So
 /// each PART that a seat hears of is one that the process did not ask for.

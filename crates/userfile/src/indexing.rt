@@ -192,23 +192,24 @@ fn add_masks(
     ensures ok { OnOk result (AreUnder index.new place masks.now) }
 {
     for mask in masks {
-        add_mask(index, alloc, mask, place, MAX_MASKS)?;
+        add_mask(index, alloc, mask, place)?;
     }
     Ok(())
 }
 
-// Adds a mask, of the user at position `place`, under its tail, if its listing is not among the last `recent` ones there.
+// Adds a mask, of the user at position `place`, under its tail, unless its listing is there among as many of the last ones as
+// a user has masks at most.
 fn add_mask(
     index: &mut TailIndex,
     alloc: Global,
     mask: &Hostmask,
     place: u32,
-    recent: usize,
 ) -> Result<(), NoMemory>
     ensures kept { Keeps index.old index.new }
     ensures only { AddsOnly index.old.groups.entries index.new.groups.entries (mask_tail mask.now) (listing_of place mask.now) }
     ensures ok { OnOk result (IsUnder index.new (mask_tail mask.now) (listing_of place mask.now)) }
     ensures err { OnErr result (AddsNothing index.old.groups.entries index.new.groups.entries) }
 {
-    add_listing(index, alloc, mask.tail(), &listing_of(mask, place), recent)
+    let listing = listing_of(mask, place);
+    add_listing(index, alloc, mask.tail(), &listing, MAX_MASKS)
 }
