@@ -210,5 +210,11 @@ fn add_mask(
     ensures ok { OnOk result (IsUnder index.new (mask_tail mask.now) (listing_of place mask.now)) }
     ensures err { OnErr result (AddsNothing index.old.groups.entries index.new.groups.entries) }
 {
-    add_listing(index, alloc, mask.tail(), &listing_of(mask, place), MAX_MASKS)
+    add_listing(
+        index,
+        alloc,
+        mask.tail(),
+        &listing_of(mask, place),
+        MAX_MASKS,
+    )
 }
