@@ -4,7 +4,7 @@ use Rattle.settings.specs.declared.settings.Station.{Station as SettingStation}
 use Rattle.sharelink.specs.declared.answer.Outgoing.{Outgoing}
 use Rattle.procs.specs.Promises.{Promised}
 use Rattle.botcore.specs.Bots.{Bot}
-use Rattle.watching.specs.Acts.{Act, Station}
+use Rattle.watching.specs.Acts.{Act, Station, sent_by}
 use Rattle.watching.specs.Following.{IsUp}
 
 -- what holds of the station of the old settings holds of that of the new
@@ -21,3 +21,11 @@ pub up_same : (promised : Promised) (names : List (List ℕ)) (station : Station
 up_same promised names station may past old new told told' same kept up =
     subst (λ (bot : Bot). IsUp promised names station may past bot told') (sym same)
     (subst (λ (t : List Outgoing). IsUp promised names station may past old t) (sym kept) up)
+
+-- what holds after a past holds after the same past, of connections that were told what it says
+pub up_at : (promised : Promised) (names : List (List ℕ)) (station : Station) (may : List Act → Act → Type 0) (past new : List Act)
+    (bot : Bot) (told : List Outgoing) → new ≡ past → told ≡ sent_by new
+    → IsUp promised names station may past bot (sent_by past) → IsUp promised names station may new bot told
+up_at promised names station may past new bot told same says up =
+    subst (λ (t : List Outgoing). IsUp promised names station may new bot t) (sym says)
+    (subst (λ (p : List Act). IsUp promised names station may p bot (sent_by p)) (sym same) up)

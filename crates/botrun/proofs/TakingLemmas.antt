@@ -48,15 +48,6 @@ pub goes_further : (promised : Promised) (names : List (List ℕ)) (old mid new 
 goes_further promised names old mid new held between after far further =
     goes_far further.count promised names old mid new held between after far further.turns
 
--- turns from a bot that is the same
-pub goes_on_from : (promised : Promised) (names : List (List ℕ)) (old start mid new : Bot) (held line between after : List ℕ)
-    → start ≡ old → line ≡ held → GoesOn promised names start line mid between → GoesOn promised names mid between new after
-    → GoesOn promised names old held new after
-goes_on_from promised names old start mid new held line between after same kept far further =
-    subst (λ (bot : Bot). GoesOn promised names bot held new after) same
-    (subst (λ (l : List ℕ). GoesOn promised names start l new after) kept
-    (goes_further promised names start mid new line between after far further))
-
 -- ---- a turn in which changes are asked for
 
 -- a turn whose reports are passed on

@@ -294,8 +294,8 @@ where
         HasBegun (station_of settings.now) (W.past watcher.old) (W.past watcher.new) process.bot) }
 {
     let uplink = uplink_of(rt, settings)?;
-    // Before the journal is read: so the room for counts lies apart from what that leaves free, and few of its pages are
-    // used.
+    // Made before the journal is read, so that its room for counts is memory that nothing has used. Most pages of that room
+    // stay unused, and the system gives none for them.
     let floods = FloodWatch::new(rt.alloc(), settings.floods)?;
     let bot = bot_of(rt, &folder, settings, last, leaves_bans, watcher)?;
     with_bot(

@@ -5,7 +5,11 @@ ghost use Rattle.serverlink.specs.Tagging.{untagged_in};
 ghost use Rattle.serverlink.specs.Talks.{talk_in};
 ghost use Rattle.upkeep.specs.Flooding.{begun_with, heard_lines};
 ghost use Rattle.botrun.specs.Trusting.{trusts};
-ghost use Rattle.watching.specs.Following.{IsEven, IsUp};
+ghost use Rattle.watching.specs.Acts.{sent_by};
+ghost use Rattle.watching.specs.Following.{IsEven, IsUp, LetsSend, after_sends};
+ghost use Rattle.turns.specs.Queues.{packets_in};
+ghost use Rattle.turns.specs.Turns.{AllGood};
+ghost use Rattle.turns.specs.declared.turn.TurnEnd.TheVariants.{Done};
 ghost use Rattle.botrun.specs.Taking.{GoesOn, Hears, TakesChanges, TellsNothing};
 ghost use Rattle.botrun.specs.Watched.{station_of};
 
@@ -100,22 +104,51 @@ impl Process {
                 is_quiet,
             });
         }
-        let lines = told.lines.as_slice();
-        let nick = self.nick.as_slice();
-        look_at_all(rt, log, &mut self.uplink, settings, nick, lines, now)?;
-        let (others, admins, uplink) = (&mut self.others, &mut self.admins, &mut self.uplink);
-        pass(
-            rt, log, others, admins, uplink, settings, &told, pumps, now, watcher,
-        )?;
-        let first = outcome_of(told.reports.as_slice());
-        let more = is_settled(first) || !pumps;
-        self.pump(rt, log, store, settings, more, now, watcher)?;
-        self.compact_if_due(rt, log, store, settings, now, watcher)?;
+        self.follow(rt, log, store, settings, &told, pumps, now, watcher)?;
         self.space.look_if_full(log, now);
         // A proc may have had a leaf ask for a change. If this turn pumped and more is due at once, the link took
         // bytes, so the next turn comes at once too.
         let is_busy = said || (!pumps && self.others.is_pump_due(self.bot.ask_count(), now));
         Ok(Hearing { is_busy, is_quiet })
+    }
+
+    // Goes on from the first turn of `hear`, which `told` this: the connection to the server looks at its lines, and what
+    // the steps say is passed on. Then the bot takes all that waits, and the journal is rewritten if that is due. `pumped`
+    // says whether that first turn pumped.
+    fn follow<R: AllocGlobal, P: Promise, B: Run, W: Watcher>(
+        &mut self,
+        rt: &R,
+        log: &mut Log,
+        store: &ProcStore<P, B>,
+        settings: &Settings,
+        told: &Told,
+        pumped: bool,
+        now: u64,
+        watcher: &mut W,
+    ) -> Result<(), RunError>
+        requires moment { now < MOMENTS_END }
+        requires good { AllGood told.now.reports }
+        requires lets { LetsSend W.may (W.past watcher.old) (packets_in told.now.reports) }
+        requires told { self.old.others.mail.account.told ≡ sent_by (W.past watcher.old) }
+        // Once the packets of all steps are queued, the bot may go on.
+        requires up { told.now.end ≡ Done → IsUp P.promised store.now (station_of settings.now) W.may
+            (after_sends (packets_in told.now.reports) (W.past watcher.old)) self.old.bot
+            (sent_by (after_sends (packets_in told.now.reports) (W.past watcher.old))) }
+        ensures goes_on { OnOk result (GoesOn P.promised store.now self.old.bot self.old.lines self.new.bot self.new.lines) }
+        ensures up { OnOk result
+            (IsUp P.promised store.now (station_of settings.now) W.may (W.past watcher.new) self.new.bot
+            self.new.others.mail.account.told) }
+    {
+        let lines = told.lines.as_slice();
+        let nick = self.nick.as_slice();
+        look_at_all(rt, log, &mut self.uplink, settings, nick, lines, now)?;
+        let (others, admins, uplink) = (&mut self.others, &mut self.admins, &mut self.uplink);
+        pass(
+            rt, log, others, admins, uplink, settings, told, pumped, now, watcher,
+        )?;
+        let more = is_settled(outcome_of(told.reports.as_slice())) || !pumped;
+        self.pump(rt, log, store, settings, more, now, watcher)?;
+        self.compact_if_due(rt, log, store, settings, now, watcher)
     }
 
     // Whether what was told of a turn leaves nothing to do: no step says anything, no change waits, and the lines are what

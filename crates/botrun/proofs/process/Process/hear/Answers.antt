@@ -7,7 +7,7 @@ use Rattle.botrun.specs.Trusting.{trusts}
 use Rattle.upkeep.specs.Spaces.{admitted}
 use Rattle.watching.proofs.FollowingLemmas.{at_watched}
 use Rattle.watching.proofs.SendingLemmas.{even_heard, lets_all, up_sent}
-use Rattle.botrun.proofs.TakingLemmas.{all_admitted, all_taken, goes_on_from, stays}
+use Rattle.botrun.proofs.TakingLemmas.{all_admitted, all_taken, stays}
 use Rattle.botrun.proofs.process.Process.hear.Goals as goal
 
 pub watched_packets-requires : goal.watched_packets-requires
@@ -22,30 +22,27 @@ take_turn-told-requires-clause-heard g c =
 pub take_turn-told-requires-clause-watched : goal.take_turn-told-requires-clause-watched
 take_turn-told-requires-clause-watched g c = c.watched_packets.ensures.watched
 
-pub pass-requires-clause-lets : goal.pass-requires-clause-lets
-pass-requires-clause-lets g c =
+pub follow-requires-clause-lets : goal.follow-requires-clause-lets
+follow-requires-clause-lets g c =
     let packets = c.watched_packets.ensures in
     let turn = c.take_turn-told.ensures in
     lets_all _ _ _ _ _ _ _ _ _ _ _
     (even_heard _ _ _ _ _ _ _ _ _ c.requires.even packets.follows packets.watched packets.quiet packets.told)
     turn.watched turn.queues.unsent_is
 
-pub pass-requires-clause-told : goal.pass-requires-clause-told
-pass-requires-clause-told g c =
+pub follow-requires-clause-told : goal.follow-requires-clause-told
+follow-requires-clause-told g c =
     let packets = c.watched_packets.ensures in
     packets.told ∙ c.requires.even.settled.told_is ∙ sym packets.quiet.sent_is ∙ sym c.take_turn-told.ensures.queues.sent_is
 
-pub pump-requires : goal.pump-requires
-pump-requires g c =
+pub follow-requires-clause-up : goal.follow-requires-clause-up
+follow-requires-clause-up g c =
     let packets = c.watched_packets.ensures in
     let turn = c.take_turn-told.ensures in
-    let passed = c.in_ok-pass.ensures in
-    record {
-      up = up_sent _ _ _ _ _ _ _ _ _ _ _ _ _ _
-          (even_heard _ _ _ _ _ _ _ _ _ c.requires.even packets.follows packets.watched packets.quiet packets.told)
-          turn.follows turn.watched turn.queues.unsent_is (turn.queues.none passed.done) (turn.queues.ticked passed.done)
-          passed.past refl passed.told;
-    }
+    λ done.
+    up_sent _ _ _ _ _ _ _ _ _ _ _ _ _ _
+    (even_heard _ _ _ _ _ _ _ _ _ c.requires.even packets.follows packets.watched packets.quiet packets.told)
+    turn.follows turn.watched turn.queues.unsent_is (turn.queues.none done) (turn.queues.ticked done) refl refl refl
 
 pub returns-then-is_quiet : goal.returns-then-is_quiet
 returns-then-is_quiet g c =
@@ -110,7 +107,7 @@ returns g c = record {
     mid = c.take_turn-told.new.bot;
     between = c.take_turn-told.new.lines;
     turn = c.take_turn-told.ensures.turn;
-    rest = goes_on_from _ _ _ _ _ _ _ _ _ _ refl refl c.in_ok-pump.ensures.goes_on c.in_ok-compact_if_due.ensures.goes_on;
+    rest = c.in_ok-follow.ensures.goes_on;
   };
-  up = c.in_ok-compact_if_due.ensures.up;
+  up = c.in_ok-follow.ensures.up;
 }
