@@ -3,7 +3,7 @@ use Rattle.std.specs.Prelude.{ℕ, zero, suc, ◌==◌, List, [], ◌∷◌, ◌
 use Rattle.protocol.specs.Ends.{End}
 use Rattle.sharelink.specs.Telling.{end_held, end_last_reply, end_last_request}
 use Rattle.sharelink.specs.declared.held_snapshot.HeldSnapshot.{HeldSnapshot}
-use Rattle.peers.specs.declared.own.HeldParts.{HeldParts}
+use Rattle.handshake.specs.declared.own.HeldParts.{HeldParts}
 use Rattle.botcore.specs.Bots.{Bot}
 
 -- of leaf 1 to this one, in order: the number of the last request that the hub replied to

@@ -5,7 +5,8 @@ ghost use Rattle.botrun.specs.Owns.{held_of, last_replies, lasts_of};
 use botcore::Bot;
 use bytetext::NoMemory;
 use disks::FileDisk;
-use peers::{HeldParts, Links, Own};
+use handshake::{HeldParts, Own};
+use peers::Links;
 use recordsums::KeptSum;
 use std::alloc::Global;
 

@@ -1,9 +1,9 @@
 -- Which bot can use which secret.
 use Rattle.std.specs.Prelude.{ℕ, ◌==◌, Result, Ok, Err, if◌then◌else◌}
-use Rattle.peers.specs.declared.secret.Secret.{Secret}
-use Rattle.peers.specs.declared.secret.Secret.TheVariants.{Net, Leaf}
-use Rattle.peers.specs.declared.secret.SecretFault.{SecretFault}
-use Rattle.peers.specs.declared.secret.SecretFault.TheVariants.{LeafKey, OtherLeaf}
+use Rattle.handshake.specs.declared.secret.Secret.{Secret}
+use Rattle.handshake.specs.declared.secret.Secret.TheVariants.{Net, Leaf}
+use Rattle.handshake.specs.declared.secret.SecretFault.{SecretFault}
+use Rattle.handshake.specs.declared.secret.SecretFault.TheVariants.{LeafKey, OtherLeaf}
 use Rattle.doctor.specs.declared.verdict.Verdict.{Verdict}
 use Rattle.doctor.specs.declared.verdict.Verdict.TheVariants.{Fine, Note, Bad}
 use Rattle.doctor.specs.declared.verdict.Fine.TheVariants as Fine

@@ -6,7 +6,7 @@ use crate::modes::{FileMode, Seen, mode_to_give};
 use crate::report::Report;
 use crate::subject::Subject;
 use crate::verdict::{Bad, Fine, Note, Verdict};
-use peers::{Secret, SecretFault, key_of};
+use handshake::{Secret, SecretFault, key_of};
 use std::fs::File;
 use std::rt::Files;
 use std::{fs, str};

@@ -2,8 +2,8 @@
 use crate::modes::FileMode;
 use crate::rank::Rank;
 use botfolder::FolderFault;
+use handshake::SecretFault;
 use net::{DialFault, DoorFault};
-use peers::SecretFault;
 use serverlink::put;
 use std::fmt;
 use std::fmt::Display;

@@ -1,5 +1,5 @@
 // The secret file of a leaf.
-use peers::{HandshakeLine, Secret, SecretFault, key_of, leaf_file_line};
+use handshake::{HandshakeLine, Secret, SecretFault, key_of, leaf_file_line};
 use replaying::{FAULT, STREAM_FAULT, not_written};
 use std::fs::File;
 use std::io;

@@ -3,7 +3,7 @@ use Rattle.std.proofs.Common.{◌≡◌, ◌∙◌, ◌++◌, ℕ, zero, suc, re
 use Rattle.std.proofs.lemmas.List.{append-nil, length-map, take-append-le, take_all}
 use Rattle.std.specs.List.{remove}
 use Rattle.std.proofs.Math.Seq.{map-set_same}
-use Rattle.peers.specs.declared.hub_side.HubSide.{HubSide}
+use Rattle.handshake.specs.declared.hub_side.HubSide.{HubSide}
 use Rattle.peers.specs.declared.guest.Guest.{Guest}
 use Rattle.peers.specs.Drawn.{AreAmong, Draws, nonce_of, nonces_of}
 use Rattle.peers.specs.Drawn.AreAmong.{no_more, this, other}

@@ -4,7 +4,7 @@ use Rattle.std.specs.Prelude.{is_some}
 use Rattle.std.specs.List.{flat_map, list_any}
 use Rattle.peers.specs.declared.doubt.Doubted.{Doubted}
 use Rattle.peers.specs.declared.hub_links.HubLinks.{HubLinks}
-use Rattle.peers.specs.Books.{bar_line}
+use Rattle.handshake.specs.Books.{bar_line}
 use Rattle.peers.specs.Doubts.{Trusts, doubted_folders}
 use Rattle.peers.specs.Tells.{in_doubt}
 

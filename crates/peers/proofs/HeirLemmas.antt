@@ -1,18 +1,18 @@
 -- A leaf that was told that the hub is the heir of its net, by the bytes that it read last.
 use Rattle.std.proofs.Common.{◌≡◌, ◌↔◌, ◌∙◌, IsTrue, ℕ, ◌+◌, Bool, true, false, List, take, codes, Option, None, Some, if◌then◌else◌, refl, sym, ap, subst}
 use Rattle.std.specs.Str.{bytes_eq}
-use Rattle.peers.specs.declared.handshake_fault.HandshakeFault.{HandshakeFault}
-use Rattle.peers.specs.declared.handshake_fault.HandshakeFault.TheVariants.{NoGreeting, OtherVersion, Told}
-use Rattle.peers.specs.declared.handshake_reading.HubSaid.{HubSaid}
-use Rattle.peers.specs.declared.handshake_reading.HubSaid.TheVariants.{Welcome, No}
-use Rattle.peers.specs.declared.handshake_refusal.HandshakeRefusal.{HandshakeRefusal}
-use Rattle.peers.specs.declared.handshake_refusal.HandshakeRefusal.TheVariants.{Heir}
-use Rattle.peers.specs.declared.leaf_side.LeafSide.{LeafSide}
-use Rattle.peers.specs.declared.leaf_side.LeafHears.{LeafHears}
-use Rattle.peers.specs.declared.leaf_side.LeafHears.TheVariants.{Refused}
-use Rattle.peers.specs.Reading.{greeting_in, hub_said_in, line_len}
+use Rattle.handshake.specs.declared.handshake_fault.HandshakeFault.{HandshakeFault}
+use Rattle.handshake.specs.declared.handshake_fault.HandshakeFault.TheVariants.{NoGreeting, OtherVersion, Told}
+use Rattle.handshake.specs.declared.handshake_reading.HubSaid.{HubSaid}
+use Rattle.handshake.specs.declared.handshake_reading.HubSaid.TheVariants.{Welcome, No}
+use Rattle.handshake.specs.declared.handshake_refusal.HandshakeRefusal.{HandshakeRefusal}
+use Rattle.handshake.specs.declared.handshake_refusal.HandshakeRefusal.TheVariants.{Heir}
+use Rattle.handshake.specs.declared.leaf_side.LeafSide.{LeafSide}
+use Rattle.handshake.specs.declared.leaf_side.LeafHears.{LeafHears}
+use Rattle.handshake.specs.declared.leaf_side.LeafHears.TheVariants.{Refused}
+use Rattle.handshake.specs.Reading.{greeting_in, hub_said_in, line_len}
 use Rattle.peers.specs.Heirs.{IsToldBy}
-use Rattle.peers.specs.Sides.{greeting_fault, hears_greeting, hears_hub, leaf_after, leaf_hears, leaf_hears_line, leaf_hears_next, nonce_after, greeted_by}
+use Rattle.handshake.specs.Sides.{greeting_fault, hears_greeting, hears_hub, leaf_after, leaf_hears, leaf_hears_line, leaf_hears_next, nonce_after, greeted_by}
 
 -- which greeting was read does not change what the hub's second line means
 same_hub : (side : LeafSide) (greeted : Option (List ℕ)) (used : ℕ) (hub_nonce : List ℕ) (said : Option HubSaid)

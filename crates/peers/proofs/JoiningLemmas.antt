@@ -1,17 +1,17 @@
 -- Only a guest whose folder is in the book joins.
 use Rattle.std.proofs.Common.{◌≡◌, Option, Some, None, refl, sym, subst}
-use Rattle.peers.specs.Books.{Leaves}
-use Rattle.peers.specs.Judging.{judged}
+use Rattle.handshake.specs.Books.{Leaves}
+use Rattle.handshake.specs.Judging.{judged}
 use Rattle.peers.specs.Joining.{IsInBook, IsOfBook, place_for, verdict_by, verdict_of}
-use Rattle.peers.specs.Owns.{progress_for}
-use Rattle.peers.specs.declared.book.Place.{Place}
-use Rattle.peers.specs.declared.book.Place.TheVariants.{Free, Same, Taken, Barred}
+use Rattle.handshake.specs.Owns.{progress_for}
+use Rattle.handshake.specs.declared.book.Place.{Place}
+use Rattle.handshake.specs.declared.book.Place.TheVariants.{Free, Same, Taken, Barred}
 use Rattle.peers.specs.declared.guest.Guest.{Guest}
 use Rattle.peers.specs.declared.guest_stage.GuestStage.{GuestStage}
 use Rattle.peers.specs.declared.guest_stage.GuestStage.TheVariants.{Meets, Asks, Enters}
-use Rattle.peers.specs.declared.handshake_refusal.HandshakeRefusal.{HandshakeRefusal}
-use Rattle.peers.specs.declared.hub_side.HubSide.{HubSide}
-use Rattle.peers.specs.declared.own.Own.{Own}
+use Rattle.handshake.specs.declared.handshake_refusal.HandshakeRefusal.{HandshakeRefusal}
+use Rattle.handshake.specs.declared.hub_side.HubSide.{HubSide}
+use Rattle.handshake.specs.declared.own.Own.{Own}
 use Rattle.peers.specs.declared.verdict.Verdict.TheVariants.{Joins}
 
 joins_same : (fault : Option HandshakeRefusal) (place : Place) → verdict_by fault place ≡ Joins → place ≡ Same

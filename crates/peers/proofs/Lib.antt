@@ -1,11 +1,4 @@
 pub mod StreamLemmas
-pub mod WordLemmas
-pub mod HashLemmas
-pub mod TextLemmas
-pub mod BookLemmas
-pub mod ShownLemmas
-pub mod SecretLemmas
-pub mod MeetingLemmas
 pub mod WaitingLemmas
 pub mod SpeakerLemmas
 pub mod BeatLemmas
@@ -17,4 +10,3 @@ mod JoiningLemmas
 mod DoubtLemmas
 mod Walks
 mod DiceLemmas
-mod ParentLemmas

@@ -2,16 +2,16 @@
 use Rattle.std.specs.Prelude.{◌≡◌, ◌≢◌, ◌&&◌, ◌++◌, ◌∷◌, [], ℕ, nat_le, nat_lt, Bool, true, false, List, set, Option, Some, None, IsSome, slice_get, if◌then◌else◌}
 use Rattle.std.specs.List.{flat_map}
 use Rattle.peers.specs.declared.beat.Beat.{Beat}
-use Rattle.peers.specs.declared.book_line.BookLine.{BookLine}
-use Rattle.peers.specs.declared.book_line.BookLine.TheVariants.{Enters, Frees, Bars}
+use Rattle.handshake.specs.declared.book_line.BookLine.{BookLine}
+use Rattle.handshake.specs.declared.book_line.BookLine.TheVariants.{Enters, Frees, Bars}
 use Rattle.peers.specs.declared.doubt.Doubted.{Doubted}
-use Rattle.peers.specs.declared.handshake_refusal.HandshakeRefusal.{HandshakeRefusal}
-use Rattle.peers.specs.declared.handshake_refusal.HandshakeRefusal.TheVariants.{Heir, Net, Count, Other, Ahead, Records, Older}
+use Rattle.handshake.specs.declared.handshake_refusal.HandshakeRefusal.{HandshakeRefusal}
+use Rattle.handshake.specs.declared.handshake_refusal.HandshakeRefusal.TheVariants.{Heir, Net, Count, Other, Ahead, Records, Older}
 use Rattle.peers.specs.declared.links.Links.{Links}
 use Rattle.peers.specs.declared.links.Links.TheVariants.{Alone, Hub, Leaf}
 use Rattle.peers.specs.declared.seat.Seat.{Seat}
 use Rattle.peers.specs.declared.hub_links.HubLinks.{HubLinks}
-use Rattle.peers.specs.Books.{IsLine, bar_line, entry_line, free_line, with_line}
+use Rattle.handshake.specs.Books.{IsLine, bar_line, entry_line, free_line, with_line}
 use Rattle.peers.specs.Hearing.{refusal_of}
 use Rattle.peers.specs.Linked.{IsTaken}
 use Rattle.peers.specs.Tells.{in_doubt}

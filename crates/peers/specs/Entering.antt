@@ -7,8 +7,8 @@ use Rattle.peers.specs.declared.guest_stage.GuestStage.TheVariants.{Meets, Asks,
 use Rattle.peers.specs.declared.hub_links.HubLinks.{HubLinks}
 use Rattle.peers.specs.declared.links.Links.{Links}
 use Rattle.peers.specs.declared.links.Links.TheVariants.{Alone, Hub, Leaf}
-use Rattle.peers.specs.declared.own.Own.{Own}
-use Rattle.peers.specs.Books.{entry_line}
+use Rattle.handshake.specs.declared.own.Own.{Own}
+use Rattle.handshake.specs.Books.{entry_line}
 
 -- a guest that may join as soon as its folder is in the book
 abbrev pub is_at_book : GuestStage → Bool

@@ -1,10 +1,10 @@
 -- A hub tells a leaf that it is the heir of the leaf's net.
 use Rattle.std.specs.Prelude.{◌≡◌, ℕ, Bool, true, false, List}
-use Rattle.peers.specs.declared.handshake_fault.HandshakeFault.TheVariants.{Told}
-use Rattle.peers.specs.declared.handshake_refusal.HandshakeRefusal.TheVariants.{Heir}
-use Rattle.peers.specs.declared.leaf_side.LeafSide.{LeafSide}
-use Rattle.peers.specs.declared.leaf_side.LeafHears.TheVariants.{Refused}
-use Rattle.peers.specs.Sides.{leaf_hears}
+use Rattle.handshake.specs.declared.handshake_fault.HandshakeFault.TheVariants.{Told}
+use Rattle.handshake.specs.declared.handshake_refusal.HandshakeRefusal.TheVariants.{Heir}
+use Rattle.handshake.specs.declared.leaf_side.LeafSide.{LeafSide}
+use Rattle.handshake.specs.declared.leaf_side.LeafHears.TheVariants.{Refused}
+use Rattle.handshake.specs.Sides.{leaf_hears}
 
 -- These bytes of the hub's tell the leaf so, by a code under the leaf's key.
 abbrev pub TellsHeir : LeafSide → List ℕ → Type 0

@@ -1,8 +1,8 @@
 -- Which guest takes a leaf's seat, and how long a guest may take for it.
 use Rattle.std.specs.Prelude.{◌≡◌, ◌≤◌, ◌-◌, ℕ, [], drop, Option, Some, None}
 use Rattle.sealing.specs.Streams.{Opens}
-use Rattle.peers.specs.declared.book.Place.{Place}
-use Rattle.peers.specs.declared.book.Place.TheVariants.{Free, Same, Taken, Barred}
+use Rattle.handshake.specs.declared.book.Place.{Place}
+use Rattle.handshake.specs.declared.book.Place.TheVariants.{Free, Same, Taken, Barred}
 use Rattle.peers.specs.declared.guest.Guest.{Guest}
 use Rattle.peers.specs.declared.guest.Heeded.{Heeded}
 use Rattle.peers.specs.declared.guest.Heeded.TheVariants.{Waits, Asks as shows, Goes}
@@ -11,17 +11,17 @@ use Rattle.peers.specs.declared.verdict.Verdict.TheVariants.{Waits as not_yet, R
 use Rattle.peers.specs.declared.guest_stage.Asked.{Asked}
 use Rattle.peers.specs.declared.guest_stage.GuestStage.{GuestStage}
 use Rattle.peers.specs.declared.guest_stage.GuestStage.TheVariants.{Meets, Asks, Enters}
-use Rattle.peers.specs.declared.handshake_refusal.HandshakeRefusal.{HandshakeRefusal}
-use Rattle.peers.specs.declared.handshake_refusal.HandshakeRefusal.TheVariants.{Other}
-use Rattle.peers.specs.declared.hub_side.HubSide.{HubSide}
-use Rattle.peers.specs.declared.late.TheConstants.{TIME_LIMIT}
-use Rattle.peers.specs.declared.own.Own.{Own}
+use Rattle.handshake.specs.declared.handshake_refusal.HandshakeRefusal.{HandshakeRefusal}
+use Rattle.handshake.specs.declared.handshake_refusal.HandshakeRefusal.TheVariants.{Other}
+use Rattle.handshake.specs.declared.hub_side.HubSide.{HubSide}
+use Rattle.handshake.specs.declared.late.TheConstants.{TIME_LIMIT}
+use Rattle.handshake.specs.declared.own.Own.{Own}
 use Rattle.peers.specs.declared.seat.Seat.{Seat}
 use Rattle.peers.specs.declared.welcome.Welcome.{Welcome}
-use Rattle.peers.specs.Books.{Leaves, place_of}
-use Rattle.peers.specs.Judging.{judged}
-use Rattle.peers.specs.Owns.{progress_for}
-use Rattle.peers.specs.Sides.{ShowsKey, hub_keys}
+use Rattle.handshake.specs.Books.{Leaves, place_of}
+use Rattle.handshake.specs.Judging.{judged}
+use Rattle.handshake.specs.Owns.{progress_for}
+use Rattle.handshake.specs.Sides.{ShowsKey, hub_keys}
 
 -- ---- time
 

@@ -1,15 +1,5 @@
 pub mod Given
 pub mod Streams
-pub mod Digits
-pub mod Numbers
-pub mod Nets
-pub mod Keys
-pub mod Lines
-pub mod Reading
-pub mod Books
-pub mod Judging
-pub mod Sides
-pub mod Meetings
 pub mod Heirs
 pub mod PacketSpeakers
 pub mod Waiting
@@ -20,10 +10,7 @@ pub mod Moving
 pub mod HandOver
 pub mod Speakers
 pub mod Tells
-pub mod Secrets
-pub mod Owns
 pub mod Beats
-pub mod Parents
 pub mod Picking
 pub mod Sealed
 pub mod Hearing

@@ -2,8 +2,8 @@
 use Rattle.std.specs.Prelude.{ℕ, List}
 use Rattle.peers.specs.declared.guest_stage.GuestStage.{GuestStage}
 use Rattle.peers.specs.declared.guest_stage.GuestStage.TheVariants.{Meets, Asks, Enters}
-use Rattle.peers.specs.declared.hub_side.HubSide.{HubSide}
-use Rattle.peers.specs.Sides.{ShowsKey}
+use Rattle.handshake.specs.declared.hub_side.HubSide.{HubSide}
+use Rattle.handshake.specs.Sides.{ShowsKey}
 
 -- What was heard on this connection begins with the guest's line, which has the code under the key of the leaf that it
 -- names.

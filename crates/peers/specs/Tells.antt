@@ -11,9 +11,9 @@ use Rattle.peers.specs.declared.link_wire.LinkWire.{LinkWire}
 use Rattle.peers.specs.declared.link_wire.TheConstants.{MAX_UNSENT}
 use Rattle.peers.specs.declared.links.Links.{Links}
 use Rattle.peers.specs.declared.links.Links.TheVariants.{Alone, Hub, Leaf}
-use Rattle.peers.specs.declared.own.HeldParts.{HeldParts}
+use Rattle.handshake.specs.declared.own.HeldParts.{HeldParts}
 use Rattle.peers.specs.declared.seat.Seat.{Seat}
-use Rattle.peers.specs.Owns.{holds}
+use Rattle.handshake.specs.Owns.{holds}
 use Rattle.peers.specs.Picking.{is_request}
 use Rattle.peers.specs.Waiting.{TakesTurn}
 

@@ -4,8 +4,8 @@ ghost use Rattle.std.specs.Int.{w32, to_be_bytes};
 ghost use Rattle.sealing.specs.declared.limits.TheConstants.{BEAT_LEN};
 ghost use Rattle.peers.specs.Beats.{IsLast, beat_content};
 
-use crate::own::{HeldParts, Own};
 use arrayvec::ArrayVec;
+use handshake::{HeldParts, Own};
 use hex::decode_to_slice;
 use sealing::BEAT_LEN;
 

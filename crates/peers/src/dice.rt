@@ -2,7 +2,7 @@
 ghost use Rattle.std.specs.Prelude.{◌≡◌, ◌∷◌, ◌++◌, [], ℕ, List, IfOk, OnErr};
 ghost use Rattle.std.specs.Borrow.{ftrue};
 
-use crate::nonce::Nonce;
+use handshake::Nonce;
 use std::io;
 use std::marker::Model;
 use std::random::RandomSource;

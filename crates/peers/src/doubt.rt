@@ -1,12 +1,9 @@
 // Whether the hub may be an older copy of itself.
 ghost use Rattle.std.specs.Prelude.{◌≡◌};
-ghost use Rattle.peers.specs.Books.{entry_line};
+ghost use Rattle.handshake.specs.Books.{entry_line};
 ghost use Rattle.peers.specs.Doubts.{IsDoubtIn, doubted_by, is_doubt};
 
-use crate::book_line::{BookLine, entry_line, first_line};
-use crate::drawn_number::DrawnNumber;
-use crate::handshake_line::HandshakeLine;
-use crate::handshake_refusal::HandshakeRefusal;
+use handshake::{BookLine, DrawnNumber, HandshakeLine, HandshakeRefusal, entry_line, first_line};
 
 /// A leaf whose records show that the hub may be an older copy of itself: see [`Links::doubt`](crate::Links::doubt).
 #[derive(Clone, Copy, Debug, PartialEq, Eq)]

@@ -1,22 +1,20 @@
 // What the hub does when it may be an older copy of itself, and when a leaf is made again.
 ghost use Rattle.std.specs.Prelude.{◌≡◌, true, false, is_some, None, Some, IfOk, IfSome, IsSome, IsTrue, OnErr, option_map};
 ghost use Rattle.std.specs.List.{flat_map, list_any};
-ghost use Rattle.peers.specs.Books.{bar_line};
+ghost use Rattle.handshake.specs.Books.{bar_line};
 ghost use Rattle.peers.specs.Doubts.{Compares, Renews, Trusts, doubted_folders, is_doubt, is_leaf_of, with_doubt};
 ghost use Rattle.peers.specs.Hearing.{refusal_of};
 ghost use Rattle.peers.specs.Tells.{in_doubt};
 
 use crate::beat::Beat;
-use crate::book_line::{bar_line, free_line};
 use crate::doubt::{Doubt, Doubted, doubt_line, is_doubt};
-use crate::drawn_number::DrawnNumber;
 use crate::gone::Gone;
-use crate::handshake_fault::HandshakeFault;
-use crate::handshake_line::HandshakeLine;
-use crate::handshake_refusal::HandshakeRefusal;
 use crate::hub_links::HubLinks;
 use crate::seat::Seat;
 use bytetext::{NoMemory, bytes_of};
+use handshake::{
+    DrawnNumber, HandshakeFault, HandshakeLine, HandshakeRefusal, bar_line, free_line,
+};
 use net::Log;
 use std::alloc::Global;
 

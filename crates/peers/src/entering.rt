@@ -4,12 +4,11 @@ ghost use Rattle.std.specs.List.{flat_map, list_any};
 ghost use Rattle.peers.specs.Entering.{entry_of, is_any_entering, is_entering, lines_to_enter};
 ghost use Rattle.peers.specs.Joining.{IsOfBook};
 
-use crate::book::{Book, Place};
-use crate::book_line::entry_line;
 use crate::guest::Guest;
 use crate::guest_stage::GuestStage;
 use crate::hub_links::HubLinks;
 use bytetext::NoMemory;
+use handshake::{Book, Place, entry_line};
 use net::Log;
 use std::alloc::Global;
 

@@ -1,5 +1,5 @@
 // Why another bot is disconnected.
-use crate::handshake_fault::HandshakeFault;
+use handshake::HandshakeFault;
 use sealing::SealFault;
 use sharewire::WireFault;
 use std::fmt;

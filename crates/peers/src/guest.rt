@@ -3,21 +3,18 @@ ghost use Rattle.std.specs.Prelude.{◌≡◌, ◌≤◌};
 ghost use Rattle.peers.specs.declared.link_wire.TheConstants.{MAX_SEALED};
 ghost use Rattle.peers.specs.Shown.{HasShown};
 
-use crate::book::Book;
 use crate::frame_reader::FrameReader;
 use crate::gone::Gone;
 use crate::guest_stage::{Asked, GuestStage};
-use crate::handshake_fault::HandshakeFault;
-use crate::handshake_refusal::HandshakeRefusal;
 use crate::home::{Home, home_of};
-use crate::hub_side::{HubHears, HubSide};
-use crate::late::is_late;
 use crate::link_wire::{BOUNDS, LinkWire, WireKeys};
-use crate::own::{HeldParts, Own};
 use crate::seat::Seat;
 use crate::verdict::{Verdict, verdict_at};
 use crate::welcome::Welcome;
 use bytetext::NoMemory;
+use handshake::{
+    Book, HandshakeFault, HandshakeRefusal, HeldParts, HubHears, HubSide, Own, is_late,
+};
 use net::{AnyArrival, AnySocket, Connection, Way};
 use std::alloc::Global;
 

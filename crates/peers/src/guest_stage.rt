@@ -1,5 +1,5 @@
 // How far a guest has come.
-use crate::handshake_reading::Ask;
+use handshake::Ask;
 
 // How far a guest has come.
 #[derive(Clone, Copy)]

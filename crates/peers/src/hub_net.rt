@@ -1,9 +1,7 @@
 // The net of a hub.
 ghost use Rattle.std.specs.Prelude.{◌≡◌};
 
-use crate::drawn_number::DrawnNumber;
-use crate::hub_side::HubSide;
-use crate::nonce::Nonce;
+use handshake::{DrawnNumber, HubSide, Nonce};
 use sealing::Key;
 
 // What a hub knows of its net.

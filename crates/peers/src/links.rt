@@ -17,13 +17,11 @@ ghost use Rattle.sharelink.specs.Shapes.{HasGoodRecords};
 
 use crate::dice::Dice;
 use crate::doubt::Doubt;
-use crate::drawn_number::DrawnNumber;
-use crate::handshake_line::HandshakeLine;
 use crate::hub_connection::HubConnection;
 use crate::hub_links::HubLinks;
-use crate::own::Own;
 use crate::seat::Seat;
 use bytetext::NoMemory;
+use handshake::{DrawnNumber, HandshakeLine, Own};
 use net::{Log, Registry};
 use settings::Settings;
 use sharelink::{LinkNote, Outgoing};

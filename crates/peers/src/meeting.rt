@@ -5,17 +5,13 @@ ghost use Rattle.peers.specs.declared.link_wire.TheConstants.{MAX_SEALED};
 
 use crate::beat::Beat;
 use crate::gone::Gone;
-use crate::handshake_fault::HandshakeFault;
-use crate::handshake_keys::LinkKeys;
-use crate::handshake_progress::LeafRights;
-use crate::handshake_sides::HubAnswer;
 use crate::hub_link::HubLink;
-use crate::late::is_late;
-use crate::leaf_side::{LeafHears, LeafSide};
 use crate::link_wire::{BOUNDS, LinkWire, WireKeys};
-use crate::own::Own;
 use crate::turn_time::TurnTime;
 use bytetext::NoMemory;
+use handshake::{
+    HandshakeFault, HubAnswer, LeafHears, LeafRights, LeafSide, LinkKeys, Own, is_late,
+};
 use net::{AnySocket, Connection, Dialled, Way};
 use std::alloc::Global;
 

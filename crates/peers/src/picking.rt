@@ -3,9 +3,9 @@ ghost use Rattle.std.specs.Prelude.{◌≡◌, ◌<◌, ◌≤◌, ◌+◌, ◌+
 ghost use Rattle.std.specs.List.{count_by};
 ghost use Rattle.peers.specs.Picking.{grants, is_barred, is_hello, is_lost, is_ours, is_request, picked, said_after, said_by};
 
-use crate::handshake_progress::LeafRights;
 use botjournal::LAYOUT;
 use bytetext::NoMemory;
+use handshake::LeafRights;
 use sharewire::Packet;
 use std::alloc::Global;
 use std::collections::VecDeque;

@@ -3,22 +3,20 @@ ghost use Rattle.std.specs.Prelude.{◌≡◌, ◌≤◌, true, false, [], IfOk,
 ghost use Rattle.std.specs.List.{AllByRecursion, count_by, list_all};
 ghost use Rattle.sharelink.specs.Shapes.{HasGoodRecords};
 ghost use Rattle.sharewire.specs.Frames.{CanBeWritten};
-ghost use Rattle.peers.specs.declared.handshake_progress.LeafRights.TheVariants.{Persons, Reads};
+ghost use Rattle.handshake.specs.declared.handshake_progress.LeafRights.TheVariants.{Persons, Reads};
 ghost use Rattle.peers.specs.Hearing.{HandsOn, HeedsBeats, ReadsFrames};
 ghost use Rattle.peers.specs.Picking.{is_hello, is_nameless, is_ours, is_request, picked, said_by};
 ghost use Rattle.peers.specs.Speakers.{is_own};
 ghost use Rattle.peers.specs.Tells.{TellsLeaf, is_held};
 
 use crate::beat::{Beat, Beats, last_of};
-use crate::drawn_number::DrawnNumber;
 use crate::frame_reader::FrameReader;
 use crate::gone::Gone;
-use crate::handshake_progress::LeafRights;
 use crate::link_wire::LinkWire;
-use crate::own::HeldParts;
 use crate::picking::picked;
 use crate::speaker::is_said_by;
 use bytetext::NoMemory;
+use handshake::{DrawnNumber, HeldParts, LeafRights};
 use net::Way;
 use sharewire::Packet;
 use std::alloc::Global;

@@ -13,8 +13,6 @@ use crate::doubts::note_refusal;
 use crate::entry::Entry;
 use crate::gone::Gone;
 use crate::guest::Guest;
-use crate::handshake_progress::LeafRights;
-use crate::handshake_refusal::HandshakeRefusal;
 use crate::hub_links::HubLinks;
 use crate::inbox::Inbox;
 use crate::pulse::SILENCE;
@@ -22,6 +20,7 @@ use crate::seat::Seat;
 use crate::verdict::Verdict;
 use crate::welcome::Welcome;
 use bytetext::NoMemory;
+use handshake::{HandshakeRefusal, LeafRights};
 use net::Log;
 use std::alloc::Global;
 

@@ -1,12 +1,8 @@
 // What a bot is in its net.
 ghost use Rattle.std.specs.Prelude.{◌≡◌};
 
-use crate::book::Book;
 use crate::doubt::Doubted;
-use crate::drawn_number::DrawnNumber;
-use crate::handshake_progress::{LeafRights, Progress};
-use crate::leaf_side::LeafSide;
-use crate::nonce::Nonce;
+use handshake::{Book, DrawnNumber, LeafRights, LeafSide, Nonce, Progress};
 use sealing::Key;
 
 /// What a hub is in its net.

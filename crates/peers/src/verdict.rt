@@ -2,8 +2,7 @@
 ghost use Rattle.std.specs.Prelude.{◌≡◌};
 ghost use Rattle.peers.specs.Joining.{verdict_at};
 
-use crate::book::Place;
-use crate::handshake_refusal::HandshakeRefusal;
+use handshake::{HandshakeRefusal, Place};
 
 // What is to be done with a guest.
 #[derive(Clone, Copy)]

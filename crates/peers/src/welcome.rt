@@ -1,5 +1,5 @@
 // What the hub tells a leaf that it welcomes.
-use crate::handshake_progress::{LeafRights, Progress};
+use handshake::{LeafRights, Progress};
 
 // What the hub tells a leaf that it welcomes, and when.
 #[derive(Clone, Copy)]

@@ -6,7 +6,7 @@ use Rattle.botjournal.specs.Contents.{Contents, meaning}
 use Rattle.protocol.specs.Snapshots.{records_from}
 use Rattle.protocol.specs.LeafRules.{LeafState}
 use Rattle.protocol.specs.Journals.{leaf_meaning, stand_together}
-use Rattle.peers.specs.Digits.{digits_in}
+use Rattle.handshake.specs.Digits.{digits_in}
 use Rattle.botfolder.specs.declared.number_file.TheConstants.{NUMBER_DIGITS}
 use Rattle.promotion.specs.declared.reading.LeafStanding.{LeafStanding}
 

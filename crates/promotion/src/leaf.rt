@@ -17,7 +17,7 @@ use botjournal::{Base, BotJournal, LAYOUT, Request};
 use bytejournal::Disks;
 use bytetext::Failure;
 use disks::{Disk as _, MemDisk};
-use peers::DrawnNumber;
+use handshake::DrawnNumber;
 use sharelink::{BotLink, MAX_LEAVES};
 use std::alloc::Global;
 use std::marker::Model;

@@ -3,11 +3,11 @@ ghost use Rattle.std.specs.Prelude.{◌≡◌, ◌≢◌, ◌++◌, IfErr, IfOk,
 ghost use Rattle.protocol.specs.Snapshots.{users_in};
 ghost use Rattle.bytetext.specs.declared.failure.Failure.TheVariants.{Refused};
 ghost use Rattle.promotion.specs.declared.fault.PromotionFault.TheVariants.{System};
-ghost use Rattle.peers.specs.Parents.{parent_line};
+ghost use Rattle.handshake.specs.Parents.{parent_line};
 
 use crate::fault::{PromotionError, PromotionFault};
 use bytetext::{Failure, NoMemory};
-use peers::DrawnNumber;
+use handshake::DrawnNumber;
 use recordtext::{put, put_number};
 use std::alloc::Global;
 use std::random::RandomSource;

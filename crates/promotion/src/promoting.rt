@@ -6,10 +6,10 @@ ghost use Rattle.botfolder.specs.declared.fault.FolderFault.TheVariants.{LongNam
 ghost use Rattle.botfolder.specs.declared.number_file.TheConstants.{NUMBER_DIGITS};
 ghost use Rattle.botfolder.specs.declared.paths.TheConstants.{MAX_PATH};
 ghost use Rattle.botfolder.specs.Folders.{AreReady};
-ghost use Rattle.peers.specs.Digits.{digits_in};
+ghost use Rattle.handshake.specs.Digits.{digits_in};
 ghost use Rattle.promotion.specs.declared.fault.PromotionFault.TheVariants.{Folder};
 ghost use Rattle.promotion.specs.Faults.{IsOfPromotion};
-ghost use Rattle.peers.specs.Parents.{parent_line};
+ghost use Rattle.handshake.specs.Parents.{parent_line};
 ghost use Rattle.promotion.specs.Promotions.{Promotes};
 
 use crate::fault::{PromotionError, PromotionFault, heir_error};
@@ -21,7 +21,7 @@ use botfolder::{Begun, BotFolder, FolderError, FolderFault};
 use bytejournal::Disks;
 use bytetext::Failure;
 use disks::{FileDisk, Pair};
-use peers::DrawnNumber;
+use handshake::DrawnNumber;
 use std::fs;
 use std::fs::File;
 use std::random::RandomSource;

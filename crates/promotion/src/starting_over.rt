@@ -4,7 +4,7 @@ ghost use Rattle.bytetext.specs.declared.failure.Failure.TheVariants.{Refused};
 ghost use Rattle.botfolder.specs.declared.fault.FolderFault.TheVariants.{LongName};
 ghost use Rattle.botfolder.specs.declared.number_file.TheConstants.{NUMBER_DIGITS};
 ghost use Rattle.botfolder.specs.declared.paths.TheConstants.{MAX_PATH};
-ghost use Rattle.peers.specs.Digits.{digits_in};
+ghost use Rattle.handshake.specs.Digits.{digits_in};
 ghost use Rattle.promotion.specs.declared.fault.PromotionFault.TheVariants.{Folder};
 ghost use Rattle.promotion.specs.Faults.{IsOfLeaf};
 
@@ -13,7 +13,7 @@ use crate::leaf::Leaf;
 use crate::reading::{leaf_in, net_of, taken};
 use botfolder::{BotFolder, FolderFault};
 use bytetext::Failure;
-use peers::DrawnNumber;
+use handshake::DrawnNumber;
 use std::fs::File;
 use std::rt::Files;
 use std::str;

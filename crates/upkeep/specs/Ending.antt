@@ -1,7 +1,7 @@
 -- The exit status of a bot's process.
 use Rattle.std.specs.Prelude.{ℕ, ◌==◌, ◌||◌, if◌then◌else◌}
-use Rattle.peers.specs.declared.secret.SecretFault.{SecretFault}
-use Rattle.peers.specs.declared.secret.SecretFault.TheVariants.{Unreadable, NotRegular, ProcessFiles, MachineFiles, NoMemory as no_memory, DiskFails, Length, BadLeafKey, LeafKey, OtherLeaf}
+use Rattle.handshake.specs.declared.secret.SecretFault.{SecretFault}
+use Rattle.handshake.specs.declared.secret.SecretFault.TheVariants.{Unreadable, NotRegular, ProcessFiles, MachineFiles, NoMemory as no_memory, DiskFails, Length, BadLeafKey, LeafKey, OtherLeaf}
 use Rattle.upkeep.specs.declared.account.AccountFault.{AccountFault}
 use Rattle.upkeep.specs.declared.account.AccountFault.TheVariants as account
 use Rattle.upkeep.specs.declared.page_opening.PageFault.{PageFault}

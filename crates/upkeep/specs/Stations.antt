@@ -4,11 +4,11 @@ use Rattle.settings.specs.declared.settings.LeafLine.{LeafLine}
 use Rattle.settings.specs.declared.settings.LeafRule.{LeafRule}
 use Rattle.settings.specs.declared.settings.LeafRule.TheVariants.{Reads as reads_line, Persons as persons_line}
 use Rattle.settings.specs.declared.settings.Station.{Station}
-use Rattle.peers.specs.Keys.{leaf_key}
-use Rattle.peers.specs.declared.secret.Secret.{Secret}
-use Rattle.peers.specs.declared.secret.Secret.TheVariants.{Net as NetSecret, Leaf as LeafKey}
-use Rattle.peers.specs.declared.handshake_progress.LeafRights.{LeafRights}
-use Rattle.peers.specs.declared.handshake_progress.LeafRights.TheVariants.{Reads, Persons}
+use Rattle.handshake.specs.Keys.{leaf_key}
+use Rattle.handshake.specs.declared.secret.Secret.{Secret}
+use Rattle.handshake.specs.declared.secret.Secret.TheVariants.{Net as NetSecret, Leaf as LeafKey}
+use Rattle.handshake.specs.declared.handshake_progress.LeafRights.{LeafRights}
+use Rattle.handshake.specs.declared.handshake_progress.LeafRights.TheVariants.{Reads, Persons}
 use Rattle.peers.specs.declared.stations.LeafLimit.{LeafLimit}
 use Rattle.peers.specs.declared.links.Links.{Links}
 use Rattle.peers.specs.declared.links.Links.TheVariants.{Alone, Hub, Leaf}

@@ -1,6 +1,6 @@
 // The account that a bot logs in to, and the file of its password.
 ghost use Rattle.std.specs.Prelude.{◌≡◌, ◌<◌, ◌≤◌, ◌==◌, IfOk, IfSome, is_some, length, position};
-ghost use Rattle.peers.specs.Secrets.{secret_line, without_cr};
+ghost use Rattle.handshake.specs.Secrets.{secret_line, without_cr};
 ghost use Rattle.upkeep.specs.Ending.{account_cause};
 
 use crate::ending::RunError;

@@ -6,11 +6,14 @@ use crate::ending::{RunError, of_folder};
 use administrators::LogEntry;
 use botfolder::BotFolder;
 use bytetext::{Failure, NoMemory};
+use handshake::{
+    Book, DrawnNumber, LeafRights, Secret, SecretFault, key_of, leaf_key, parent_in,
+    tunnel_key_line,
+};
 use net::{DoorFault, Log, Registry, literal};
 use peers::{
-    Book, Doubted, DrawnNumber, HubConnection, HubLinks, HubStation, LeafLimit, LeafRights,
-    LeafStation, Links, ListenFault, ListenPlace, Secret, SecretFault, doubt_in, key_of, leaf_key,
-    parent_in, tunnel_key_line,
+    Doubted, HubConnection, HubLinks, HubStation, LeafLimit, LeafStation, Links, ListenFault,
+    ListenPlace, doubt_in,
 };
 use sealing::Key;
 use settings::{LeafLine, LeafRule, Settings, Station};

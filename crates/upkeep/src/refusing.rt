@@ -6,7 +6,8 @@ ghost use Rattle.upkeep.specs.Refusing.{is_change};
 use crate::space::{NO_ROOM, Space};
 use bytetext::NoMemory;
 use control::AdminCommand;
-use peers::{Doubt, HandshakeRefusal, Links};
+use handshake::HandshakeRefusal;
+use peers::{Doubt, Links};
 use std::alloc::Global;
 
 // The answer to an admin who asks for a change at a leaf that may only read.

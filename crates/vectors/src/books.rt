@@ -2,7 +2,7 @@
 use crate::handshakes::{bytes_of, drawn};
 use bytetext::{Failure, Text};
 use caselines::{BAD_WORDS, CaseError, Sink, number};
-use peers::{
+use handshake::{
     Book, BookFault, Place, Secret, SecretFault, leaf_file_line, leaf_key as leaf_key_of,
     secret_in, tunnel_key_line,
 };

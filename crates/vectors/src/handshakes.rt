@@ -1,7 +1,7 @@
 // What the sides of a connection hear before its first record.
 use bytetext::Text;
 use caselines::{BAD_WORDS, CaseError, Sink, number};
-use peers::{
+use handshake::{
     Ask, DrawnNumber, HandshakeFault, HandshakeRefusal, HubAnswer, HubHears, HubSide, LeafHears,
     LeafRights, LeafSide, LinkKeys, Nonce, Place, Progress, is_late, leaf_key,
 };

@@ -1,4 +1,4 @@
-use Rattle.peers.specs.declared.book_line.BookLine.TheVariants.{Enters}
+use Rattle.handshake.specs.declared.book_line.BookLine.TheVariants.{Enters}
 use Rattle.peers.proofs.doubt.doubt_in.Goals as goal
 
 pub returns-in-None : goal.returns-in-None

@@ -1,6 +1,6 @@
 use Rattle.std.proofs.Common.{◌≡◌, take}
 use Rattle.std.specs.List.{flat_map}
-use Rattle.peers.specs.Books.{bar_line}
+use Rattle.handshake.specs.Books.{bar_line}
 use Rattle.peers.proofs.doubts.bar_lines.Given as goal
 
 -- those of the folders so far

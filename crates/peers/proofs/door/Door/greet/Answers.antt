@@ -1,6 +1,6 @@
 use Rattle.std.proofs.Common.{◌∙◌, ◌++◌, ◌∷◌, [], ap}
 use Rattle.peers.specs.declared.door.Door.{Door}
-use Rattle.peers.specs.declared.hub_side.HubSide.{HubSide}
+use Rattle.handshake.specs.declared.hub_side.HubSide.{HubSide}
 use Rattle.peers.specs.Drawn.{nonces_of}
 use Rattle.peers.proofs.DiceLemmas.{among_more, among_same, among_self, draws_none, draws_one}
 use Rattle.peers.proofs.door.Door.greet.Goals as goal

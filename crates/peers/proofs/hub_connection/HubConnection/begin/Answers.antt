@@ -1,5 +1,5 @@
 use Rattle.std.proofs.Common.{◌∙◌, ap}
-use Rattle.peers.specs.declared.leaf_side.LeafSide.{LeafSide}
+use Rattle.handshake.specs.declared.leaf_side.LeafSide.{LeafSide}
 use Rattle.peers.specs.Drawn.{nonces_at}
 use Rattle.peers.proofs.DiceLemmas.{among_last, among_self, draws_none, draws_one}
 use Rattle.peers.proofs.hub_connection.HubConnection.begin.Goals as goal

@@ -1,0 +1,13 @@
+pub mod Digits
+pub mod Numbers
+pub mod Nets
+pub mod Keys
+pub mod Lines
+pub mod Reading
+pub mod Books
+pub mod Judging
+pub mod Sides
+pub mod Meetings
+pub mod Secrets
+pub mod Owns
+pub mod Parents

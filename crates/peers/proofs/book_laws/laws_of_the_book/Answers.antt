@@ -1,8 +1,0 @@
-use Rattle.peers.proofs.BookLemmas.{barred_stays, last_counts}
-use Rattle.peers.proofs.book_laws.laws_of_the_book.Goals as goal
-
-pub returns-clause-last : goal.returns-clause-last
-returns-clause-last c = last_counts
-
-pub returns-clause-barred : goal.returns-clause-barred
-returns-clause-barred c = barred_stays

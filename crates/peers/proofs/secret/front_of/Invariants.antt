@@ -1,6 +1,0 @@
-use Rattle.std.proofs.Common.{◌≤◌, length}
-use Rattle.peers.proofs.secret.front_of.Given as goal
-
--- no more was read than there is room for
-abbrev pub invariant-loop : goal.invariant-loop
-invariant-loop l = l.count ≤ length l.bytes
