@@ -10,15 +10,15 @@ use Rattle.std.proofs.lemmas.Bool.Decides.{Decides-eqb}
 use Rattle.std.proofs.lemmas.Fmt.{length-decimal-le}
 use Rattle.std.proofs.lemmas.List.Folds.{list_all-append}
 use Rattle.std.proofs.lemmas.Slice.Eq.{bytes_eq-Decides}
-use Rattle.handshake.specs.declared.handshake_fault.HandshakeFault.TheVariants.{Told, OtherNet, WrongCode, NoSuchLeaf}
-use Rattle.handshake.specs.declared.handshake_progress.Progress.{Progress}
-use Rattle.handshake.specs.declared.handshake_progress.LeafRights.{LeafRights}
-use Rattle.handshake.specs.declared.handshake_progress.LeafRights.TheVariants.{Asks as may_ask, Reads, Persons}
-use Rattle.handshake.specs.declared.handshake_reading.HubSaid.TheVariants.{Welcome, No}
-use Rattle.handshake.specs.declared.handshake_refusal.HandshakeRefusal.{HandshakeRefusal}
-use Rattle.handshake.specs.declared.handshake_refusal.HandshakeRefusal.TheVariants.{Heir, Net, Count, Other, Ahead, Records, Older}
-use Rattle.handshake.specs.declared.handshake_sides.LeafWords.{LeafWords}
-use Rattle.handshake.specs.declared.handshake_sides.HubAnswer.{HubAnswer}
+use Rattle.handshake.specs.declared.fault.HandshakeFault.TheVariants.{Told, OtherNet, WrongCode, NoSuchLeaf}
+use Rattle.handshake.specs.declared.progress.Progress.{Progress}
+use Rattle.handshake.specs.declared.progress.LeafRights.{LeafRights}
+use Rattle.handshake.specs.declared.progress.LeafRights.TheVariants.{Asks as may_ask, Reads, Persons}
+use Rattle.handshake.specs.declared.reading.HubSaid.TheVariants.{Welcome, No}
+use Rattle.handshake.specs.declared.refusal.HandshakeRefusal.{HandshakeRefusal}
+use Rattle.handshake.specs.declared.refusal.HandshakeRefusal.TheVariants.{Heir, Net, Count, Other, Ahead, Records, Older}
+use Rattle.handshake.specs.declared.sides.LeafWords.{LeafWords}
+use Rattle.handshake.specs.declared.sides.HubAnswer.{HubAnswer}
 use Rattle.handshake.specs.declared.hub_side.HubSide.{HubSide}
 use Rattle.handshake.specs.declared.hub_side.HubHears.TheVariants.{Asks, Refused as not_heard}
 use Rattle.handshake.specs.declared.leaf_side.LeafSide.{LeafSide}

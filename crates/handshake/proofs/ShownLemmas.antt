@@ -1,8 +1,8 @@
 -- A leaf that asks has shown the code under its own key.
 use Rattle.std.proofs.Common.{◌≡◌, ◌+◌, ℕ, Bool, true, false, not, if◌then◌else◌, List, take, Option, Some, None, refl}
 use Rattle.std.proofs.lemmas.Slice.Eq.{bytes_eq-Decides}
-use Rattle.handshake.specs.declared.handshake_fault.HandshakeFault.TheVariants.{NoSuchLeaf, WrongCode}
-use Rattle.handshake.specs.declared.handshake_reading.Ask.{Ask}
+use Rattle.handshake.specs.declared.fault.HandshakeFault.TheVariants.{NoSuchLeaf, WrongCode}
+use Rattle.handshake.specs.declared.reading.Ask.{Ask}
 use Rattle.handshake.specs.declared.hub_side.HubSide.{HubSide}
 use Rattle.handshake.specs.declared.hub_side.HubHears.TheVariants.{Asks, Refused}
 use Rattle.handshake.specs.Keys.{leaf_key}

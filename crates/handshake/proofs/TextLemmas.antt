@@ -8,16 +8,16 @@ use Rattle.std.proofs.lemmas.Bool.{and_parts}
 use Rattle.std.proofs.lemmas.Bool.Decides.{Decides-eqb, nat_tests}
 use Rattle.std.proofs.lemmas.Fmt.{decimal_nonempty}
 use Rattle.std.proofs.lemmas.Slice.Eq.{bytes_eq-Decides}
-use Rattle.handshake.specs.declared.handshake_progress.Progress.{Progress}
-use Rattle.handshake.specs.declared.handshake_progress.LeafRights.{LeafRights}
-use Rattle.handshake.specs.declared.handshake_progress.LeafRights.TheVariants.{Asks, Reads, Persons}
-use Rattle.handshake.specs.declared.handshake_reading.Ask.{Ask}
-use Rattle.handshake.specs.declared.handshake_reading.HubSaid.{HubSaid}
-use Rattle.handshake.specs.declared.handshake_reading.HubSaid.TheVariants.{Welcome, No}
-use Rattle.handshake.specs.declared.handshake_refusal.HandshakeRefusal.{HandshakeRefusal}
-use Rattle.handshake.specs.declared.handshake_refusal.HandshakeRefusal.TheVariants.{Heir, Net, Count, Other, Ahead, Records, Older}
-use Rattle.handshake.specs.declared.handshake_sides.LeafWords.{LeafWords}
-use Rattle.handshake.specs.declared.handshake_sides.HubAnswer.{HubAnswer}
+use Rattle.handshake.specs.declared.progress.Progress.{Progress}
+use Rattle.handshake.specs.declared.progress.LeafRights.{LeafRights}
+use Rattle.handshake.specs.declared.progress.LeafRights.TheVariants.{Asks, Reads, Persons}
+use Rattle.handshake.specs.declared.reading.Ask.{Ask}
+use Rattle.handshake.specs.declared.reading.HubSaid.{HubSaid}
+use Rattle.handshake.specs.declared.reading.HubSaid.TheVariants.{Welcome, No}
+use Rattle.handshake.specs.declared.refusal.HandshakeRefusal.{HandshakeRefusal}
+use Rattle.handshake.specs.declared.refusal.HandshakeRefusal.TheVariants.{Heir, Net, Count, Other, Ahead, Records, Older}
+use Rattle.handshake.specs.declared.sides.LeafWords.{LeafWords}
+use Rattle.handshake.specs.declared.sides.HubAnswer.{HubAnswer}
 use Rattle.handshake.specs.Digits.{is_digit, are_digits, digits_in}
 use Rattle.handshake.specs.Keys.{to_leaf_text, to_hub_text}
 use Rattle.handshake.specs.Lines.{hub_front, leaf_text, net_word, no_front, refusal_word, rights_word, with_nonces}

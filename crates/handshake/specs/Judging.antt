@@ -3,10 +3,10 @@ use Rattle.std.specs.Prelude.{ℕ, ◌==◌, ◌&&◌, ◌||◌, not, nat_lt, Bo
 use Rattle.std.specs.Str.{bytes_eq}
 use Rattle.handshake.specs.declared.book.Place.{Place}
 use Rattle.handshake.specs.declared.book.Place.TheVariants.{Free, Same, Taken, Barred}
-use Rattle.handshake.specs.declared.handshake_progress.Progress.{Progress}
-use Rattle.handshake.specs.declared.handshake_refusal.HandshakeRefusal.{HandshakeRefusal}
-use Rattle.handshake.specs.declared.handshake_refusal.HandshakeRefusal.TheVariants.{Heir, Net, Count, Other, Ahead, Records, Older}
-use Rattle.handshake.specs.declared.handshake_sides.LeafWords.{LeafWords}
+use Rattle.handshake.specs.declared.progress.Progress.{Progress}
+use Rattle.handshake.specs.declared.refusal.HandshakeRefusal.{HandshakeRefusal}
+use Rattle.handshake.specs.declared.refusal.HandshakeRefusal.TheVariants.{Heir, Net, Count, Other, Ahead, Records, Older}
+use Rattle.handshake.specs.declared.sides.LeafWords.{LeafWords}
 use Rattle.handshake.specs.declared.hub_side.HubSide.{HubSide}
 use Rattle.handshake.specs.Nets.{may_be_of}
 

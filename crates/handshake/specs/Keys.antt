@@ -1,7 +1,7 @@
 -- The keys that come of a net's secret, each the block that RFC 2104 makes of an HMAC's 32 bytes.
 use Rattle.std.specs.Prelude.{ℕ, List, ◌++◌, codes, decimal}
 use Rattle.sealing.specs.Hmac.{block_of, hmac_of}
-use Rattle.handshake.specs.declared.handshake_keys.LinkKeys.{LinkKeys}
+use Rattle.handshake.specs.declared.keys.LinkKeys.{LinkKeys}
 
 -- the key that is made of a text under another key
 abbrev pub key_of_text : List ℕ → List ℕ → List ℕ

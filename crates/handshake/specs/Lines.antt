@@ -3,13 +3,13 @@
 use Rattle.std.specs.Prelude.{ℕ, List, [], ◌∷◌, ◌++◌, codes, decimal, Option, Some, None}
 use Rattle.hex.specs.Hex.{encode_lower}
 use Rattle.sealing.specs.Hmac.{hmac_of}
-use Rattle.handshake.specs.declared.handshake_progress.Progress.{Progress}
-use Rattle.handshake.specs.declared.handshake_progress.LeafRights.{LeafRights}
-use Rattle.handshake.specs.declared.handshake_progress.LeafRights.TheVariants.{Asks, Reads, Persons}
-use Rattle.handshake.specs.declared.handshake_refusal.HandshakeRefusal.{HandshakeRefusal}
-use Rattle.handshake.specs.declared.handshake_refusal.HandshakeRefusal.TheVariants.{Heir, Net, Count, Other, Ahead, Records, Older}
-use Rattle.handshake.specs.declared.handshake_sides.LeafWords.{LeafWords}
-use Rattle.handshake.specs.declared.handshake_sides.HubAnswer.{HubAnswer}
+use Rattle.handshake.specs.declared.progress.Progress.{Progress}
+use Rattle.handshake.specs.declared.progress.LeafRights.{LeafRights}
+use Rattle.handshake.specs.declared.progress.LeafRights.TheVariants.{Asks, Reads, Persons}
+use Rattle.handshake.specs.declared.refusal.HandshakeRefusal.{HandshakeRefusal}
+use Rattle.handshake.specs.declared.refusal.HandshakeRefusal.TheVariants.{Heir, Net, Count, Other, Ahead, Records, Older}
+use Rattle.handshake.specs.declared.sides.LeafWords.{LeafWords}
+use Rattle.handshake.specs.declared.sides.HubAnswer.{HubAnswer}
 
 abbrev pub line_feed : List ℕ
 line_feed = 10 ∷ []

@@ -1,10 +1,10 @@
 -- A hub and a leaf that meet, and what each says of itself.
 use Rattle.std.specs.Prelude.{◌≡◌, ◌<◌, ◌^◌, ℕ, true, List, take, codes, Option, None, Some, if◌then◌else◌}
 use Rattle.std.specs.Str.{bytes_eq}
-use Rattle.handshake.specs.declared.handshake_progress.Progress.{Progress}
-use Rattle.handshake.specs.declared.handshake_reading.Ask.{Ask}
-use Rattle.handshake.specs.declared.handshake_sides.LeafWords.{LeafWords}
-use Rattle.handshake.specs.declared.handshake_sides.HubAnswer.{HubAnswer}
+use Rattle.handshake.specs.declared.progress.Progress.{Progress}
+use Rattle.handshake.specs.declared.reading.Ask.{Ask}
+use Rattle.handshake.specs.declared.sides.LeafWords.{LeafWords}
+use Rattle.handshake.specs.declared.sides.HubAnswer.{HubAnswer}
 use Rattle.handshake.specs.declared.hub_side.HubSide.{HubSide}
 use Rattle.handshake.specs.declared.leaf_side.LeafSide.{LeafSide}
 use Rattle.handshake.specs.Digits.{are_digits}

@@ -1,6 +1,6 @@
 -- What a process knows of its own bot.
 use Rattle.std.specs.Prelude.{ℕ, ◌-◌, ◌/◌, ◌%◌, ◌^◌, ◌==◌, ◌&&◌, nat_le, Bool, List, get_or}
-use Rattle.handshake.specs.declared.handshake_progress.Progress.{Progress}
+use Rattle.handshake.specs.declared.progress.Progress.{Progress}
 use Rattle.handshake.specs.declared.own.Own.{Own}
 use Rattle.handshake.specs.declared.own.HeldParts.{HeldParts}
 

@@ -4,14 +4,14 @@ use Rattle.std.specs.Prelude.{Option, Some, None, is_some, option_and_then, ifâ—
 use Rattle.std.specs.List.{prefix_len, take_while}
 use Rattle.std.specs.Str.{bytes_eq}
 use Rattle.handshake.specs.declared.TheConstants.{MAX_LINE}
-use Rattle.handshake.specs.declared.handshake_progress.Progress.{Progress}
-use Rattle.handshake.specs.declared.handshake_progress.LeafRights.{LeafRights}
-use Rattle.handshake.specs.declared.handshake_progress.LeafRights.TheVariants.{Asks, Reads, Persons}
-use Rattle.handshake.specs.declared.handshake_reading.Ask.{Ask}
-use Rattle.handshake.specs.declared.handshake_reading.HubSaid.{HubSaid}
-use Rattle.handshake.specs.declared.handshake_reading.HubSaid.TheVariants.{Welcome, No}
-use Rattle.handshake.specs.declared.handshake_refusal.HandshakeRefusal.{HandshakeRefusal}
-use Rattle.handshake.specs.declared.handshake_refusal.HandshakeRefusal.TheVariants.{Heir, Net, Count, Other, Ahead, Records, Older}
+use Rattle.handshake.specs.declared.progress.Progress.{Progress}
+use Rattle.handshake.specs.declared.progress.LeafRights.{LeafRights}
+use Rattle.handshake.specs.declared.progress.LeafRights.TheVariants.{Asks, Reads, Persons}
+use Rattle.handshake.specs.declared.reading.Ask.{Ask}
+use Rattle.handshake.specs.declared.reading.HubSaid.{HubSaid}
+use Rattle.handshake.specs.declared.reading.HubSaid.TheVariants.{Welcome, No}
+use Rattle.handshake.specs.declared.refusal.HandshakeRefusal.{HandshakeRefusal}
+use Rattle.handshake.specs.declared.refusal.HandshakeRefusal.TheVariants.{Heir, Net, Count, Other, Ahead, Records, Older}
 use Rattle.handshake.specs.Digits.{are_digits, digits_in}
 use Rattle.handshake.specs.Numbers.{number_in, wide_in}
 

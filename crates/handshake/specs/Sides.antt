@@ -2,18 +2,18 @@
 use Rattle.std.specs.Prelude.{◌≡◌, ℕ, ◌+◌, ◌&&◌, not, nat_le, Bool, true, List, length, take, codes, Option, Some, None, if◌then◌else◌}
 use Rattle.std.specs.Str.{bytes_eq}
 use Rattle.handshake.specs.declared.TheConstants.{MAX_LINE}
-use Rattle.handshake.specs.declared.handshake_fault.HandshakeFault.{HandshakeFault}
-use Rattle.handshake.specs.declared.handshake_fault.HandshakeFault.TheVariants.{TooLong, NoGreeting, OtherVersion, NoLeafLine, OldLeaf}
-use Rattle.handshake.specs.declared.handshake_fault.HandshakeFault.TheVariants.{NoSuchLeaf, NoHubLine, WrongCode, OtherNet, Told}
-use Rattle.handshake.specs.declared.handshake_keys.LinkKeys.{LinkKeys}
-use Rattle.handshake.specs.declared.handshake_progress.Progress.{Progress}
-use Rattle.handshake.specs.declared.handshake_progress.LeafRights.{LeafRights}
-use Rattle.handshake.specs.declared.handshake_reading.Ask.{Ask}
-use Rattle.handshake.specs.declared.handshake_reading.HubSaid.{HubSaid}
-use Rattle.handshake.specs.declared.handshake_reading.HubSaid.TheVariants.{Welcome, No}
-use Rattle.handshake.specs.declared.handshake_refusal.HandshakeRefusal.{HandshakeRefusal}
-use Rattle.handshake.specs.declared.handshake_sides.LeafWords.{LeafWords}
-use Rattle.handshake.specs.declared.handshake_sides.HubAnswer.{HubAnswer}
+use Rattle.handshake.specs.declared.fault.HandshakeFault.{HandshakeFault}
+use Rattle.handshake.specs.declared.fault.HandshakeFault.TheVariants.{TooLong, NoGreeting, OtherVersion, NoLeafLine, OldLeaf}
+use Rattle.handshake.specs.declared.fault.HandshakeFault.TheVariants.{NoSuchLeaf, NoHubLine, WrongCode, OtherNet, Told}
+use Rattle.handshake.specs.declared.keys.LinkKeys.{LinkKeys}
+use Rattle.handshake.specs.declared.progress.Progress.{Progress}
+use Rattle.handshake.specs.declared.progress.LeafRights.{LeafRights}
+use Rattle.handshake.specs.declared.reading.Ask.{Ask}
+use Rattle.handshake.specs.declared.reading.HubSaid.{HubSaid}
+use Rattle.handshake.specs.declared.reading.HubSaid.TheVariants.{Welcome, No}
+use Rattle.handshake.specs.declared.refusal.HandshakeRefusal.{HandshakeRefusal}
+use Rattle.handshake.specs.declared.sides.LeafWords.{LeafWords}
+use Rattle.handshake.specs.declared.sides.HubAnswer.{HubAnswer}
 use Rattle.handshake.specs.declared.hub_side.HubSide.{HubSide}
 use Rattle.handshake.specs.declared.hub_side.HubHears.{HubHears}
 use Rattle.handshake.specs.declared.hub_side.HubHears.TheVariants.{More, Asks, Refused}

@@ -3,8 +3,8 @@ ghost use Rattle.std.specs.Prelude.{◌≡◌, ◌<◌, ◌==◌, IfSome, length
 ghost use Rattle.handshake.specs.Books.{IsFirst, bar_line, entry_after, entry_line, free_line, line_in, other_in};
 
 use crate::drawn_number::DrawnNumber;
-use crate::handshake_line::HandshakeLine;
-use crate::handshake_words::{after_one, cut_word, leaf_in};
+use crate::line::HandshakeLine;
+use crate::words::{after_one, cut_word, leaf_in};
 use itoa::Buffer;
 
 /// A line of a hub's book.

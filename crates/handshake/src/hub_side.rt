@@ -5,17 +5,17 @@ ghost use Rattle.handshake.specs.Sides.{leaf_line_fault};
 
 use crate::MAX_LINE;
 use crate::book::Place;
+use crate::codes::is_same_code;
 use crate::drawn_number::{DrawnNumber, may_be_of};
-use crate::handshake_codes::is_same_code;
-use crate::handshake_fault::HandshakeFault;
-use crate::handshake_keys::{LinkKeys, leaf_key, link_keys};
-use crate::handshake_line::HandshakeLine;
-use crate::handshake_progress::{LeafRights, Progress};
-use crate::handshake_reading::{Ask, ask_in, is_old_leaf};
-use crate::handshake_refusal::HandshakeRefusal;
-use crate::handshake_sides::{HubAnswer, no_line};
-use crate::handshake_words::line_len;
+use crate::fault::HandshakeFault;
+use crate::keys::{LinkKeys, leaf_key, link_keys};
+use crate::line::HandshakeLine;
 use crate::nonce::Nonce;
+use crate::progress::{LeafRights, Progress};
+use crate::reading::{Ask, ask_in, is_old_leaf};
+use crate::refusal::HandshakeRefusal;
+use crate::sides::{HubAnswer, no_line};
+use crate::words::line_len;
 use sealing::Key;
 
 /// The hub's side of one connection, before the first record.

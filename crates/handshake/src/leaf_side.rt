@@ -3,17 +3,17 @@ ghost use Rattle.std.specs.Prelude.{◌≡◌};
 ghost use Rattle.handshake.specs.Sides.{greeting_fault};
 
 use crate::MAX_LINE;
+use crate::codes::is_same_code;
 use crate::drawn_number::{DrawnNumber, may_be_of};
-use crate::handshake_codes::is_same_code;
-use crate::handshake_fault::HandshakeFault;
-use crate::handshake_keys::{LinkKeys, link_keys};
-use crate::handshake_line::HandshakeLine;
-use crate::handshake_progress::Progress;
-use crate::handshake_reading::{HubSaid, greeting_in, hub_said_in};
-use crate::handshake_refusal::HandshakeRefusal;
-use crate::handshake_sides::{HubAnswer, LeafWords, no_code};
-use crate::handshake_words::line_len;
+use crate::fault::HandshakeFault;
+use crate::keys::{LinkKeys, link_keys};
+use crate::line::HandshakeLine;
 use crate::nonce::Nonce;
+use crate::progress::Progress;
+use crate::reading::{HubSaid, greeting_in, hub_said_in};
+use crate::refusal::HandshakeRefusal;
+use crate::sides::{HubAnswer, LeafWords, no_code};
+use crate::words::line_len;
 use sealing::Key;
 
 /// A leaf's side of one connection, before the first record.

@@ -2,7 +2,7 @@
 ghost use Rattle.std.specs.Prelude.{◌≡◌};
 ghost use Rattle.handshake.specs.Owns.{holds, last_of, progress_for};
 
-use crate::handshake_progress::Progress;
+use crate::progress::Progress;
 
 /// What a process knows of its own bot, for one turn.
 #[derive(Drop)]

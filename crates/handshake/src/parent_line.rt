@@ -4,7 +4,7 @@ ghost use Rattle.handshake.specs.Digits.{digits_in};
 ghost use Rattle.handshake.specs.Parents.{IsParentLine, ends_line, parent_in, parent_line, parent_named};
 
 use crate::drawn_number::DrawnNumber;
-use crate::handshake_words::{FirstWord, cut_word, wide_in};
+use crate::words::{FirstWord, cut_word, wide_in};
 
 /// Parses the content of the file `parent`: the number of the net that an heir goes on from, a space, the version of the
 /// leaf that was promoted, and a line feed. Returns that number, or `None` if a promotion writes no such line.

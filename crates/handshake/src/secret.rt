@@ -7,9 +7,9 @@ ghost use Rattle.handshake.specs.Secrets.{secret_cause, secret_in, secret_in_lin
 ghost use Rattle.handshake.specs.declared.secret.SecretFault.TheVariants.{Length as too_short};
 
 use crate::digits::are_digits;
-use crate::handshake_keys::leaf_key_text;
-use crate::handshake_line::HandshakeLine;
-use crate::handshake_words::{cut_word, leaf_in};
+use crate::keys::leaf_key_text;
+use crate::line::HandshakeLine;
+use crate::words::{cut_word, leaf_in};
 use hex::{decode_to_slice, encode_to_slice};
 use itoa::Buffer;
 use sealing::Key;

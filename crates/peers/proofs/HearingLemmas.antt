@@ -8,8 +8,8 @@ use Rattle.sealing.specs.Streams.{Opening, Opens}
 use Rattle.sharelink.specs.Shapes.{HasGoodRecords}
 use Rattle.sharewire.specs.declared.packet.Packet.{Packet}
 use Rattle.sharewire.specs.Streams.{Ending, Tells}
-use Rattle.handshake.specs.declared.handshake_progress.LeafRights.{LeafRights}
-use Rattle.handshake.specs.declared.handshake_progress.LeafRights.TheVariants.{Persons, Reads}
+use Rattle.handshake.specs.declared.progress.LeafRights.{LeafRights}
+use Rattle.handshake.specs.declared.progress.LeafRights.TheVariants.{Persons, Reads}
 use Rattle.peers.specs.declared.hub_link.HubLink.{HubLink}
 use Rattle.peers.specs.declared.link_wire.LinkWire.{LinkWire}
 use Rattle.peers.specs.declared.seat.Seat.{Seat}

@@ -1,12 +1,12 @@
 -- A leaf that was told that the hub is the heir of its net, by the bytes that it read last.
 use Rattle.std.proofs.Common.{◌≡◌, ◌↔◌, ◌∙◌, IsTrue, ℕ, ◌+◌, Bool, true, false, List, take, codes, Option, None, Some, if◌then◌else◌, refl, sym, ap, subst}
 use Rattle.std.specs.Str.{bytes_eq}
-use Rattle.handshake.specs.declared.handshake_fault.HandshakeFault.{HandshakeFault}
-use Rattle.handshake.specs.declared.handshake_fault.HandshakeFault.TheVariants.{NoGreeting, OtherVersion, Told}
-use Rattle.handshake.specs.declared.handshake_reading.HubSaid.{HubSaid}
-use Rattle.handshake.specs.declared.handshake_reading.HubSaid.TheVariants.{Welcome, No}
-use Rattle.handshake.specs.declared.handshake_refusal.HandshakeRefusal.{HandshakeRefusal}
-use Rattle.handshake.specs.declared.handshake_refusal.HandshakeRefusal.TheVariants.{Heir}
+use Rattle.handshake.specs.declared.fault.HandshakeFault.{HandshakeFault}
+use Rattle.handshake.specs.declared.fault.HandshakeFault.TheVariants.{NoGreeting, OtherVersion, Told}
+use Rattle.handshake.specs.declared.reading.HubSaid.{HubSaid}
+use Rattle.handshake.specs.declared.reading.HubSaid.TheVariants.{Welcome, No}
+use Rattle.handshake.specs.declared.refusal.HandshakeRefusal.{HandshakeRefusal}
+use Rattle.handshake.specs.declared.refusal.HandshakeRefusal.TheVariants.{Heir}
 use Rattle.handshake.specs.declared.leaf_side.LeafSide.{LeafSide}
 use Rattle.handshake.specs.declared.leaf_side.LeafHears.{LeafHears}
 use Rattle.handshake.specs.declared.leaf_side.LeafHears.TheVariants.{Refused}

@@ -9,7 +9,7 @@ use Rattle.handshake.specs.declared.book.Place.TheVariants.{Free, Same, Taken, B
 use Rattle.peers.specs.declared.guest.Guest.{Guest}
 use Rattle.peers.specs.declared.guest_stage.GuestStage.{GuestStage}
 use Rattle.peers.specs.declared.guest_stage.GuestStage.TheVariants.{Meets, Asks, Enters}
-use Rattle.handshake.specs.declared.handshake_refusal.HandshakeRefusal.{HandshakeRefusal}
+use Rattle.handshake.specs.declared.refusal.HandshakeRefusal.{HandshakeRefusal}
 use Rattle.handshake.specs.declared.hub_side.HubSide.{HubSide}
 use Rattle.handshake.specs.declared.own.Own.{Own}
 use Rattle.peers.specs.declared.verdict.Verdict.TheVariants.{Joins}

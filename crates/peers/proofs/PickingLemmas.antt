@@ -8,8 +8,8 @@ use Rattle.std.specs.List.{AllByRecursion, filter, list_all}
 use Rattle.sharewire.specs.declared.packet.Packet.{Packet}
 use Rattle.sharewire.specs.declared.packet.Packet.TheVariants.{Hello, Change, Part, Request, Accepted, Refused, BotText}
 use Rattle.sharelink.specs.Shapes.{HasGoodRecords}
-use Rattle.handshake.specs.declared.handshake_progress.LeafRights.{LeafRights}
-use Rattle.handshake.specs.declared.handshake_progress.LeafRights.TheVariants.{Asks, Reads, Persons}
+use Rattle.handshake.specs.declared.progress.LeafRights.{LeafRights}
+use Rattle.handshake.specs.declared.progress.LeafRights.TheVariants.{Asks, Reads, Persons}
 use Rattle.peers.specs.Hearing.{handed, handed_if}
 use Rattle.peers.specs.Picking.{grants, is_barred, is_hello, is_lost, is_nameless, is_ours, is_request, picked, said_after, said_by}
 use Rattle.peers.specs.Speakers.{is_own}

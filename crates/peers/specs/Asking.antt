@@ -1,7 +1,7 @@
 -- Which bot may ask for changes, and which of them in nobody's name.
 use Rattle.std.specs.Prelude.{◌&&◌, not, Bool, true, false, is_some}
-use Rattle.handshake.specs.declared.handshake_progress.LeafRights.{LeafRights}
-use Rattle.handshake.specs.declared.handshake_progress.LeafRights.TheVariants.{Asks, Reads, Persons}
+use Rattle.handshake.specs.declared.progress.LeafRights.{LeafRights}
+use Rattle.handshake.specs.declared.progress.LeafRights.TheVariants.{Asks, Reads, Persons}
 use Rattle.peers.specs.declared.hub_connection.HubConnection.{HubConnection}
 use Rattle.peers.specs.declared.links.Links.{Links}
 use Rattle.peers.specs.declared.links.Links.TheVariants.{Alone, Hub, Leaf}

@@ -5,8 +5,8 @@ use Rattle.peers.specs.declared.beat.Beat.{Beat}
 use Rattle.handshake.specs.declared.book_line.BookLine.{BookLine}
 use Rattle.handshake.specs.declared.book_line.BookLine.TheVariants.{Enters, Frees, Bars}
 use Rattle.peers.specs.declared.doubt.Doubted.{Doubted}
-use Rattle.handshake.specs.declared.handshake_refusal.HandshakeRefusal.{HandshakeRefusal}
-use Rattle.handshake.specs.declared.handshake_refusal.HandshakeRefusal.TheVariants.{Heir, Net, Count, Other, Ahead, Records, Older}
+use Rattle.handshake.specs.declared.refusal.HandshakeRefusal.{HandshakeRefusal}
+use Rattle.handshake.specs.declared.refusal.HandshakeRefusal.TheVariants.{Heir, Net, Count, Other, Ahead, Records, Older}
 use Rattle.peers.specs.declared.links.Links.{Links}
 use Rattle.peers.specs.declared.links.Links.TheVariants.{Alone, Hub, Leaf}
 use Rattle.peers.specs.declared.seat.Seat.{Seat}

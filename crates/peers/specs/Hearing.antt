@@ -7,9 +7,9 @@ use Rattle.sharewire.specs.Streams.{Ending, Tells}
 use Rattle.peers.specs.declared.beat.Beat.{Beat}
 use Rattle.peers.specs.declared.beat.Beats.{Beats}
 use Rattle.peers.specs.declared.beat.Beats.TheVariants.{Nothing, Last, Bad}
-use Rattle.handshake.specs.declared.handshake_progress.LeafRights.{LeafRights}
-use Rattle.handshake.specs.declared.handshake_refusal.HandshakeRefusal.{HandshakeRefusal}
-use Rattle.handshake.specs.declared.handshake_refusal.HandshakeRefusal.TheVariants.{Ahead, Records}
+use Rattle.handshake.specs.declared.progress.LeafRights.{LeafRights}
+use Rattle.handshake.specs.declared.refusal.HandshakeRefusal.{HandshakeRefusal}
+use Rattle.handshake.specs.declared.refusal.HandshakeRefusal.TheVariants.{Ahead, Records}
 use Rattle.peers.specs.declared.seating.TheConstants.{MAX_WAITING}
 use Rattle.peers.specs.declared.seat.Seat.{Seat}
 use Rattle.peers.specs.Beats.{IsLast}

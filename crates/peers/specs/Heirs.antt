@@ -1,7 +1,7 @@
 -- A hub tells a leaf that it is the heir of the leaf's net.
 use Rattle.std.specs.Prelude.{◌≡◌, ℕ, Bool, true, false, List}
-use Rattle.handshake.specs.declared.handshake_fault.HandshakeFault.TheVariants.{Told}
-use Rattle.handshake.specs.declared.handshake_refusal.HandshakeRefusal.TheVariants.{Heir}
+use Rattle.handshake.specs.declared.fault.HandshakeFault.TheVariants.{Told}
+use Rattle.handshake.specs.declared.refusal.HandshakeRefusal.TheVariants.{Heir}
 use Rattle.handshake.specs.declared.leaf_side.LeafSide.{LeafSide}
 use Rattle.handshake.specs.declared.leaf_side.LeafHears.TheVariants.{Refused}
 use Rattle.handshake.specs.Sides.{leaf_hears}

@@ -11,8 +11,8 @@ use Rattle.peers.specs.declared.verdict.Verdict.TheVariants.{Waits as not_yet, R
 use Rattle.peers.specs.declared.guest_stage.Asked.{Asked}
 use Rattle.peers.specs.declared.guest_stage.GuestStage.{GuestStage}
 use Rattle.peers.specs.declared.guest_stage.GuestStage.TheVariants.{Meets, Asks, Enters}
-use Rattle.handshake.specs.declared.handshake_refusal.HandshakeRefusal.{HandshakeRefusal}
-use Rattle.handshake.specs.declared.handshake_refusal.HandshakeRefusal.TheVariants.{Other}
+use Rattle.handshake.specs.declared.refusal.HandshakeRefusal.{HandshakeRefusal}
+use Rattle.handshake.specs.declared.refusal.HandshakeRefusal.TheVariants.{Other}
 use Rattle.handshake.specs.declared.hub_side.HubSide.{HubSide}
 use Rattle.handshake.specs.declared.late.TheConstants.{TIME_LIMIT}
 use Rattle.handshake.specs.declared.own.Own.{Own}

@@ -5,8 +5,8 @@ use Rattle.userfile.specs.declared.change.Change.{Change as UserChange}
 use Rattle.sharewire.specs.declared.packet.Packet.{Packet}
 use Rattle.sharewire.specs.declared.packet.Packet.TheVariants.{Hello, Change, Part, Request, Accepted, Refused, BotText}
 use Rattle.botjournal.specs.declared.TheConstants.{LAYOUT}
-use Rattle.handshake.specs.declared.handshake_progress.LeafRights.{LeafRights}
-use Rattle.handshake.specs.declared.handshake_progress.LeafRights.TheVariants.{Asks, Reads, Persons}
+use Rattle.handshake.specs.declared.progress.LeafRights.{LeafRights}
+use Rattle.handshake.specs.declared.progress.LeafRights.TheVariants.{Asks, Reads, Persons}
 
 abbrev pub is_hello : Packet → Bool
 is_hello (Hello layout leaf version) = true

@@ -1,7 +1,7 @@
 -- What each leaf of a hub may do, by its number.
 use Rattle.std.specs.Prelude.{ℕ, List, [], ◌∷◌, set, slice_get, unwrap_or}
-use Rattle.handshake.specs.declared.handshake_progress.LeafRights.{LeafRights}
-use Rattle.handshake.specs.declared.handshake_progress.LeafRights.TheVariants.{Reads}
+use Rattle.handshake.specs.declared.progress.LeafRights.{LeafRights}
+use Rattle.handshake.specs.declared.progress.LeafRights.TheVariants.{Reads}
 use Rattle.peers.specs.declared.stations.LeafLimit.{LeafLimit}
 
 -- A line limits its leaf, and no other; of several lines of one leaf the last counts. A line of no leaf does nothing.

@@ -3,7 +3,7 @@ ghost use Rattle.std.specs.Prelude.{◌≡◌, ◌≢◌, ℕ, None, Some, not, 
 ghost use Rattle.std.specs.List.{AllByRecursion, filter};
 ghost use Rattle.sharewire.specs.Frames.{CanBeWritten};
 ghost use Rattle.sharelink.specs.Shapes.{HasGoodRecords};
-ghost use Rattle.handshake.specs.declared.handshake_progress.LeafRights.TheVariants.{Asks};
+ghost use Rattle.handshake.specs.declared.progress.LeafRights.TheVariants.{Asks};
 ghost use Rattle.peers.specs.Linked.{IsTaken};
 ghost use Rattle.peers.specs.Rights.{limited};
 ghost use Rattle.peers.specs.Picking.{is_request};

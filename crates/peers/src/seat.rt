@@ -3,7 +3,7 @@ ghost use Rattle.std.specs.Prelude.{◌≡◌, ◌≤◌, true, false, [], IfOk,
 ghost use Rattle.std.specs.List.{AllByRecursion, count_by, list_all};
 ghost use Rattle.sharelink.specs.Shapes.{HasGoodRecords};
 ghost use Rattle.sharewire.specs.Frames.{CanBeWritten};
-ghost use Rattle.handshake.specs.declared.handshake_progress.LeafRights.TheVariants.{Persons, Reads};
+ghost use Rattle.handshake.specs.declared.progress.LeafRights.TheVariants.{Persons, Reads};
 ghost use Rattle.peers.specs.Hearing.{HandsOn, HeedsBeats, ReadsFrames};
 ghost use Rattle.peers.specs.Picking.{is_hello, is_nameless, is_ours, is_request, picked, said_by};
 ghost use Rattle.peers.specs.Speakers.{is_own};

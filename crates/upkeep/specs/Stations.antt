@@ -7,8 +7,8 @@ use Rattle.settings.specs.declared.settings.Station.{Station}
 use Rattle.handshake.specs.Keys.{leaf_key}
 use Rattle.handshake.specs.declared.secret.Secret.{Secret}
 use Rattle.handshake.specs.declared.secret.Secret.TheVariants.{Net as NetSecret, Leaf as LeafKey}
-use Rattle.handshake.specs.declared.handshake_progress.LeafRights.{LeafRights}
-use Rattle.handshake.specs.declared.handshake_progress.LeafRights.TheVariants.{Reads, Persons}
+use Rattle.handshake.specs.declared.progress.LeafRights.{LeafRights}
+use Rattle.handshake.specs.declared.progress.LeafRights.TheVariants.{Reads, Persons}
 use Rattle.peers.specs.declared.stations.LeafLimit.{LeafLimit}
 use Rattle.peers.specs.declared.links.Links.{Links}
 use Rattle.peers.specs.declared.links.Links.TheVariants.{Alone, Hub, Leaf}

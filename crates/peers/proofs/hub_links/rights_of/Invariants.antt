@@ -1,5 +1,5 @@
 use Rattle.std.proofs.Common.{◌≡◌, drop, replicate}
-use Rattle.handshake.specs.declared.handshake_progress.LeafRights.TheVariants.{Asks}
+use Rattle.handshake.specs.declared.progress.LeafRights.TheVariants.{Asks}
 use Rattle.peers.specs.Rights.{limited}
 use Rattle.peers.proofs.hub_links.rights_of.Given as goal
 

@@ -1,5 +1,5 @@
 use Rattle.handshake.proofs.TextLemmas.{directions, hub_one_reading, leaf_one_reading, use_of-hub, use_of-keys, use_of-leaf, use_of-refusal}
-use Rattle.handshake.proofs.handshake_laws.laws_of_texts.Goals as goal
+use Rattle.handshake.proofs.laws.laws_of_texts.Goals as goal
 
 pub returns-clause-leaf : goal.returns-clause-leaf
 returns-clause-leaf c = use_of-leaf

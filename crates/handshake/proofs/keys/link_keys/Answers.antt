@@ -1,6 +1,6 @@
 use Rattle.std.proofs.Common.{ap, ◌∙◌}
 use Rattle.handshake.specs.Keys.{key_of_text}
-use Rattle.handshake.proofs.handshake_keys.link_keys.Goals as goal
+use Rattle.handshake.proofs.keys.link_keys.Goals as goal
 
 pub returns : goal.returns
 returns c =

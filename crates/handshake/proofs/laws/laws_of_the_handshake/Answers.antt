@@ -1,5 +1,5 @@
 use Rattle.handshake.proofs.MeetingLemmas.{asks, greets, joins, learns}
-use Rattle.handshake.proofs.handshake_laws.laws_of_the_handshake.Goals as goal
+use Rattle.handshake.proofs.laws.laws_of_the_handshake.Goals as goal
 
 pub returns-clause-greets : goal.returns-clause-greets
 returns-clause-greets c = greets

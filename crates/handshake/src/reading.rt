@@ -6,11 +6,11 @@ ghost use Rattle.handshake.specs.Reading.{net_in, progress_in, refusal_after, re
 
 use crate::digits::are_digits;
 use crate::drawn_number::DrawnNumber;
-use crate::handshake_progress::{LeafRights, Progress};
-use crate::handshake_refusal::HandshakeRefusal;
-use crate::handshake_sides::{HubAnswer, LeafWords};
-use crate::handshake_words::{cut_word, number_in, wide_in};
 use crate::nonce::Nonce;
+use crate::progress::{LeafRights, Progress};
+use crate::refusal::HandshakeRefusal;
+use crate::sides::{HubAnswer, LeafWords};
+use crate::words::{cut_word, number_in, wide_in};
 
 /// What a leaf's line says.
 #[derive(Clone, Copy)]

@@ -4,10 +4,10 @@ ghost use Rattle.handshake.specs.Lines.{front_code, hub_code, hub_front, hub_lin
 ghost use Rattle.handshake.specs.Lines.{no_code, no_front, no_line, progress_words, refusal_word, rights_word, with_code};
 
 use crate::drawn_number::DrawnNumber;
-use crate::handshake_line::HandshakeLine;
-use crate::handshake_progress::{LeafRights, Progress};
-use crate::handshake_refusal::HandshakeRefusal;
+use crate::line::HandshakeLine;
 use crate::nonce::Nonce;
+use crate::progress::{LeafRights, Progress};
+use crate::refusal::HandshakeRefusal;
 use itoa::Buffer;
 use sealing::Key;
 

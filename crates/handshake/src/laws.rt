@@ -1,11 +1,11 @@
 // What the definitions of the handshake mean.
 ghost use Rattle.std.specs.Prelude.{◌≡◌, ◌++◌, ℕ, true, List, length, None};
-ghost use Rattle.handshake.specs.declared.handshake_fault.HandshakeFault.TheVariants.{Told};
-ghost use Rattle.handshake.specs.declared.handshake_progress.Progress.{Progress};
-ghost use Rattle.handshake.specs.declared.handshake_progress.LeafRights.{LeafRights};
-ghost use Rattle.handshake.specs.declared.handshake_refusal.HandshakeRefusal.{HandshakeRefusal};
-ghost use Rattle.handshake.specs.declared.handshake_sides.LeafWords.{LeafWords};
-ghost use Rattle.handshake.specs.declared.handshake_sides.HubAnswer.{HubAnswer};
+ghost use Rattle.handshake.specs.declared.fault.HandshakeFault.TheVariants.{Told};
+ghost use Rattle.handshake.specs.declared.progress.Progress.{Progress};
+ghost use Rattle.handshake.specs.declared.progress.LeafRights.{LeafRights};
+ghost use Rattle.handshake.specs.declared.refusal.HandshakeRefusal.{HandshakeRefusal};
+ghost use Rattle.handshake.specs.declared.sides.LeafWords.{LeafWords};
+ghost use Rattle.handshake.specs.declared.sides.HubAnswer.{HubAnswer};
 ghost use Rattle.handshake.specs.declared.hub_side.HubHears.TheVariants.{Asks};
 ghost use Rattle.handshake.specs.declared.hub_side.HubSide.{HubSide};
 ghost use Rattle.handshake.specs.declared.leaf_side.LeafHears.TheVariants.{Answers, Joined, Refused};

@@ -1,5 +1,5 @@
 // Why a connection is closed before its first record.
-use crate::handshake_refusal::HandshakeRefusal;
+use crate::refusal::HandshakeRefusal;
 use thiserror::Error;
 
 /// Why a side disconnects the other before its first record. The text is for a log, beside the address.
@@ -45,8 +45,8 @@ pub enum HandshakeFault {
 
 impl HandshakeFault {
     ghost use Rattle.std.specs.Prelude.{◌≡◌, ◌↔◌, IsTrue};
-    ghost use Rattle.handshake.specs.declared.handshake_fault.HandshakeFault.TheVariants.{Told};
-    ghost use Rattle.handshake.specs.declared.handshake_refusal.HandshakeRefusal.TheVariants.{Heir};
+    ghost use Rattle.handshake.specs.declared.fault.HandshakeFault.TheVariants.{Told};
+    ghost use Rattle.handshake.specs.declared.refusal.HandshakeRefusal.TheVariants.{Heir};
 
     /// Whether the hub told the leaf that it is the heir of the leaf's net.
     pub fn is_heir(self) -> bool

@@ -2,7 +2,7 @@
 ghost use Rattle.std.specs.Prelude.{◌≡◌, ◌≤◌, ◌++◌, length};
 ghost use Rattle.handshake.specs.Keys.{both_codes, key_of_text, leaf_key, leaf_key_text, link_keys};
 
-use crate::handshake_line::HandshakeLine;
+use crate::line::HandshakeLine;
 use itoa::Buffer;
 use sealing::Key;
 

@@ -1,5 +1,5 @@
 use Rattle.std.proofs.Common.{sym, arith, length-take-le, take_all}
-use Rattle.handshake.proofs.handshake_words.front_of.Goals as goal
+use Rattle.handshake.proofs.words.front_of.Goals as goal
 
 pub slice_bounds-result-end : goal.slice_bounds-result-end
 slice_bounds-result-end c = sym (length-take-le 200 c.args.heard.now (omega arith))
