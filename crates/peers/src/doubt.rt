@@ -23,7 +23,7 @@ pub struct Doubted {
     pub made: DrawnNumber,
 }
 
-/// Returns the line of the file `doubt` for this leaf: that of [`entry_line`].
+/// Returns the line of the file `doubt` for this leaf: that of [`entry_line`](handshake::entry_line).
 pub fn doubt_line(doubted: &Doubted) -> HandshakeLine
     ensures { result ≡ entry_line doubted.now.doubt.leaf doubted.now.made }
 {

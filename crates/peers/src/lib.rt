@@ -49,8 +49,9 @@
 //! Of the hellos that one piece brings, a hub hands on the last alone, since each is answered by all that the leaf
 //! lacks. It does not send a part of a snapshot that the leaf says it holds.
 //!
-//! A hub hands on no request that the leaf may not make ([`LeafRights`]). Nor does it hand on a request before the leaf
-//! has said a hello of the layout of the hub's journal on the same connection, or after one of another layout.
+//! A hub hands on no request that the leaf may not make ([`LeafRights`](handshake::LeafRights)). Nor does it hand on a
+//! request before the leaf has said a hello of the layout of the hub's journal on the same connection, or after one of
+//! another layout.
 //!
 //! A leaf that is ahead of the hub, or has other records at the same version, shows that the hub may be an older copy of
 //! itself. The hub is then in doubt ([`Links::doubt`]): until an operator decides, it takes no request.
