@@ -6,3 +6,4 @@ pub mod ShownLemmas
 pub mod SecretLemmas
 pub mod MeetingLemmas
 mod ParentLemmas
+pub mod HeirLemmas

@@ -11,3 +11,4 @@ pub mod Meetings
 pub mod Secrets
 pub mod Owns
 pub mod Parents
+pub mod Heirs

@@ -5,7 +5,6 @@ pub mod BeatLemmas
 pub mod SealLemmas
 pub mod PickingLemmas
 pub mod HearingLemmas
-pub mod HeirLemmas
 mod JoiningLemmas
 mod DoubtLemmas
 mod Walks

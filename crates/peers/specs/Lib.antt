@@ -1,6 +1,5 @@
 pub mod Given
 pub mod Streams
-pub mod Heirs
 pub mod PacketSpeakers
 pub mod Waiting
 pub mod Hellos

@@ -1,6 +1,6 @@
 // A leaf's connection to its hub before the first record.
 ghost use Rattle.std.specs.Prelude.{◌≡◌, ◌≤◌, None, OnErr};
-ghost use Rattle.peers.specs.Heirs.{IsToldBy};
+ghost use Rattle.handshake.specs.Heirs.{IsToldBy};
 ghost use Rattle.peers.specs.declared.link_wire.TheConstants.{MAX_SEALED};
 
 use crate::beat::Beat;

@@ -1,4 +1,4 @@
-use Rattle.peers.proofs.HeirLemmas.{told_after}
+use Rattle.handshake.proofs.HeirLemmas.{told_after}
 use Rattle.peers.proofs.meeting.Meeting.meet_line.Goals as goal
 
 -- the hub's line is still among the bytes that were heard

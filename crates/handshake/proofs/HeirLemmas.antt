@@ -11,7 +11,7 @@ use Rattle.handshake.specs.declared.leaf_side.LeafSide.{LeafSide}
 use Rattle.handshake.specs.declared.leaf_side.LeafHears.{LeafHears}
 use Rattle.handshake.specs.declared.leaf_side.LeafHears.TheVariants.{Refused}
 use Rattle.handshake.specs.Reading.{greeting_in, hub_said_in, line_len}
-use Rattle.peers.specs.Heirs.{IsToldBy}
+use Rattle.handshake.specs.Heirs.{IsToldBy}
 use Rattle.handshake.specs.Sides.{greeting_fault, hears_greeting, hears_hub, leaf_after, leaf_hears, leaf_hears_line, leaf_hears_next, nonce_after, greeted_by}
 
 -- which greeting was read does not change what the hub's second line means
