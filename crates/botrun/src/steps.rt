@@ -148,7 +148,8 @@ impl Process {
         )?;
         let more = is_settled(outcome_of(told.reports.as_slice())) || !pumped;
         self.pump(rt, log, store, settings, more, now, watcher)?;
-        self.compact_if_due(rt, log, store, settings, now, watcher)
+        self.compact_if_due(rt, log, store, settings, now, watcher)?;
+        Ok(())
     }
 
     // Whether what was told of a turn leaves nothing to do: no step says anything, no change waits, and the lines are what

@@ -11,6 +11,6 @@ pump-requires g c =
 
 pub returns : goal.returns
 returns g c = record {
-  goes_on = goes_further _ _ _ _ _ _ _ _ c.in_ok-pump.ensures.goes_on c.compact_if_due.ensures.goes_on;
-  up = c.compact_if_due.ensures.up;
+  goes_on = goes_further _ _ _ _ _ _ _ _ c.in_ok-pump.ensures.goes_on c.in_ok-compact_if_due.ensures.goes_on;
+  up = c.in_ok-compact_if_due.ensures.up;
 }
