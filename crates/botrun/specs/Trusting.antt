@@ -2,7 +2,6 @@
 use Rattle.std.specs.Prelude.{ℕ, Bool, List, [], ◌||◌}
 use Rattle.flagexpr.specs.Letters.{has_letter}
 use Rattle.userfile.specs.Persons.{flags_of}
-use Rattle.userfile.specs.declared.user.User.{User}
 use Rattle.ircline.specs.Sources.{Source, Nobody, Server, Person, source_of}
 use Rattle.chanstate.specs.Views.{account_in, mapping_of}
 use Rattle.procs.specs.Identity.{handle_by}

@@ -4,7 +4,6 @@ use Rattle.watching.proofs.SendingLemmas.{up_begun}
 use Rattle.watching.specs.Acts.{Station}
 use Rattle.watching.specs.Following.{Allows}
 use Rattle.upkeep.specs.Stations.{IsKnownWhereWanted}
-use Rattle.botrun.specs.Watched.{station_of}
 use Rattle.botrun.proofs.StationLemmas.{at_station}
 use Rattle.botrun.proofs.bot_process.run_logged.Goals as goal
 

@@ -1,5 +1,3 @@
-use Rattle.std.proofs.Common.{refl, subst}
-use Rattle.watching.specs.Acts.{Act}
 use Rattle.botrun.proofs.StationLemmas.{up_at}
 use Rattle.botrun.proofs.TakingLemmas.{goes_further}
 use Rattle.botrun.proofs.process.Process.follow.Goals as goal
